@@ -1,0 +1,32 @@
+-- Document 01, 'Sheet': what a sheet by value with its rules says, as the one record that search, certificate and checker go by.
+-- Assumes nothing.
+use mathlib.Core.List.{List}
+use Prim.Native.Nat.{ℕ, _<_, _^_}
+use Rattle.points.specs.Points.{Numbered, SatisfiesAll, numberedFrom, numbered}
+use Rattle.points.specs.Slices.{clausesOf}
+use Rattle.permutations.specs.Permutations.{Permutation, permutationsIn}
+use Rattle.formula.specs.declared.Formula.{Formula}
+
+-- n, m (the number of rules), the wish, the exchanges, and the rules with their numbers
+pub record Problem : Type 0 where
+  pub variables : ℕ
+  pub total : ℕ
+  pub target : ℕ
+  pub permutations : List Permutation
+  pub clauses : List Numbered
+
+-- "The sheet by value holds n, C, the wish, and the exchanges as 1,024 bytes beside their number", and two slices hold its rules
+unfoldable pub problemOf : Formula → List ℕ → List ℕ → Problem
+unfolding permutationsIn numberedFrom clausesOf
+problemOf f positive negative =
+    record {
+      variables = f .variables;
+      total = f .clauses;
+      target = f .target;
+      permutations = permutationsIn (f .variables) (f .permutations) (f .images);
+      clauses = numbered (clausesOf positive negative);
+    }
+
+-- "none of the 2^n choices meets the rules"
+abbrev pub Unsatisfiable : Problem → Type 0
+Unsatisfiable pb = (x : ℕ) → x < 2 ^ pb .variables → SatisfiesAll (pb .clauses) x → ⊥

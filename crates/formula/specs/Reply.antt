@@ -1,0 +1,42 @@
+-- Replies in document 01's terms: what an entry point answers, whatever enum of the code carries it. Assumes nothing.
+use mathlib.Core.List.{List, [], _∷_}
+use Prim.Native.Nat.{ℕ, zero, suc}
+
+pub data Reply : Type 0 where
+  -- a refusal: its number, and "'returned' is the place beside the number"
+  refused : ℕ → ℕ → Reply
+  -- "met", with the choice, its changes and the number of slots filled
+  satisfiable : ℕ → ℕ → ℕ → Reply
+  -- "cannot be met, with slots filled"
+  unsatisfiable : ℕ → Reply
+  -- "no room, with d the depth of the point being processed and slots filled"
+  unknown : ℕ → ℕ → Reply
+  -- the text is read
+  parsed : Reply
+  -- a certificate of that many bytes is written
+  written : ℕ → Reply
+  -- the file's contents are in order
+  opened : Reply
+  -- the certificate is accepted
+  accepted : Reply
+
+-- what one test finds: nothing, or a refusal's number and place
+pub data Fault : Type 0 where
+  sound : Fault
+  fault : ℕ → ℕ → Fault
+
+-- "Each is tested over everything before the next"
+unfoldable pub first : List Fault → Fault
+first [] = sound
+first (sound ∷ fs) = first fs
+first (fault code place ∷ fs) = fault code place
+
+-- the fault of a numbered thing, by its number; 0 for none
+unfoldable pub faultAt : ℕ → ℕ → Fault
+faultAt code zero = sound
+faultAt code (suc k) = fault code (suc k)
+
+-- the reply where the tests found nothing
+unfoldable pub unless : Fault → Reply → Reply
+unless sound r = r
+unless (fault code place) r = refused code place

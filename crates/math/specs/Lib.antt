@@ -1,0 +1,6 @@
+-- Lists, bits and counting: definitions first, the laws about each beside it.
+pub mod Lists
+pub mod ListLaws
+pub mod Bits
+pub mod BitLaws
+pub mod SetLaws

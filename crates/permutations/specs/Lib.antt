@@ -1,0 +1,2 @@
+-- Permutations of variables.
+pub mod Permutations

@@ -1,0 +1,1 @@
+// Permutations of variables (01: exchanges).

@@ -1,0 +1,4 @@
+-- Points and clauses.
+pub mod Points
+pub mod PointLaws
+pub mod Slices

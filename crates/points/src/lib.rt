@@ -1,0 +1,64 @@
+// Points and clauses, and how they lie in lent slices: the leaf functions. Outside this crate no operator touches a point.
+ghost use mathlib.Core.Path.{_≡_};
+ghost use Prim.Native.Nat.{_<_, _^_};
+ghost use lib.Dec.{eqb, ltb};
+ghost use lib.ListN.{length, getD, set};
+ghost use Rattle.points.specs.Points.{satisfies, distance, listed};
+ghost use Rattle.points.specs.Slices.{pointsOf, clausesOf, clauseOf};
+ghost use Rattle.math.specs.Bits.{flip};
+
+// A point (01: choice), or a set of variables: bit i - 1 for variable i.
+pub type Point = u64;
+
+// A clause (01: rule) by value.
+pub struct Clause {
+    pub positive: Point,
+    pub negative: Point,
+}
+
+// Whether two points are equal.
+pub fn same(x: Point, y: Point) -> bool
+    ensures { λ r. ⌜ r ≡ eqb x y ⌝ }
+{
+    x == y
+}
+
+// Whether x has no bit at n or above.
+pub fn below(x: Point, n: u32) -> bool
+    ensures { λ r. ⌜ r ≡ ltb x (2 ^ n) ⌝ }
+{
+    if 64 <= n {
+        return true;
+    }
+    x >> n == 0
+}
+
+// The point with the variable of bit v flipped.
+pub fn flip(x: Point, v: u32) -> Point
+    requires { ⌜ v < 64 ⌝ }
+    ensures { λ r. ⌜ r ≡ flip x v ⌝ }
+{
+    let mask: Point = 1 << v;
+    x ^ mask
+}
+
+// The number of variables in which two points differ.
+pub fn distance(x: Point, y: Point) -> u32
+    ensures { λ r. ⌜ r ≡ distance 64 x y ⌝ }
+{
+    u64::count_ones(x ^ y)
+}
+
+// Whether a point satisfies a clause.
+pub fn satisfies(c: Clause, x: Point) -> bool
+    ensures { λ r. ⌜ r ≡ satisfies (clauseOf c) x ⌝ }
+{
+    (x & c.positive != 0) | (x & c.negative != c.negative)
+}
+
+// The set of the variables that a clause lists.
+pub fn listed(c: Clause) -> Point
+    ensures { λ r. ⌜ r ≡ listed (clauseOf c) ⌝ }
+{
+    c.positive | c.negative
+}
