@@ -141,3 +141,30 @@ bit-flip x v i = bit-xor x (2 ^ v) i ∙ ap (xor (bit x i)) (bit-pow v i)
 pub flip-lt : (n x v : ℕ) → x < 2 ^ n → v < n → flip x v < 2 ^ n
 unfolding flip
 flip-lt n x v hx hv = xor-lt n x (2 ^ v) hx (pow-lt hv)
+
+-- ---- a digit that is there
+
+-- a number that is not 0 has a digit that is 1
+pub some-bit : (s : ℕ) → (s ≡ 0 → ⊥) → (i : ℕ) × (bit s i ≡ true)
+some-bit = bin-ind (λ s. (s ≡ 0 → ⊥) → (i : ℕ) × (bit s i ≡ true)) (λ ne. absurd (ne refl)) step
+  where
+    step : (s : ℕ) → ((s / 2 ≡ 0 → ⊥) → (i : ℕ) × (bit (s / 2) i ≡ true)) → (s ≡ 0 → ⊥) → (i : ℕ) × (bit s i ≡ true)
+    step s ih ne = by (s % 2) refl (digit-lt s)
+      where
+        by : (u : ℕ) → s % 2 ≡ u → u < 2 → (i : ℕ) × (bit s i ≡ true)
+        by zero e lt = let w = ih (λ z. ne (let q : s ≡ 0 = omega arith in q)) in (suc (w .0), bit-suc s (w .0) ∙ w .1)
+        by (suc zero) e lt = (0, bit-zero s ∙ ap (λ u. eqb u 1) e)
+        by (suc (suc u)) e lt = absurd (not-suc-le-zero (le-of-suc-le-suc (le-of-suc-le-suc lt)))
+
+-- numbers that differ, differ in a digit
+pub differing-bit : (a b : ℕ) → (a ≡ b → ⊥) → (i : ℕ) × (xor (bit a i) (bit b i) ≡ true)
+unfolding xor
+differing-bit a b ne =
+    let w = some-bit (bitXor a b) (λ z. ne (bits-ext a b (λ i. xor-none (bit a i) (bit b i) (sym (bit-xor a b i) ∙ ap (λ x. bit x i) z ∙ bit-of-zero i)))) in
+    (w .0, sym (bit-xor a b (w .0)) ∙ w .1)
+  where
+    xor-none : (p q : Bool) → xor p q ≡ false → p ≡ q
+    xor-none true true e = refl
+    xor-none true false e = absurd (true≢false e)
+    xor-none false true e = absurd (true≢false e)
+    xor-none false false e = refl

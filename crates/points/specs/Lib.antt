@@ -1,4 +1,6 @@
 -- Points and clauses.
 pub mod Points
-pub mod PointLaws
 pub mod Slices
+pub mod Contracts
+pub mod PointLaws
+pub mod SliceLaws

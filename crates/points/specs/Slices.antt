@@ -14,6 +14,10 @@ clausesOf [] ns = []
 clausesOf (p ∷ ps) [] = []
 clausesOf (p ∷ ps) (n ∷ ns) = record { positive = p; negative = n } ∷ clausesOf ps ns
 
+-- the clause that lists nothing: what stands past the end of the slices
+abbrev pub noLiterals : Clause
+noLiterals = record { positive = 0; negative = 0 }
+
 -- what a clause of the code means
 abbrev pub clauseOf : ClauseValue → Clause
 clauseOf c = record { positive = c .positive; negative = c .negative }

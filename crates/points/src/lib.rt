@@ -1,11 +1,14 @@
-// Points and clauses, and how they lie in lent slices: the leaf functions. Outside this crate no operator touches a point.
+// Points and clauses: the leaf functions. Outside this crate no operator touches a point, and no index a slice of points or clauses.
 ghost use mathlib.Core.Path.{_≡_};
-ghost use Prim.Native.Nat.{_<_, _^_};
+ghost use Prim.Native.Nat.{_<_, _*_, _/_, _%_, _^_};
+ghost use lib.Bits.{bitOr};
 ghost use lib.Dec.{eqb, ltb};
-ghost use lib.ListN.{length, getD, set};
+ghost use Rattle.math.specs.Bits.{bit, flip};
 ghost use Rattle.points.specs.Points.{satisfies, distance, listed};
-ghost use Rattle.points.specs.Slices.{pointsOf, clausesOf, clauseOf};
-ghost use Rattle.math.specs.Bits.{flip};
+ghost use Rattle.points.specs.Slices.{clauseOf};
+ghost use Rattle.points.specs.Contracts.{NextVariable};
+
+pub mod slices;
 
 // A point (01: choice), or a set of variables: bit i - 1 for variable i.
 pub type Point = u64;
@@ -40,6 +43,33 @@ pub fn flip(x: Point, v: u32) -> Point
 {
     let mask: Point = 1 << v;
     x ^ mask
+}
+
+// Whether a set has the variable of bit v.
+pub fn member(s: Point, v: u32) -> bool
+    ensures { λ r. ⌜ r ≡ bit s v ⌝ }
+{
+    if 64 <= v {
+        return false;
+    }
+    (s >> v) % 2 == 1
+}
+
+// The set r, with the variable of bit v where the set s has that of bit i: one step of moving s by a permutation.
+pub fn carry(r: Point, s: Point, i: u32, v: u32) -> Point
+    requires { ⌜ (i < 64) × (v < 64) ⌝ }
+    ensures { λ t. ⌜ t ≡ bitOr (s / 2 ^ i % 2 * 2 ^ v) r ⌝ }
+{
+    let digit = (s >> i) % 2;
+    let moved = digit << v;
+    moved | r
+}
+
+// The lowest variable of a set, as its bit; 64 for the empty set.
+pub fn next_variable(s: Point) -> u32
+    ensures { λ r. ⌜ NextVariable s r ⌝ }
+{
+    u64::trailing_zeros(s)
 }
 
 // The number of variables in which two points differ.

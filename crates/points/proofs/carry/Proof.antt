@@ -1,0 +1,21 @@
+-- `points::carry` meets its contract: a digit shifted by less than 64 places loses nothing. Assumes nothing.
+use mathlib.Core.Path.{ap}
+use Prim.Native.Nat.{ℕ}
+use lib.Bits.{bitOr}
+use lib.Pow.{shl-exact}
+use borrow.Author.Needs.{needs}
+use Rattle.math.specs.BitLaws.{digit-lt}
+use Rattle.points.proofs.carry.Statement.{statement}
+use Rattle.points.proofs.carry.Tie as tie
+
+shr-digit : tie.Need-shr-digit
+shr-digit c = search needs
+
+shl-moved : tie.Need-shl-moved
+shl-moved c = search needs
+
+returns : tie.Need-returns
+returns c = ap (λ (x : ℕ). bitOr x (c .args .r)) (shl-exact 1 (c .args .v) 64 (digit-lt _) (search needs))
+
+pub carry-spec : {M : Type 1} → statement M
+carry-spec = tie.close (tie.spec shr-digit shl-moved returns)
