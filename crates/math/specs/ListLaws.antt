@@ -6,11 +6,11 @@ use mathlib.Core.Logic.{_⊎_, inl, inr, ⊎-elim}
 use mathlib.Core.Path.{_≡_, refl, sym, ap, ap₂, _∙_, subst}
 use Prim.Native.Nat.{ℕ, zero, suc, _+_, _-_, _≤_, _<_, zero-le, suc-le-suc}
 use native.Mathlib.Decide.{ℕ-discrete}
-use native.Mathlib.Nat.{zero-add, add-assoc, le-trans, not-suc-le-self}
+use native.Mathlib.Nat.{le-of-suc-le-suc, not-suc-le-zero, zero-add, add-assoc, le-trans, not-suc-le-self}
 use native.Mathlib.Omega.{arith}
-use lib.ListN.{length}
+use lib.ListN.{length, getD}
 use lib.Dec.{eqb}
-use borrow.Author.Tests.{eqb-true, eq-eqb}
+use borrow.Author.Tests.{eqb-true, eq-eqb, ne-eqb}
 use Rattle.math.specs.Lists.{_∈_, any, all, select, count, Distinct, distinct-nil, distinct-cons, range, below, has}
 
 -- ---- tests: a Bool is true or false
@@ -213,6 +213,17 @@ module _ {A : Type 0} where
       by (no e) (yes m) = yes (List·Memᴰ·tail m)
       by (no e) (no m) = no (λ k. ⊎-elim e m (List·Memᴰ·cases-cons k))
 
+  -- ---- membership by index
+
+  pub getD-in : (xs : List A) (i : ℕ) (d : A) → i < length xs → getD xs i d ∈ xs
+  getD-in [] i d h = absurd (not-suc-le-zero h)
+  getD-in (x ∷ xs) zero d h = here x xs
+  getD-in (x ∷ xs) (suc i) d h = List·Memᴰ·tail (getD-in xs i d (le-of-suc-le-suc h))
+
+  pub in-getD : {x : A} {xs : List A} (d : A) → x ∈ xs → (i : ℕ) × (i < length xs) × (getD xs i d ≡ x)
+  in-getD d (List·Memᴰ·head e) = (0, suc-le-suc zero-le, sym e)
+  in-getD d (List·Memᴰ·tail m) = let w = in-getD d m in (suc (w .0), suc-le-suc (w .1), w .2)
+
 -- ---- maps
 
 module _ {A B : Type 0} (f : A → B) where
@@ -283,3 +294,41 @@ in-has x m = any-of (eqb x) m (eq-eqb x x refl)
 
 pub decIn : (x : ℕ) (xs : List ℕ) → Dec (x ∈ xs)
 decIn = decMember ℕ-discrete
+
+-- ---- how often a number stands in a list
+
+pub count-found : (t : ℕ → Bool) (xs : List ℕ) → 1 ≤ count t xs → (x : ℕ) × (x ∈ xs) × (t x ≡ true)
+count-found t xs h =
+    any-found t xs (⊎-elim (λ e. e) (λ e. absurd (z (count-none t xs (λ x m. none e m)))) (true-or-false (any t xs)))
+  where
+    none : any t xs ≡ false → {x : ℕ} → x ∈ xs → t x ≡ false
+    none e {x} m = not-true-false (t x) (λ p. true≢false (sym (any-of t m p) ∙ e))
+
+    z : count t xs ≡ 0 → ⊥
+    z e = omega arith
+
+pub distinct-count : {xs : List ℕ} → Distinct xs → (v : ℕ) → count (eqb v) xs ≤ 1
+unfolding count
+distinct-count distinct-nil v = zero-le
+distinct-count (distinct-cons {x = x} {xs = xs} new d) v = by (ℕ-discrete v x) (distinct-count d v)
+  where
+    by : Dec (v ≡ x) → count (eqb v) xs ≤ 1 → cond (eqb v x) 1 0 + count (eqb v) xs ≤ 1
+    by (yes e) le =
+        let z : count (eqb v) xs ≡ 0 = count-none (eqb v) xs (λ y m. ne-eqb v y (λ p. new (subst (λ w. w ∈ xs) (sym p ∙ e) m))) in
+        rw (eq-eqb v x e) (omega arith)
+    by (no ne) le = rw (ne-eqb v x ne) (omega arith)
+
+pub count-distinct : (xs : List ℕ) → ((v : ℕ) → v ∈ xs → count (eqb v) xs ≤ 1) → Distinct xs
+unfolding count
+count-distinct [] h = distinct-nil
+count-distinct (x ∷ xs) h =
+    distinct-cons (λ m. twice m (h x (here x xs))) (count-distinct xs (λ v m. rest v (h v (List·Memᴰ·tail m))))
+  where
+    twice : x ∈ xs → cond (eqb x x) 1 0 + count (eqb x) xs ≤ 1 → ⊥
+    twice m le =
+        let one : 1 ≤ count (eqb x) xs = count-pos (eqb x) m (eq-eqb x x refl) in
+        let two : 1 + count (eqb x) xs ≤ 1 = subst (λ b. cond b 1 0 + count (eqb x) xs ≤ 1) (eq-eqb x x refl) le in
+        omega arith
+
+    rest : (v : ℕ) → cond (eqb v x) 1 0 + count (eqb v) xs ≤ 1 → count (eqb v) xs ≤ 1
+    rest v le = omega arith

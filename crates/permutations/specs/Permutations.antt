@@ -57,20 +57,28 @@ Keeps e cs = (c : Clause) → c ∈ clausesIn cs → imageOfClause e c ∈ claus
 unfoldable pub sameClause : Clause → Clause → Bool
 sameClause c d = eqb (c .positive) (d .positive) && eqb (c .negative) (d .negative)
 
+-- whether the image of c under the permutation is among the clauses
+abbrev pub imageAmong : List Clause → Permutation → Clause → Bool
+imageAmong cs e c = any (sameClause (imageOfClause e c)) cs
+
 -- the same, computed
 unfoldable pub keeps : List Numbered → Permutation → Bool
 unfolding all any imageOfClause sameClause
-keeps cs e = all (λ c. any (sameClause (imageOfClause e c)) (clausesIn cs)) (clausesIn cs)
+keeps cs e = all (imageAmong (clausesIn cs) e) (clausesIn cs)
 
 -- "A choice is covered by a set if it or its image under one listed exchange is in the set."
 pub data Covered (es : List Permutation) (ps : List ℕ) (x : ℕ) : Type 0 where
   itself : x ∈ ps → Covered es ps x
   by-image : (e : Permutation) → e ∈ es → imageOfPoint e x ∈ ps → Covered es ps x
 
+-- whether the image of x under the permutation is in the set
+abbrev pub imageIn : List ℕ → ℕ → Permutation → Bool
+imageIn ps x e = has (imageOfPoint e x) ps
+
 -- the same, computed
 unfoldable pub covered : List Permutation → List ℕ → ℕ → Bool
 unfolding any imageOfPoint
-covered es ps x = has x ps || any (λ e. has (imageOfPoint e x) ps) es
+covered es ps x = has x ps || any (imageIn ps x) es
 
 -- "they stand without gaps, n bytes each, e(1) first": the first k permutations in a run of bytes
 unfoldable pub permutationsIn : ℕ → ℕ → List ℕ → List Permutation

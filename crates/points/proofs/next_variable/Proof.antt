@@ -10,7 +10,7 @@ returns c =
     record {
       empty = λ e. ap (trailingZeros 64) e ∙ trailing-of-zero 64;
       small = λ ne. trailing-lt 64 (c .args .s) (c .fits .s .fits) ne;
-      lowest = λ ne. trailing-lowest 64 (c .args .s) (c .fits .s .fits) ne
+      lowest = λ ne. trailing-lowest 64 (c .args .s) (c .fits .s .fits) ne;
     }
 
 pub next-variable-spec : {M : Type 1} → statement M

@@ -41,7 +41,7 @@ inside c = omega arith
 -- what the test compares with
 compared : (c : tie.After-same Inv-loop μ-loop)
     → eqb (c .before .before .before .before .before .before .before .args .x)
-      (getD (take (c .before .before .before .before .before .before .before .args .k) (c .before .before .before .before .before .before .before .args .points .now)) (c .before .before .before .loop .i) 0)
+    (getD (take (c .before .before .before .before .before .before .before .args .k) (c .before .before .before .before .before .before .before .args .points .now)) (c .before .before .before .loop .i) 0)
     ≡ c .same .result
 compared c =
     let a = c .before .before .before .before .before .before .before .args in

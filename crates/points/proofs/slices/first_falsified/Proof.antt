@@ -33,7 +33,7 @@ satisfies-requires c κs = search needs
 -- what the test says of the clause at i
 tested : (c : tie.After-satisfies Inv-loop μ-loop)
     → satisfies (getD (clausesOf (c .before .before .before .before .before .before .before .args .positive .now) (c .before .before .before .before .before .before .before .args .negative .now)) (c .before .before .before .loop .i) noLiterals)
-      (c .before .before .before .before .before .before .before .args .x)
+    (c .before .before .before .before .before .before .before .args .x)
     ≡ c .satisfies .result
 tested c = ap (λ d. satisfies d (c .before .before .before .before .before .before .before .args .x)) (sym (c .before .clause-at .ensures)) ∙ sym (c .satisfies .ensures)
 
