@@ -3,7 +3,7 @@
 use mathlib.Core.List.{List}
 use Prim.Native.Nat.{ℕ, _<_, _^_}
 use Rattle.points.specs.Points.{Numbered, SatisfiesAll, numberedFrom, numbered}
-use Rattle.points.specs.Slices.{clausesOf}
+use Rattle.slices.specs.Slices.{clausesOf}
 use Rattle.permutations.specs.Permutations.{Permutation, permutationsIn}
 use Rattle.formula.specs.declared.Formula.{Formula}
 

@@ -4,12 +4,9 @@ use points::Point;
 ghost use mathlib.Core.Path.{_≡_};
 ghost use Prim.Native.Nat.{_+_, _*_, _≤_};
 ghost use lib.ListN.{length, take, drop};
-ghost use Rattle.points.specs.Slices.{clauseOf};
+ghost use Rattle.points.specs.Contracts.{clauseOf};
 ghost use Rattle.permutations.specs.Permutations.{isPermutation, moved, imageOfPoint, imageOfClause};
 ghost use Rattle.permutations.specs.Contracts.{Movable, fresh};
-
-pub mod cover;
-pub mod symmetry;
 
 // Whether v is one of 1 to n and not in the set of those seen.
 fn fresh(seen: Point, v: u32, n: u32) -> bool

@@ -1,14 +1,11 @@
-// Points and clauses: the leaf functions. Outside this crate no operator touches a point, and no index a slice of points or clauses.
+// Points and clauses: the leaf functions. Outside this crate no operator touches a point.
 ghost use mathlib.Core.Path.{_≡_};
 ghost use Prim.Native.Nat.{_<_, _*_, _/_, _%_, _^_};
 ghost use lib.Bits.{bitOr};
 ghost use lib.Dec.{eqb, ltb};
 ghost use Rattle.math.specs.Bits.{bit, flip};
 ghost use Rattle.points.specs.Points.{satisfies, distance, listed};
-ghost use Rattle.points.specs.Slices.{clauseOf};
-ghost use Rattle.points.specs.Contracts.{NextVariable};
-
-pub mod slices;
+ghost use Rattle.points.specs.Contracts.{NextVariable, clauseOf};
 
 // A point (01: choice), or a set of variables: bit i - 1 for variable i.
 pub type Point = u64;

@@ -1,0 +1,77 @@
+-- `symmetry::has_clause` meets its contract: whether the clause is among them is, at index i, whether it is among those from i on. Assumes nothing.
+use mathlib.Core.Path.{_≡_, refl, sym, ap, _∙_}
+use Prim.Native.Nat.{_-_}
+use native.Mathlib.Omega.{arith}
+use lib.ListN.{length, getD, drop}
+use borrow.Author.Needs.{needs}
+use Rattle.math.specs.Lists.{any}
+use Rattle.math.specs.ScanLaws.{any-ends, any-stops, any-goes-on}
+use Rattle.points.specs.Contracts.{clauseOf}
+use Rattle.slices.specs.Slices.{clausesOf, noLiterals}
+use Rattle.permutations.specs.Permutations.{sameClause}
+use Rattle.symmetry.proofs.has_clause.Statement.{statement}
+use Rattle.symmetry.proofs.has_clause.Tie as tie
+
+abbrev Inv-loop : tie.InvT-loop
+Inv-loop positive negative c end i₀ i =
+    (end ≡ length (clausesOf positive negative))
+    × (any (sameClause (clauseOf c)) (clausesOf positive negative) ≡ any (sameClause (clauseOf c)) (drop i (clausesOf positive negative)))
+
+abbrev μ-loop : tie.MeasureT-loop
+μ-loop positive negative c end i₀ i = end - i
+
+clause-count-requires : tie.Need-clause-count-requires Inv-loop μ-loop
+clause-count-requires c κs = search needs
+
+loop-holds : tie.Need-loop-holds Inv-loop μ-loop
+loop-holds c = (c .clause-count .ensures, refl)
+
+clause-at-requires : tie.Need-clause-at-requires Inv-loop μ-loop
+clause-at-requires c κs = search needs
+
+same-clause-requires : tie.Need-same-clause-requires Inv-loop μ-loop
+same-clause-requires c κs = search needs
+
+-- what the test compares with
+compared : (c : tie.After-same-clause Inv-loop μ-loop)
+    → sameClause (clauseOf (c .before .before .before .before .before .before .before .args .c))
+    (getD (clausesOf (c .before .before .before .before .before .before .before .args .positive .now) (c .before .before .before .before .before .before .before .args .negative .now)) (c .before .before .before .loop .i) noLiterals)
+    ≡ c .same-clause .result
+compared c = ap (sameClause _) (sym (c .before .clause-at .ensures)) ∙ sym (c .same-clause .ensures)
+
+returns : tie.Need-returns Inv-loop μ-loop
+returns c =
+    let l = c .before .before .before .before .loop in
+    sym (l .inv .1 ∙ any-stops (sameClause _) _ noLiterals (l .i) (omega arith) (compared (c .before) ∙ c .if1 .taken))
+
+add-i : tie.Need-add-i Inv-loop μ-loop
+add-i c = search needs
+
+loop-less : tie.Need-loop-less Inv-loop μ-loop
+loop-less c = search needs
+
+loop-again : tie.Need-loop-again Inv-loop μ-loop
+loop-again c =
+    let l = c .before .before .before .before .loop in
+    (l .inv .0, l .inv .1 ∙ any-goes-on (sameClause _) _ noLiterals (l .i) (omega arith) (compared (c .before) ∙ c .if1 .left))
+
+returns-2 : tie.Need-returns-2 Inv-loop μ-loop
+returns-2 c =
+    let l = c .before .loop in
+    sym (l .inv .1 ∙ any-ends (sameClause _) _ noLiterals (l .i) (omega arith))
+
+pub has-clause-spec : {M : Type 1} → statement M
+has-clause-spec =
+    tie.close
+    (tie.spec
+    Inv-loop
+    μ-loop
+    clause-count-requires
+    loop-holds
+    clause-at-requires
+    same-clause-requires
+    returns
+    add-i
+    loop-less
+    loop-again
+    returns-2)

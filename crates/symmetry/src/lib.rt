@@ -1,0 +1,60 @@
+// Whether a permutation keeps the clauses: then it is a symmetry of the formula.
+use permutations::image_of_clause;
+use points::Clause;
+use slices::clause_at;
+use slices::clause_count;
+ghost use mathlib.Core.Path.{_≡_};
+ghost use Rattle.math.specs.Lists.{any, all};
+ghost use Rattle.points.specs.Contracts.{clauseOf};
+ghost use Rattle.points.specs.Points.{numbered};
+ghost use Rattle.slices.specs.Slices.{clausesOf};
+ghost use Rattle.permutations.specs.Permutations.{sameClause, keeps};
+ghost use Rattle.permutations.specs.Contracts.{Movable};
+
+pub mod cover;
+
+// Whether two clauses are the same two sets.
+pub fn same_clause(c: Clause, d: Clause) -> bool
+    ensures { λ r. ⌜ r ≡ sameClause (clauseOf c) (clauseOf d) ⌝ }
+{
+    if points::same(c.positive, d.positive) {
+        points::same(c.negative, d.negative)
+    } else {
+        false
+    }
+}
+
+// Whether a clause is among those of the slices. One step a clause.
+pub fn has_clause(positive: &[u64], negative: &[u64], c: Clause) -> bool
+    ensures { λ r. ⌜ r ≡ any (sameClause (clauseOf c)) (clausesOf (now (positive .entry)) (now (negative .entry))) ⌝ }
+{
+    let end = clause_count(positive, negative);
+    let mut i = 0;
+    while i < end {
+        let d = clause_at(positive, negative, i);
+        if same_clause(c, d) {
+            return true;
+        }
+        i += 1;
+    }
+    false
+}
+
+// Whether the image of each clause is among the clauses. For each clause an image, 2n steps, and a scan, one step a clause.
+pub fn keeps(e: &[u8], positive: &[u64], negative: &[u64]) -> bool
+    requires { ⌜ Movable (now e) ⌝ }
+    ensures { λ r. ⌜ r ≡ keeps (numbered (clausesOf (now (positive .entry)) (now (negative .entry)))) (record { images = now (e .entry) }) ⌝ }
+{
+    let end = clause_count(positive, negative);
+    let mut i = 0;
+    while i < end {
+        let c = clause_at(positive, negative, i);
+        let image = image_of_clause(e, c);
+        let kept = has_clause(positive, negative, image);
+        if !kept {
+            return false;
+        }
+        i += 1;
+    }
+    true
+}
