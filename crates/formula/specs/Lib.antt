@@ -2,4 +2,6 @@
 pub mod Limits
 pub mod Problem
 pub mod Reply
+pub mod ReplyLaws
 pub mod Refusals
+pub mod RefusalLaws

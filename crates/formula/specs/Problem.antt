@@ -2,6 +2,7 @@
 -- Assumes nothing.
 use mathlib.Core.List.{List}
 use Prim.Native.Nat.{ℕ, _<_, _^_}
+use lib.ListN.{replicate}
 use Rattle.points.specs.Points.{Numbered, SatisfiesAll, numberedFrom, numbered}
 use Rattle.slices.specs.Slices.{clausesOf}
 use Rattle.permutations.specs.Permutations.{Permutation, permutationsIn}
@@ -26,6 +27,10 @@ problemOf f positive negative =
       permutations = permutationsIn (f .variables) (f .permutations) (f .images);
       clauses = numbered (clausesOf positive negative);
     }
+
+-- "a sheet by value .. that is 0 throughout"
+unfoldable pub emptyFormula : Formula
+emptyFormula = record { variables = 0; clauses = 0; target = 0; permutations = 0; images = replicate 1024 0 }
 
 -- "none of the 2^n choices meets the rules"
 abbrev pub Unsatisfiable : Problem → Type 0

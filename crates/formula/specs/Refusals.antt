@@ -1,15 +1,19 @@
 -- Document 01, 'When the desk says no': the rows 10, 11 and 12, which several entry points share. Assumes nothing.
 use mathlib.Core.Bool.{Bool, cond, _&&_}
-use mathlib.Core.List.{List}
-use Prim.Native.Nat.{ℕ, _^_}
+use mathlib.Core.List.{List, [], _∷_}
+use mathlib.Core.Path.{_≡_}
+use Prim.Native.Nat.{ℕ, _^_, _≤_, _<_}
 use lib.Dec.{leb, ltb, eqb}
 use lib.ListN.{length}
-use Rattle.math.specs.Lists.{all, firstFailing}
+use Rattle.math.specs.Lists.{_∈_, all, firstFailing}
 use Rattle.points.specs.Points.{Numbered}
 use Rattle.permutations.specs.Permutations.{Permutation, isPermutation, keeps}
+use Rattle.formula.specs.declared.Checked.{Checked}
+use Rattle.formula.specs.declared.Checked.the-variants.{Passed, Refused}
 use Rattle.formula.specs.declared.Formula.{Formula}
 use Rattle.formula.specs.Limits.{maxVariables, maxClauses, maxPermutations}
-use Rattle.formula.specs.Reply.{Fault, sound, fault, faultAt}
+use Rattle.formula.specs.Problem.{problemOf}
+use Rattle.formula.specs.Reply.{Fault, sound, fault, faultAt, first}
 
 -- no number of the list has a bit at n or above
 unfoldable pub allBelow : ℕ → List ℕ → Bool
@@ -17,22 +21,32 @@ unfolding all
 allBelow n xs = all (λ x. ltb x (2 ^ n)) xs
 
 -- n within its limits, and each rule slice C long, C at most 4,096, with no bit above n
-unfoldable pub fits : Formula → List ℕ → List ℕ → Bool
+pub record Fits (n m : ℕ) (positive negative : List ℕ) : Type 0 where
+  pub some-variable : 1 ≤ n
+  pub few-variables : n ≤ maxVariables
+  pub few-clauses : m ≤ maxClauses
+  pub positive-length : length positive ≡ m
+  pub negative-length : length negative ≡ m
+  pub positive-below : (s : ℕ) → s ∈ positive → s < 2 ^ n
+  pub negative-below : (s : ℕ) → s ∈ negative → s < 2 ^ n
+
+-- the same, computed
+unfoldable pub fits : ℕ → ℕ → List ℕ → List ℕ → Bool
 unfolding allBelow
-fits f positive negative =
-    leb 1 (f .variables) && leb (f .variables) maxVariables && leb (f .clauses) maxClauses
-    && eqb (length positive) (f .clauses) && eqb (length negative) (f .clauses)
-    && allBelow (f .variables) positive && allBelow (f .variables) negative
+fits n m positive negative =
+    leb 1 n && leb n maxVariables && leb m maxClauses && eqb (length positive) m && eqb (length negative) m
+    && allBelow n positive && allBelow n negative
 
 -- row 10 without the target, for the checker: "n outside its limits, rule lengths (unequal to C, over 4,096), a bit above n | 10 | 0"
 unfoldable pub clausesFault : Formula → List ℕ → List ℕ → Fault
 unfolding fits
-clausesFault f positive negative = cond (fits f positive negative) sound (fault 10 0)
+clausesFault f positive negative = cond (fits (f .variables) (f .clauses) positive negative) sound (fault 10 0)
 
 -- row 10 whole: the target has no bit above n either
 unfoldable pub formulaFault : Formula → List ℕ → List ℕ → Fault
 unfolding fits
-formulaFault f positive negative = cond (fits f positive negative && ltb (f .target) (2 ^ f .variables)) sound (fault 10 0)
+formulaFault f positive negative =
+    cond (fits (f .variables) (f .clauses) positive negative && ltb (f .target) (2 ^ f .variables)) sound (fault 10 0)
 
 -- row 11: "over 16 exchanges, or no permutation | 11 | its number; 17 if too many, tested first"
 unfoldable pub permutationFault : ℕ → List Permutation → Fault
@@ -43,3 +57,15 @@ permutationFault n es = cond (leb (length es) maxPermutations) (faultAt 11 (firs
 unfoldable pub symmetryFault : List Numbered → List Permutation → Fault
 unfolding firstFailing keeps faultAt
 symmetryFault cs es = faultAt 12 (firstFailing (keeps cs) es)
+
+-- the rows 10, 11 and 12 in this order, which the builder and the writer test first
+unfoldable pub problemFault : Formula → List ℕ → List ℕ → Fault
+unfolding first formulaFault permutationFault symmetryFault problemOf
+problemFault f positive negative =
+    let pb = problemOf f positive negative in
+    first (formulaFault f positive negative ∷ permutationFault (pb .variables) (pb .permutations) ∷ symmetryFault (pb .clauses) (pb .permutations) ∷ [])
+
+-- what the code's answer of a test means
+abbrev pub faultOf : Checked → Fault
+faultOf Passed = sound
+faultOf (Refused code place) = fault code place

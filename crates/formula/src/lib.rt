@@ -1,5 +1,9 @@
-// The formula by value (01: sheet), and the refusals that several entry points share.
+// The formula by value (01: sheet), its limits, and the refusals that several entry points share.
 use points::Point;
+ghost use mathlib.Core.Path.{_≡_};
+ghost use Rattle.formula.specs.Problem.{emptyFormula};
+
+pub mod refusals;
 
 // A CNF formula with its target point (01: wish) and its permutations (01: exchanges), which stand in `images` without gaps,
 // `variables` bytes each. Its clauses lie in two slices beside it.
@@ -11,6 +15,12 @@ pub struct Formula {
     pub images: [u8; Formula::IMAGES],
 }
 
+// What a test of an entry point finds: nothing, or a refusal's number and its place.
+pub enum Checked {
+    Passed,
+    Refused { code: u32, place: usize },
+}
+
 impl Formula {
     pub const MAX_VARIABLES: u32 = 64;
 
@@ -19,6 +29,19 @@ impl Formula {
     pub const MAX_PERMUTATIONS: u32 = 16;
 
     pub const MAX_SLOTS: u32 = 65536;
-
+    // Bytes for the images of the most permutations of the most variables.
     pub const IMAGES: usize = 1024;
+
+    // The formula that is 0 throughout, which a refusal carries.
+    pub fn empty() -> Formula
+        ensures { λ r. ⌜ r ≡ emptyFormula ⌝ }
+    {
+        Formula {
+            variables: 0,
+            clauses: 0,
+            target: 0,
+            permutations: 0,
+            images: [0u8; Formula::IMAGES],
+        }
+    }
 }

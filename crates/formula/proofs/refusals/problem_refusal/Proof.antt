@@ -1,0 +1,83 @@
+-- `formula::refusals::problem_refusal` meets its contract: each is tested over everything before the next. Assumes nothing.
+use mathlib.Core.Path.{_≡_, sym, ap, _∙_, subst}
+use lib.ListN.{length}
+use borrow.Author.Needs.{needs}
+use Rattle.formula.specs.RefusalLaws.{IsFault, stops-10, stops-11, ends-12, formula-passes, images-room, formula-listed}
+use Rattle.formula.specs.Refusals.{formulaFault, permutationFault, faultOf}
+use Rattle.formula.specs.Reply.{sound}
+use Rattle.permutations.specs.Permutations.{permutationsIn}
+use Rattle.formula.proofs.refusals.problem_refusal.Statement.{statement}
+use Rattle.formula.proofs.refusals.problem_refusal.Tie as tie
+
+formula-refusal-requires : tie.Need-formula-refusal-requires
+formula-refusal-requires c κs = search needs
+
+enum-told : tie.Need-enum-told
+enum-told c = search needs
+
+enum-told-2 : tie.Need-enum-told-2
+enum-told-2 c = search needs
+
+returns : tie.Need-returns
+returns c =
+    stops-10 _ _ _ (faultOf (c .before .before .formula-refusal .result)) (c .before .before .formula-refusal .ensures)
+    (subst IsFault (sym (ap faultOf (c .enum-told2 .given .1))) tt)
+
+-- the array of the images is as long as its type says
+size : (c : tie.Start) → length (c .args .f .images) ≡ 1024
+size c = search needs
+
+-- the second arm is reached where refusal 10 found nothing
+ten : (c : tie.After-enum-told) → formulaFault (c .before .before .before .before .before .args .f) (c .before .before .before .before .before .args .positive .now) (c .before .before .before .before .before .args .negative .now) ≡ sound
+ten c = sym (c .before .before .formula-refusal .ensures) ∙ ap faultOf (c .enum-told .given .1)
+
+slice-aggregate-permutations-refusal : tie.Need-slice-aggregate-permutations-refusal
+slice-aggregate-permutations-refusal c = search needs
+
+permutations-refusal-requires : tie.Need-permutations-refusal-requires
+permutations-refusal-requires c κs =
+    let few = formula-passes _ _ _ (ten (c .before .before)) .0 .few-variables in
+    (few, images-room (c .before .before .before .before .before .before .before .args .f) (c .before .before .before .before .before .before .before .args .positive .now) (c .before .before .before .before .before .before .before .args .negative .now) few (size (c .before .before .before .before .before .before .before)))
+
+enum-told-3 : tie.Need-enum-told-3
+enum-told-3 c = search needs
+
+enum-told-4 : tie.Need-enum-told-4
+enum-told-4 c = search needs
+
+returns-2 : tie.Need-returns-2
+returns-2 c =
+    stops-11 _ _ _ (faultOf (c .before .before .permutations-refusal .result)) (ten (c .before .before .before .before .before)) (c .before .before .permutations-refusal .ensures)
+    (subst IsFault (sym (ap faultOf (c .enum-told4 .given .1))) tt)
+
+-- and the last call where refusal 11 did not either
+eleven : (c : tie.After-enum-told3)
+    → permutationFault (c .before .before .before .before .before .before .before .before .before .before .args .f .variables) (permutationsIn (c .before .before .before .before .before .before .before .before .before .before .args .f .variables) (c .before .before .before .before .before .before .before .before .before .before .args .f .permutations) (c .before .before .before .before .before .before .before .before .before .before .args .f .images)) ≡ sound
+eleven c = sym (c .before .before .permutations-refusal .ensures) ∙ ap faultOf (c .enum-told3 .given .1)
+
+slice-aggregate-symmetry-refusal : tie.Need-slice-aggregate-symmetry-refusal
+slice-aggregate-symmetry-refusal c = search needs
+
+symmetry-refusal-requires : tie.Need-symmetry-refusal-requires
+symmetry-refusal-requires c κs =
+    formula-listed (c .before .before .before .before .before .before .before .before .before .before .before .args .f) (c .before .before .before .before .before .before .before .before .before .before .before .args .positive .now) (c .before .before .before .before .before .before .before .before .before .before .before .args .negative .now) (ten (c .before .before .before .before .before .before)) (eleven (c .before)) (size (c .before .before .before .before .before .before .before .before .before .before .before))
+
+returns-3 : tie.Need-returns-3
+returns-3 c = c .symmetry-refusal .ensures ∙ ends-12 _ _ _ (ten (c .before .before .before .before .before .before .before)) (eleven (c .before .before))
+
+pub problem-refusal-spec : {M : Type 1} → statement M
+problem-refusal-spec =
+    tie.close
+    (tie.spec
+    formula-refusal-requires
+    enum-told
+    enum-told-2
+    returns
+    slice-aggregate-permutations-refusal
+    permutations-refusal-requires
+    enum-told-3
+    enum-told-4
+    returns-2
+    slice-aggregate-symmetry-refusal
+    symmetry-refusal-requires
+    returns-3)

@@ -1,0 +1,183 @@
+// Refusals 10, 11 and 12: each a function that says which it is, and where.
+use crate::Checked;
+use crate::Formula;
+use permutations::is_permutation;
+use permutations::permutation_at;
+use slices::point_at;
+use slices::point_count;
+ghost use mathlib.Core.Path.{_≡_};
+ghost use Prim.Native.Nat.{_*_, _≤_, _^_};
+ghost use lib.Dec.{ltb};
+ghost use lib.ListN.{length};
+ghost use mathlib.Core.Bool.{_&&_};
+ghost use Rattle.math.specs.Lists.{firstFailing};
+ghost use Rattle.points.specs.Points.{numbered};
+ghost use Rattle.slices.specs.Slices.{pointsOf, clausesOf};
+ghost use Rattle.permutations.specs.Contracts.{Listed};
+ghost use Rattle.permutations.specs.Permutations.{isPermutation, keeps, permutationsIn};
+ghost use Rattle.formula.specs.Refusals.{allBelow, fits, clausesFault, formulaFault, permutationFault, symmetryFault, problemFault, faultOf};
+
+// Whether no number of the slice has a bit at n or above. One step a number.
+fn all_below(xs: &[u64], n: u32) -> bool
+    ensures { λ r. ⌜ r ≡ allBelow n (pointsOf (now (xs .entry))) ⌝ }
+{
+    let end = point_count(xs);
+    let mut i = 0;
+    while i < end {
+        let small = points::below(point_at(xs, i), n);
+        if !small {
+            return false;
+        }
+        i += 1;
+    }
+    true
+}
+
+// Whether n is within its limits, and both clause slices are as long as they should be and have no bit at n or above.
+fn fits(n: u32, clauses: u32, positive: &[u64], negative: &[u64]) -> bool
+    ensures { λ r. ⌜ r ≡ fits n clauses (now (positive .entry)) (now (negative .entry)) ⌝ }
+{
+    if n < 1 {
+        return false;
+    }
+    if Formula::MAX_VARIABLES < n {
+        return false;
+    }
+    if Formula::MAX_CLAUSES < clauses {
+        return false;
+    }
+    let wanted = clauses as usize;
+    if point_count(positive) != wanted {
+        return false;
+    }
+    if point_count(negative) != wanted {
+        return false;
+    }
+    if all_below(positive, n) {
+        all_below(negative, n)
+    } else {
+        false
+    }
+}
+
+// Refusal 10 without the target.
+pub fn clauses_refusal(f: Formula, positive: &[u64], negative: &[u64]) -> Checked
+    ensures { λ r. ⌜ faultOf r ≡ clausesFault f (now (positive .entry)) (now (negative .entry)) ⌝ }
+{
+    if fits(f.variables, f.clauses, positive, negative) {
+        Checked::Passed
+    } else {
+        Checked::Refused { code: 10, place: 0 }
+    }
+}
+
+// Refusal 10.
+pub fn formula_refusal(f: Formula, positive: &[u64], negative: &[u64]) -> Checked
+    ensures { λ r. ⌜ faultOf r ≡ formulaFault f (now (positive .entry)) (now (negative .entry)) ⌝ }
+{
+    if fits(f.variables, f.clauses, positive, negative) {
+        if points::below(f.target, f.variables) {
+            return Checked::Passed;
+        }
+    }
+    Checked::Refused { code: 10, place: 0 }
+}
+
+// The number, from 1, of the first of the listed that is no permutation; 0 if all are. Refusals 10 and 11 see to what it requires.
+fn first_non_permutation(images: &[u8], n: u32, count: u32) -> usize
+    requires { ⌜ (n ≤ 64) × (count * n ≤ length (now images)) ⌝ }
+    ensures { λ r. ⌜ r ≡ firstFailing (isPermutation n) (permutationsIn n count (now (images .entry))) ⌝ }
+{
+    let size = n as usize;
+    let end = count as usize;
+    let mut i = 0;
+    while i < end {
+        let e = permutation_at(images, size, i);
+        let fine = is_permutation(e, n);
+        if !fine {
+            return i + 1;
+        }
+        i += 1;
+    }
+    0
+}
+
+// Refusal 11, of `count` permutations of n bytes each. Refusal 10, or 15, sees to what it requires.
+pub fn permutations_refusal(images: &[u8], n: u32, count: u32) -> Checked
+    requires { ⌜ (n ≤ 64) × (count ≤ 16 → count * n ≤ length (now images)) ⌝ }
+    ensures { λ r. ⌜ faultOf r ≡ permutationFault n (permutationsIn n count (now (images .entry))) ⌝ }
+{
+    if Formula::MAX_PERMUTATIONS < count {
+        return Checked::Refused {
+            code: 11,
+            place: 17,
+        };
+    }
+    let k = first_non_permutation(images, n, count);
+    if k == 0 {
+        Checked::Passed
+    } else {
+        Checked::Refused { code: 11, place: k }
+    }
+}
+
+// The number, from 1, of the first of the listed permutations that does not keep the clauses; 0 if all do.
+fn first_non_symmetry(
+    images: &[u8],
+    n: u32,
+    count: u32,
+    positive: &[u64],
+    negative: &[u64],
+) -> usize
+    requires { ⌜ Listed n count (now images) ⌝ }
+    ensures { λ r. ⌜ r ≡ firstFailing (keeps (numbered (clausesOf (now (positive .entry)) (now (negative .entry))))) (permutationsIn n count (now (images .entry))) ⌝ }
+{
+    let size = n as usize;
+    let end = count as usize;
+    let mut i = 0;
+    while i < end {
+        let e = permutation_at(images, size, i);
+        let kept = symmetry::keeps(e, positive, negative);
+        if !kept {
+            return i + 1;
+        }
+        i += 1;
+    }
+    0
+}
+
+// Refusal 12. For each permutation the image of each clause is compared with each clause at most once: with 16 permutations and 4,096
+// clauses at most 16 · 4,096 · 4,096 comparisons. Refusals 10 and 11 see to what it requires.
+pub fn symmetry_refusal(
+    images: &[u8],
+    n: u32,
+    count: u32,
+    positive: &[u64],
+    negative: &[u64],
+) -> Checked
+    requires { ⌜ Listed n count (now images) ⌝ }
+    ensures { λ r. ⌜ faultOf r ≡ symmetryFault (numbered (clausesOf (now (positive .entry)) (now (negative .entry)))) (permutationsIn n count (now (images .entry))) ⌝ }
+{
+    let k = first_non_symmetry(images, n, count, positive, negative);
+    if k == 0 {
+        Checked::Passed
+    } else {
+        Checked::Refused { code: 12, place: k }
+    }
+}
+
+// Refusals 10, 11 and 12, in this order.
+pub fn problem_refusal(f: Formula, positive: &[u64], negative: &[u64]) -> Checked
+    ensures { λ r. ⌜ faultOf r ≡ problemFault f (now (positive .entry)) (now (negative .entry)) ⌝ }
+{
+    let ten = formula_refusal(f, positive, negative);
+    let Checked::Passed = ten else {
+        return ten;
+    };
+    let images = f.images;
+    let eleven = permutations_refusal(&images, f.variables, f.permutations);
+    let Checked::Passed = eleven else {
+        return eleven;
+    };
+    symmetry_refusal(&images, f.variables, f.permutations, positive, negative)
+}
