@@ -8,7 +8,8 @@ use native.Mathlib.Nat.{le-trans, mul-le-mul, le-of-eq}
 use lib.Dec.{leb, ltb, eqb}
 use lib.ListN.{length}
 use borrow.Author.Tests.{leb-true, le-leb, lt-leb, ltb-true, lt-ltb, eqb-true, eq-eqb}
-use Rattle.math.specs.ListLaws.{true-or-false, and-split, and-join, all-at, all-of, failing-none, none-failing}
+use Rattle.math.specs.ListLaws.{true-or-false, and-split, and-join, all-at, all-of}
+use Rattle.math.specs.PartLaws.{none-failing, all-passing}
 use Rattle.math.specs.Lists.{_∈_, all, firstFailing}
 use Rattle.points.specs.Points.{Numbered, numbered}
 use Rattle.slices.specs.Slices.{clausesOf}
@@ -75,7 +76,7 @@ permutation-passes n es h = by (leb (length es) maxPermutations) refl h
         → (length es ≤ maxPermutations) × ((e : Permutation) → e ∈ es → IsPermutation n e)
     by true few h = (
       leb-true (length es) maxPermutations few,
-      λ e m. isPermutation-sound n e (failing-none (isPermutation n) es (faultAt-sound 11 (firstFailing (isPermutation n) es) h) e m),
+      λ e m. isPermutation-sound n e (none-failing (isPermutation n) es (faultAt-sound 11 (firstFailing (isPermutation n) es) h) e m),
     )
     by false many h = absurd (fault-not-sound 11 17 h)
 
@@ -83,17 +84,17 @@ pub passes-permutation : (n : ℕ) (es : List Permutation) → length es ≤ max
 unfolding permutationFault
 passes-permutation n es few each =
     rw (le-leb (length es) maxPermutations few)
-    (ap (faultAt 11) (none-failing (isPermutation n) es (λ e m. isPermutation-complete n e (each e m))))
+    (ap (faultAt 11) (all-passing (isPermutation n) es (λ e m. isPermutation-complete n e (each e m))))
 
 -- ---- 12
 
 pub symmetry-passes : (cs : List Numbered) (es : List Permutation) → symmetryFault cs es ≡ sound → (e : Permutation) → e ∈ es → Keeps e cs
 unfolding symmetryFault
-symmetry-passes cs es h e m = keeps-sound cs e (failing-none (keeps cs) es (faultAt-sound 12 (firstFailing (keeps cs) es) h) e m)
+symmetry-passes cs es h e m = keeps-sound cs e (none-failing (keeps cs) es (faultAt-sound 12 (firstFailing (keeps cs) es) h) e m)
 
 pub passes-symmetry : (cs : List Numbered) (es : List Permutation) → ((e : Permutation) → e ∈ es → Keeps e cs) → symmetryFault cs es ≡ sound
 unfolding symmetryFault
-passes-symmetry cs es each = ap (faultAt 12) (none-failing (keeps cs) es (λ e m. keeps-complete cs e (each e m)))
+passes-symmetry cs es each = ap (faultAt 12) (all-passing (keeps cs) es (λ e m. keeps-complete cs e (each e m)))
 
 -- ---- what lets the loops over permutations run: after 10 and 11 the bytes hold them, each movable
 

@@ -1,9 +1,13 @@
--- Laws of tests in order: a test that passes is skipped, one that does not is the answer. Assumes nothing.
-use mathlib.Core.Bool.{Bool, true, false, true≢false}
+-- Laws of tests in order and of replies: a test that passes is skipped, one that does not is the answer, and where nothing was found each
+-- passed. Assumes nothing.
+use mathlib.Core.Bool.{Bool, true, false, cond, true≢false}
 use mathlib.Core.List.{List, [], _∷_}
 use mathlib.Core.Path.{_≡_, refl, sym, ap, _∙_}
-use Prim.Native.Nat.{ℕ, zero, suc}
-use Rattle.formula.specs.Reply.{Fault, sound, fault, faultAt, first, Reply, refused, unless}
+use Prim.Native.Nat.{ℕ, zero, suc, _<_}
+use native.Mathlib.Omega.{arith}
+use Rattle.math.specs.Lists.{_∈_, firstFailing, below}
+use Rattle.math.specs.PartLaws.{none-failing, none-failing-below, all-passing, all-passing-below}
+use Rattle.formula.specs.Reply.{Fault, sound, fault, faultAt, first, Reply, refused, accepted, written, unless}
 
 -- whether the test found nothing
 abbrev isSound : Fault → Bool
@@ -20,12 +24,6 @@ first-skips f fs e = ap (λ f. first (f ∷ fs)) e
 pub first-stops : (f : Fault) (fs : List Fault) (code place : ℕ) → f ≡ fault code place → first (f ∷ fs) ≡ fault code place
 unfolding first
 first-stops f fs code place e = ap (λ f. first (f ∷ fs)) e
-
--- where the first fault is none, each test passed
-pub first-sound : (f : Fault) (fs : List Fault) → first (f ∷ fs) ≡ sound → (f ≡ sound) × (first fs ≡ sound)
-unfolding first
-first-sound sound fs h = (refl, h)
-first-sound (fault code place) fs h = absurd (fault-not-sound code place h)
 
 -- the last test alone
 pub first-last : (f : Fault) → first (f ∷ []) ≡ f
@@ -48,3 +46,62 @@ pub fault-pos : (code k r : ℕ) → r ≡ k → (r ≡ 0 → ⊥) → fault cod
 unfolding faultAt
 fault-pos code zero r e ne = absurd (ne e)
 fault-pos code (suc k) r e ne = ap (fault code) e
+
+-- ---- tests one after the other
+
+pub first-none : first [] ≡ sound
+unfolding first
+first-none = refl
+
+pub first-split : (t : Fault) (ts : List Fault) → first (t ∷ ts) ≡ sound → (t ≡ sound) × (first ts ≡ sound)
+unfolding first
+first-split sound ts h = (refl, h)
+first-split (fault code place) ts h = absurd (fault-not-sound code place h)
+
+pub first-join : (t : Fault) (ts : List Fault) → t ≡ sound → first ts ≡ sound → first (t ∷ ts) ≡ sound
+unfolding first
+first-join t ts p q = rw p q
+
+-- ---- one test
+
+pub tested : (b : Bool) (t : Fault) (code place : ℕ) → cond b t (fault code place) ≡ sound → (b ≡ true) × (t ≡ sound)
+tested true t code place h = (refl, h)
+tested false t code place h = absurd (fault-not-sound code place h)
+
+pub test-passed : (b : Bool) (t : Fault) (code place : ℕ) → b ≡ true → t ≡ sound → cond b t (fault code place) ≡ sound
+test-passed b t code place p q = rw p q
+
+-- ---- a test of each of several things
+
+module _ {A : Type 0} (code : ℕ) (t : A → Bool) (xs : List A) where
+  pub each-passed : faultAt code (firstFailing t xs) ≡ sound → (x : A) → x ∈ xs → t x ≡ true
+  each-passed h = none-failing t xs (faultAt-sound code (firstFailing t xs) h)
+
+  pub passes-each : ((x : A) → x ∈ xs → t x ≡ true) → faultAt code (firstFailing t xs) ≡ sound
+  passes-each h = sym (fault-zero code (firstFailing t xs) (all-passing t xs h))
+
+module _ (code : ℕ) (t : ℕ → Bool) (k : ℕ) where
+  pub below-passed : faultAt code (firstFailing t (below k)) ≡ sound → (i : ℕ) → i < k → t i ≡ true
+  below-passed h = none-failing-below t k (faultAt-sound code (firstFailing t (below k)) h)
+
+  pub passes-below : ((i : ℕ) → i < k → t i ≡ true) → faultAt code (firstFailing t (below k)) ≡ sound
+  passes-below h = sym (fault-zero code (firstFailing t (below k)) (all-passing-below t k h))
+
+-- ---- the reply
+
+-- a reply that is no refusal
+pub unless-sound : (t : Fault) → t ≡ sound → (r : Reply) → unless t r ≡ r
+unfolding unless
+unless-sound t e r = rw e
+
+-- no fault was found where the reply is not a refusal
+pub not-refused : (t : Fault) (r s : Reply) → unless t r ≡ s → ((code place : ℕ) → s ≡ refused code place → ⊥) → t ≡ sound
+unfolding unless
+not-refused sound r s h ne = refl
+not-refused (fault code place) r s h ne = absurd (ne code place (sym h))
+
+pub accepted-not-refused : (code place : ℕ) → accepted ≡ refused code place → ⊥
+accepted-not-refused code place e = let z : _≡_ {A = ℕ} 0 1 = cc in omega arith
+
+pub written-not-refused : (size code place : ℕ) → written size ≡ refused code place → ⊥
+written-not-refused size code place e = let z : _≡_ {A = ℕ} 0 1 = cc in omega arith

@@ -1,6 +1,7 @@
 -- Lists, bits and counting: definitions first, the laws about each beside it.
 pub mod Lists
 pub mod ListLaws
+pub mod PartLaws
 pub mod ScanLaws
 pub mod Bits
 pub mod BitLaws

@@ -6,12 +6,12 @@ use mathlib.Core.Logic.{_⊎_, inl, inr, ⊎-elim}
 use mathlib.Core.Path.{_≡_, refl, sym, ap, ap₂, _∙_, subst}
 use Prim.Native.Nat.{ℕ, zero, suc, _+_, _-_, _≤_, _<_, zero-le, suc-le-suc}
 use native.Mathlib.Decide.{ℕ-discrete}
-use native.Mathlib.Nat.{suc-ne-zero, le-of-suc-le-suc, not-suc-le-zero, zero-add, add-assoc, le-trans, not-suc-le-self}
+use native.Mathlib.Nat.{le-of-suc-le-suc, not-suc-le-zero, zero-add, add-assoc, le-trans, not-suc-le-self}
 use native.Mathlib.Omega.{arith}
 use lib.ListN.{length, getD}
 use lib.Dec.{eqb}
 use borrow.Author.Tests.{eqb-true, eq-eqb, ne-eqb}
-use Rattle.math.specs.Lists.{_∈_, any, all, select, count, firstFailing, failingAt, Distinct, distinct-nil, distinct-cons, range, below, has}
+use Rattle.math.specs.Lists.{_∈_, any, all, select, count, Distinct, distinct-nil, distinct-cons, range, below, has}
 
 -- ---- tests: a Bool is true or false
 
@@ -123,25 +123,6 @@ module _ {A : Type 0} where
   select-ext t u [] h = refl
   select-ext t u (x ∷ xs) h =
       ap₂ (λ b l. cond b (x ∷ l) l) (h x (here x xs)) (select-ext t u xs (λ y m. h y (List·Memᴰ·tail m)))
-
-  -- ---- the first that fails
-
-  pub failing-none : (t : A → Bool) (xs : List A) → firstFailing t xs ≡ 0 → (x : A) → x ∈ xs → t x ≡ true
-  unfolding firstFailing
-  failing-none t [] h x m = absurd (List·Memᴰ·not-nil m)
-  failing-none t (y ∷ ys) h x m = by (t y) refl (firstFailing t ys) refl h (failing-none t ys) m
-    where
-      by : (b : Bool) → t y ≡ b → (k : ℕ) → firstFailing t ys ≡ k → failingAt b k ≡ 0 → (firstFailing t ys ≡ 0 → (x : A) → x ∈ ys → t x ≡ true)
-          → x ∈ (y ∷ ys) → t x ≡ true
-      by false e k f h ih m = absurd (suc-ne-zero 0 h)
-      by true e zero f h ih (List·Memᴰ·head p) = ap t p ∙ e
-      by true e zero f h ih (List·Memᴰ·tail m) = ih f x m
-      by true e (suc k) f h ih m = absurd (suc-ne-zero (suc k) h)
-
-  pub none-failing : (t : A → Bool) (xs : List A) → ((x : A) → x ∈ xs → t x ≡ true) → firstFailing t xs ≡ 0
-  unfolding firstFailing
-  none-failing t [] h = refl
-  none-failing t (x ∷ xs) h = rw (h x (here x xs), none-failing t xs (λ y m. h y (List·Memᴰ·tail m)))
 
   -- ---- count
 

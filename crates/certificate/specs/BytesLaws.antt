@@ -1,0 +1,85 @@
+-- Laws of numbers as bytes and of entries that stand without gaps: what is put out reads back. Assumes nothing.
+use mathlib.Core.List.{List, [], _∷_, _++_, append-assoc, append-nil}
+use mathlib.Core.Option.{some, none}
+use mathlib.Core.Path.{_≡_, refl, sym, ap, ap₂, _∙_}
+use mathlib.Core.List.{List·Memᴰ·tail}
+use Prim.Native.Nat.{ℕ, zero, suc, _+_, _*_, _/_, _^_, _≤_, _<_}
+use native.Mathlib.Nat.{pow-succ', zero-mul, suc-mul, add-comm, not-suc-le-zero, le-of-suc-le-suc}
+use native.Mathlib.Omega.{arith}
+use lib.Arith.{lt-one}
+use lib.ListN.{length, getElem?, take, drop, length-append}
+use lib.Seq.{take-at, drop-at, drop-drop}
+use Rattle.math.specs.ListLaws.{here}
+use Rattle.math.specs.Lists.{_∈_}
+use Rattle.permutations.specs.Permutations.{permutationsIn}
+use Rattle.certificate.specs.Bytes.{bytesOf, numberFrom, joined, entries}
+
+-- ---- one number
+
+pub length-bytesOf : (w x : ℕ) → length (bytesOf w x) ≡ w
+unfolding bytesOf
+length-bytesOf zero x = refl
+length-bytesOf (suc w) x = ap suc (length-bytesOf w (x / 256))
+
+-- D2.4: "a written certificate reads back to the same points and rules": one number, where it fits its bytes
+pub numberFrom-bytesOf : (w x : ℕ) → x < 256 ^ w → numberFrom (bytesOf w x) ≡ x
+unfolding bytesOf numberFrom
+numberFrom-bytesOf zero x h = sym (lt-one h)
+numberFrom-bytesOf (suc w) x h =
+    let p : 256 ^ suc w ≡ 256 * 256 ^ w = pow-succ' 256 w in
+    let ih : numberFrom (bytesOf w (x / 256)) ≡ x / 256 = numberFrom-bytesOf w (x / 256) (omega arith) in
+    omega arith
+
+-- ---- entries
+
+module _ {A : Type 0} (write : A → List ℕ) (w : ℕ) where
+  pub length-joined : (xs : List A) → ((x : A) → x ∈ xs → length (write x) ≡ w) → length (joined write xs) ≡ length xs * w
+  unfolding joined
+  length-joined [] h = sym (zero-mul w)
+  length-joined (x ∷ xs) h =
+      length-append (write x) (joined write xs) ∙ ap₂ _+_ (h x (here x xs)) (length-joined xs (λ y m. h y (List·Memᴰ·tail m)))
+      ∙ add-comm w (length xs * w) ∙ sym (suc-mul (length xs) w)
+
+  -- entries of w bytes each that read back one by one read back as a list, whatever stands behind them
+  pub entries-joined : (read : List ℕ → A) (xs : List A) (behind : List ℕ) → ((x : A) → x ∈ xs → length (write x) ≡ w) → ((x : A) → x ∈ xs → read (write x) ≡ x)
+      → entries read w (length xs) (joined write xs ++ behind) ≡ xs
+  unfolding joined entries
+  entries-joined read [] behind h r = refl
+  entries-joined read (x ∷ xs) behind h r =
+      let long : length (write x) ≡ w = h x (here x xs) in
+      let whole : (write x ++ joined write xs) ++ behind ≡ write x ++ (joined write xs ++ behind) = append-assoc (write x) (joined write xs) behind in
+      ap₂ _∷_ (ap (λ l. read (take w l)) whole ∙ ap read (take-at (write x) (joined write xs ++ behind) w long) ∙ r x (here x xs))
+      (ap (λ l. entries read w (length xs) (drop w l)) whole ∙ ap (entries read w (length xs)) (drop-at (write x) (joined write xs ++ behind) w long)
+      ∙ entries-joined read xs behind (λ y m. h y (List·Memᴰ·tail m)) (λ y m. r y (List·Memᴰ·tail m)))
+
+  pub entries-all : (read : List ℕ → A) (xs : List A) → ((x : A) → x ∈ xs → length (write x) ≡ w) → ((x : A) → x ∈ xs → read (write x) ≡ x)
+      → entries read w (length xs) (joined write xs) ≡ xs
+  entries-all read xs h r = ap (entries read w (length xs)) (sym (append-nil (joined write xs))) ∙ entries-joined read xs [] h r
+
+module _ {A : Type 0} (read : List ℕ → A) (w : ℕ) where
+  pub length-entries : (k : ℕ) (bytes : List ℕ) → length (entries read w k bytes) ≡ k
+  unfolding entries
+  length-entries zero bytes = refl
+  length-entries (suc k) bytes = ap suc (length-entries k (drop w bytes))
+
+  -- the entry of an index is the one that stands there
+  pub entries-at : (k : ℕ) (bytes : List ℕ) (i : ℕ) → i < k → getElem? (entries read w k bytes) i ≡ some (read (take w (drop (i * w) bytes)))
+  unfolding entries
+  entries-at zero bytes i h = absurd (not-suc-le-zero h)
+  entries-at (suc k) bytes zero h = ap (λ (j : ℕ). some (read (take w (drop j bytes)))) (sym (zero-mul w))
+  entries-at (suc k) bytes (suc i) h =
+      entries-at k (drop w bytes) i (le-of-suc-le-suc h)
+      ∙ ap (λ l. some (read (take w l))) (drop-drop (i * w) w bytes ∙ ap (λ (j : ℕ). drop j bytes) (add-comm w (i * w) ∙ sym (suc-mul i w)))
+
+  -- and from the number of entries on there is none
+  pub entries-outside : (k : ℕ) (bytes : List ℕ) (i : ℕ) → k ≤ i → getElem? (entries read w k bytes) i ≡ none
+  unfolding entries
+  entries-outside zero bytes i h = refl
+  entries-outside (suc k) bytes zero h = absurd (not-suc-le-zero h)
+  entries-outside (suc k) bytes (suc i) h = entries-outside k (drop w bytes) i (le-of-suc-le-suc h)
+
+-- permutations are entries too
+pub permutations-entries : (n k : ℕ) (bytes : List ℕ) → permutationsIn n k bytes ≡ entries (λ bs. record { images = bs }) n k bytes
+unfolding permutationsIn entries
+permutations-entries n zero bytes = refl
+permutations-entries n (suc k) bytes = ap (λ l. record { images = take n bytes } ∷ l) (permutations-entries n k (drop n bytes))

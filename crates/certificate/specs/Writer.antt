@@ -1,0 +1,76 @@
+-- Document 01, 'Certificate': the writer's reply and what it leaves in the output. Assumes nothing.
+use mathlib.Core.List.{List, [], _∷_, _++_}
+use mathlib.Core.Path.{_≡_}
+use Prim.Native.Nat.{ℕ}
+use lib.ListN.{length, take, drop}
+use Rattle.slices.specs.Slices.{pointsOf}
+use Rattle.formula.specs.declared.Formula.{Formula}
+use Rattle.formula.specs.Limits.{capacity}
+use Rattle.formula.specs.Problem.{Problem, problemOf}
+use Rattle.formula.specs.Refusals.{formulaFault, permutationFault, symmetryFault}
+use Rattle.formula.specs.Reply.{Reply, refused, written, Fault, sound, fault, first, unless}
+use Rattle.certificate.specs.Certificate.{encode, certificateLength, contentsOf, WellFormed, filePermutations, filePoints, fileNumbers}
+use Rattle.certificate.specs.Rows.{pointsFault, numbersFault, roomFault}
+use Rattle.certificate.specs.declared.Written.{Written}
+use Rattle.certificate.specs.declared.Written.the-variants.{Bytes, Refused}
+
+-- what the code's answer says in document 01's terms
+unfoldable pub replyOf : Written → Reply
+replyOf (Bytes size) = written size
+replyOf (Refused code place) = refused code place
+
+-- the length of the certificate of a problem and that many slots
+unfoldable pub lengthNeeded : Problem → ℕ → ℕ
+unfolding certificateLength
+lengthNeeded pb count = certificateLength (pb .variables) (length (pb .permutations)) count
+
+-- N5: "Writer (from slots and a count): 10, 11, 12, 16, 17, 19." N8: "Each is tested over everything before the next"
+unfoldable pub writeFault : Formula → List ℕ → List ℕ → List ℕ → List ℕ → List ℕ → ℕ → List ℕ → Fault
+unfolding problemOf formulaFault permutationFault symmetryFault pointsFault capacity numbersFault roomFault lengthNeeded first
+writeFault f positive negative points numbers depths count out =
+    let pb = problemOf f positive negative in
+    let xs = pointsOf points in
+    let row11 = permutationFault (pb .variables) (pb .permutations) in
+    let row12 = symmetryFault (pb .clauses) (pb .permutations) in
+    let row16 = pointsFault (capacity (length xs) (length numbers) (length depths)) (pb .variables) count xs in
+    let row17 = numbersFault (pb .clauses) count xs numbers in
+    let row19 = roomFault (lengthNeeded pb count) (length out) in
+    first (formulaFault f positive negative ∷ row11 ∷ row12 ∷ row16 ∷ row17 ∷ row19 ∷ [])
+
+unfoldable pub writeReply : Formula → List ℕ → List ℕ → List ℕ → List ℕ → List ℕ → ℕ → List ℕ → Reply
+unfolding writeFault unless
+writeReply f positive negative points numbers depths count out =
+    unless (writeFault f positive negative points numbers depths count out) (written (lengthNeeded (problemOf f positive negative) count))
+
+-- C7: "what the writer puts out from that sheet and its rules, the lent slots as the builder left them and the number it reported as filled"
+unfoldable pub certificateOf : Problem → List ℕ → List ℕ → ℕ → List ℕ
+unfolding encode
+certificateOf pb points numbers count =
+    encode (pb .variables) (pb .total) (pb .permutations) (take count (pointsOf points)) (take count numbers)
+
+-- "Every row leaves all lent slices unchanged"
+unfoldable pub unlessKept : Fault → List ℕ → List ℕ → List ℕ
+unlessKept sound new old = new
+unlessKept (fault code place) new old = old
+
+-- C6: "Output past the certificate is unchanged."
+unfoldable pub writeOutput : Formula → List ℕ → List ℕ → List ℕ → List ℕ → List ℕ → ℕ → List ℕ → List ℕ
+unfolding writeFault unlessKept certificateOf
+writeOutput f positive negative points numbers depths count out =
+    let pb = problemOf f positive negative in
+    let new = certificateOf pb points numbers count ++ drop (lengthNeeded pb count) out in
+    unlessKept (writeFault f positive negative points numbers depths count out) new out
+
+-- what the writer promises: its reply, and the output as it returns
+pub record Wrote (f : Formula) (positive negative points numbers depths : List ℕ) (count : ℕ) (out : List ℕ) (r : Written) (after : List ℕ) : Type 0 where
+  pub reply : replyOf r ≡ writeReply f positive negative points numbers depths count out
+  pub output : after ≡ writeOutput f positive negative points numbers depths count out
+
+-- C5: "the reading of what the writer puts out is exactly the sheet's exchanges and the points and rule numbers of the slots given"
+pub record ReadsAs (pb : Problem) (points numbers : List ℕ) (file : List ℕ) : Type 0 where
+  pub inOrder : WellFormed file
+  pub readsVariables : contentsOf file .variables ≡ pb .variables
+  pub readsTotal : contentsOf file .clauses ≡ pb .total
+  pub readsPermutations : filePermutations file ≡ pb .permutations
+  pub readsPoints : filePoints file ≡ points
+  pub readsNumbers : fileNumbers file ≡ numbers

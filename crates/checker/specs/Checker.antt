@@ -1,0 +1,91 @@
+-- Document 01, 'Checker': the checker's reply, with its refusals in their order. Assumes nothing.
+use mathlib.Core.Bool.{Bool, cond, _&&_}
+use mathlib.Core.List.{List, [], _∷_, map}
+use mathlib.Core.Option.{Option, some, none}
+use mathlib.Core.Path.{_≡_}
+use Prim.Native.Nat.{ℕ}
+use lib.Dec.{eqb}
+use lib.ListN.{length, getD}
+use Rattle.math.specs.Bits.{bit, flip}
+use Rattle.math.specs.Lists.{all, firstFailing, range, below}
+use Rattle.points.specs.Points.{Clause, Numbered, variables}
+use Rattle.permutations.specs.Permutations.{Permutation, covered}
+use Rattle.formula.specs.declared.Formula.{Formula}
+use Rattle.formula.specs.Limits.{maxSlots}
+use Rattle.formula.specs.Problem.{Problem, problemOf}
+use Rattle.formula.specs.Refusals.{clausesFault, permutationFault, symmetryFault}
+use Rattle.formula.specs.Reply.{Reply, refused, accepted, Fault, sound, fault, faultAt, first, unless}
+use Rattle.certificate.specs.Certificate.{contentsOf, WellFormed, filePermutations, filePoints, fileNumbers}
+use Rattle.certificate.specs.Rows.{fileFault, pointsFault, clauseNumbered, numbersFault}
+use Rattle.checker.specs.Stable.{Stable}
+use Rattle.checker.specs.declared.Verdict.{Verdict}
+use Rattle.checker.specs.declared.Verdict.the-variants.{Accepted, Refused}
+
+-- what the code's answer says in document 01's terms
+unfoldable pub replyOf : Verdict → Reply
+replyOf Accepted = accepted
+replyOf (Refused code place) = refused code place
+
+-- the file's n and m are those of the problem
+unfoldable pub sameSizes : Problem → List ℕ → Bool
+unfolding contentsOf
+sameSizes pb file = let c = contentsOf file in eqb (c .variables) (pb .variables) && eqb (c .clauses) (pb .total)
+
+-- R15: "n or m another sheet's | 15 | 0"
+unfoldable pub sizesFault : Problem → List ℕ → Fault
+unfolding sameSizes
+sizesFault pb file = cond (sameSizes pb file) sound (fault 15 0)
+
+-- "each point got by flipping a name of that rule": the flips of a point, of which there are none without a clause
+unfoldable pub flipsOf : ℕ → Option Clause → ℕ → List ℕ
+unfolding variables bit flip
+flipsOf n none x = []
+flipsOf n (some c) x = map (flip x) (variables n c)
+
+-- the point of index i passes if all its flips are covered
+unfoldable pub flipsPass : ℕ → List Numbered → List Permutation → List ℕ → List ℕ → ℕ → Bool
+unfolding all covered flipsOf clauseNumbered
+flipsPass n clauses permutations points numbers i =
+    all (covered permutations points) (flipsOf n (clauseNumbered clauses (getD numbers i 0)) (getD points i 0))
+
+-- R18: "a flip uncovered | 18 | point's number"
+unfoldable pub flipsFault : ℕ → List Numbered → List Permutation → List ℕ → List ℕ → Fault
+unfolding firstFailing range flipsPass faultAt
+flipsFault n clauses permutations points numbers =
+    faultAt 18 (firstFailing (flipsPass n clauses permutations points numbers) (below (length points)))
+
+-- N6: "Checker: 10 (no wish), 14, 15, 11, 12, 16, 17, 18; 14 measures the bodies by the n in the contents."
+-- K2: "It uses the certificate's exchanges, not the sheet's."
+unfoldable pub checkFault : Formula → List ℕ → List ℕ → List ℕ → Fault
+unfolding problemOf clausesFault fileFault sizesFault filePermutations filePoints fileNumbers permutationFault symmetryFault pointsFault numbersFault flipsFault first
+checkFault f positive negative file =
+    let pb = problemOf f positive negative in
+    let n = pb .variables in
+    let permutations = filePermutations file in
+    let points = filePoints file in
+    let numbers = fileNumbers file in
+    let row14 = fileFault file in
+    let row15 = sizesFault pb file in
+    let row11 = permutationFault n permutations in
+    let row12 = symmetryFault (pb .clauses) permutations in
+    let row16 = pointsFault maxSlots n (length points) points in
+    let row17 = numbersFault (pb .clauses) (length points) points numbers in
+    let row18 = flipsFault n (pb .clauses) permutations points numbers in
+    first (clausesFault f positive negative ∷ row14 ∷ row15 ∷ row11 ∷ row12 ∷ row16 ∷ row17 ∷ row18 ∷ [])
+
+-- K1: "It accepts a certificate for a sheet's rules exactly if all of these hold": accepted where no row finds a fault
+unfoldable pub checkReply : Formula → List ℕ → List ℕ → List ℕ → Reply
+unfolding checkFault unless
+checkReply f positive negative file = unless (checkFault f positive negative file) accepted
+
+-- K1: "It accepts a certificate for a sheet's rules exactly if all of these hold: counts and lengths fit, its exchanges are permutations .."
+pub record Accepts (f : Formula) (positive negative file : List ℕ) : Type 0 where
+  pub clausesSound : clausesFault f positive negative ≡ sound
+  pub inOrder : WellFormed file
+  pub sameVariables : contentsOf file .variables ≡ problemOf f positive negative .variables
+  pub sameTotal : contentsOf file .clauses ≡ problemOf f positive negative .total
+  pub stable : Stable (problemOf f positive negative .variables) (problemOf f positive negative .clauses) (filePermutations file) (filePoints file) (fileNumbers file)
+
+-- what the checker promises
+pub record CheckedAs (f : Formula) (positive negative file : List ℕ) (r : Verdict) : Type 0 where
+  pub reply : replyOf r ≡ checkReply f positive negative file
