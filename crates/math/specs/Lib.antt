@@ -2,6 +2,7 @@
 pub mod Lists
 pub mod ListLaws
 pub mod PartLaws
+pub mod SplitLaws
 pub mod ScanLaws
 pub mod Bits
 pub mod BitLaws

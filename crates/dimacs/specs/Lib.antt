@@ -1,0 +1,14 @@
+-- The text format and its reader. Definitions: Text, Input, Reader, and Accepted, which says the same as Reader without a fold. The rest is
+-- laws; ReaderLaws has that the two agree.
+pub mod Text
+pub mod Input
+pub mod Reader
+pub mod Accepted
+pub mod TextLaws
+pub mod StepLaws
+pub mod ClauseLaws
+pub mod CommentLaws
+pub mod LineLaws
+pub mod ReaderLaws
+pub mod InputLaws
+pub mod Example
