@@ -8,7 +8,7 @@ use Rattle.formula.specs.declared.Formula.{Formula}
 use Rattle.formula.specs.Limits.{capacity}
 use Rattle.formula.specs.Problem.{Problem, problemOf}
 use Rattle.formula.specs.Refusals.{formulaFault, permutationFault, symmetryFault}
-use Rattle.formula.specs.Reply.{Reply, refused, written, Fault, sound, fault, first, unless}
+use Rattle.formula.specs.Reply.{Reply, refused, written, Fault, sound, fault, first, unless, unlessKept}
 use Rattle.certificate.specs.Certificate.{encode, certificateLength, contentsOf, WellFormed, filePermutations, filePoints, fileNumbers}
 use Rattle.certificate.specs.Rows.{pointsFault, numbersFault, roomFault}
 use Rattle.certificate.specs.declared.Written.{Written}
@@ -47,11 +47,6 @@ unfoldable pub certificateOf : Problem → List ℕ → List ℕ → ℕ → Lis
 unfolding encode
 certificateOf pb points numbers count =
     encode (pb .variables) (pb .total) (pb .permutations) (take count (pointsOf points)) (take count numbers)
-
--- "Every row leaves all lent slices unchanged"
-unfoldable pub unlessKept : Fault → List ℕ → List ℕ → List ℕ
-unlessKept sound new old = new
-unlessKept (fault code place) new old = old
 
 -- C6: "Output past the certificate is unchanged."
 unfoldable pub writeOutput : Formula → List ℕ → List ℕ → List ℕ → List ℕ → List ℕ → ℕ → List ℕ → List ℕ

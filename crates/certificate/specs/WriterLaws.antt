@@ -19,13 +19,13 @@ use Rattle.formula.specs.Limits.{maxVariables, maxClauses, maxPermutations, max
 use Rattle.formula.specs.Problem.{Problem, problemOf}
 use Rattle.formula.specs.Refusals.{Fits, formulaFault, permutationFault, symmetryFault}
 use Rattle.formula.specs.RefusalLaws.{formula-passes}
-use Rattle.formula.specs.Reply.{sound, first, written}
+use Rattle.formula.specs.Reply.{unlessKept, sound, first, written}
 use Rattle.certificate.specs.Certificate.{FileContents, layout, certificateLength, Encodable}
 use Rattle.certificate.specs.CertificateLaws.{length-encode, contents-encode, encode-wellFormed, encode-permutations, encode-points, encode-numbers}
 use Rattle.formula.specs.ReplyLaws.{first-split, tested, each-passed, below-passed, not-refused, written-not-refused, unless-sound}
 use Rattle.certificate.specs.RowLaws.{points-passed, point-passes-take, clause-found, numbered-range, number-passed}
 use Rattle.certificate.specs.Rows.{pointPasses, pointsFault, numberPasses, numbersFault, roomFault}
-use Rattle.certificate.specs.Writer.{lengthNeeded, writeFault, writeReply, certificateOf, unlessKept, writeOutput, ReadsAs}
+use Rattle.certificate.specs.Writer.{lengthNeeded, writeFault, writeReply, certificateOf, writeOutput, ReadsAs}
 
 length-clauses : (positive negative : List ℕ) → length (clausesOf positive negative) ≤ length positive
 unfolding clausesOf

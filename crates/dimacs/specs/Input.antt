@@ -77,10 +77,6 @@ formulaOf d =
 
 -- ---- the two slices
 
--- S23: "Rules go to two lent slices, places past C unchanged.": new contents in front of what was there
-unfoldable pub over : List ℕ → List ℕ → List ℕ
-over new old = new ++ drop (length new) old
-
 -- the positive and the negative sets of clauses
 abbrev pub positives : List Clause → List ℕ
 positives cs = map (λ (c : Clause). c .positive) cs

@@ -11,7 +11,7 @@ use lib.Pow.{pow-pos}
 use lib.Seq.{take-at, drop-at}
 use borrow.Author.Tests.{ne-eqb}
 use Rattle.math.specs.ListLaws.{here, count-none, decIn, distinct-onto, distinct-range, length-range, range-out, map-out}
-use Rattle.math.specs.Lists.{_∈_, count, range}
+use Rattle.math.specs.Lists.{over, _∈_, count, range}
 use Rattle.math.specs.SplitLaws.{length-flatMap}
 use Rattle.points.specs.Points.{Clause, numbered}
 use Rattle.slices.specs.Slices.{clausesOf}
@@ -19,7 +19,7 @@ use Rattle.permutations.specs.Permutations.{Permutation, IsPermutation, permuta
 use Rattle.formula.specs.Limits.{maxVariables, maxClauses, maxPermutations}
 use Rattle.formula.specs.Problem.{problemOf}
 use Rattle.dimacs.specs.Text.{Line}
-use Rattle.dimacs.specs.Input.{Input, clauseOf, imagePlaces, imagesOf, padded, formulaOf, over, positives, negatives}
+use Rattle.dimacs.specs.Input.{Input, clauseOf, imagePlaces, imagesOf, padded, formulaOf, positives, negatives}
 use Rattle.dimacs.specs.Accepted.{Targeted, Permuted, Accepts, no-line, one-line, none-left, one-more}
 use Rattle.dimacs.specs.ClauseLaws.{clauseOf-below}
 

@@ -7,7 +7,7 @@ use mathlib.Core.Path.{_≡_}
 use Prim.Native.Nat.{ℕ, _+_, _-_, _*_}
 use lib.Dec.{eqb, leb, ltb}
 use lib.ListN.{length, take, drop}
-use Rattle.math.specs.Lists.{all}
+use Rattle.math.specs.Lists.{over, all}
 use Rattle.points.specs.Points.{Clause}
 use Rattle.permutations.specs.Permutations.{Permutation, isPermutation}
 use Rattle.formula.specs.Limits.{maxVariables, maxClauses, maxPermutations}
@@ -18,7 +18,7 @@ use Rattle.dimacs.specs.declared.Parse.{Parse}
 use Rattle.dimacs.specs.declared.Parse.the-variants.{Accepted, Refused}
 use Rattle.dimacs.specs.declared.Parsed.{Parsed}
 use Rattle.dimacs.specs.Text.{maxText, isBlank, Line, Word, lines, words, wordsOf, spelled, sameBytes, begins, isComment, allBlank, problemWord, formatWord, behindHead, isTargetLine, isPermutationLine, numberIn, variable, Token, tokenIn, literal, close, malformed}
-use Rattle.dimacs.specs.Input.{Input, emptyClause, withLiteral, formulaOf, over, positives, negatives}
+use Rattle.dimacs.specs.Input.{Input, emptyClause, withLiteral, formulaOf, positives, negatives}
 
 -- ---- steps that may refuse
 

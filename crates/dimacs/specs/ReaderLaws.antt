@@ -11,12 +11,12 @@ use lib.Dec.{eqb, leb}
 use lib.ListN.{length, drop}
 use borrow.Author.Tests.{eqb-true, eq-eqb, leb-true, le-leb, lt-leb}
 use Rattle.math.specs.ListLaws.{here, and-split, and-join, or-split, or-left, or-right, all-at, all-of}
-use Rattle.math.specs.Lists.{_∈_, select}
+use Rattle.math.specs.Lists.{over, _∈_, select}
 use Rattle.formula.specs.Limits.{maxVariables, maxClauses}
 use Rattle.formula.specs.Problem.{emptyFormula}
 use Rattle.formula.specs.Reply.{parsed, refused}
 use Rattle.dimacs.specs.Text.{maxText, isBlank, Line, lines, wordsOf, spelled, sameBytes, begins, isComment, allBlank, problemWord, formatWord, isTargetLine, isPermutationLine, numberIn, tokenIn, malformed}
-use Rattle.dimacs.specs.Input.{Input, emptyClause, formulaOf, over, positives, negatives}
+use Rattle.dimacs.specs.Input.{Input, emptyClause, formulaOf, positives, negatives}
 use Rattle.dimacs.specs.Reader.{Step, andThen, walk, Sizes, sizesIn, problemWords, problemIn, withinLimits, Progress, begin, lineStep, isSkipped, fromProblem, inputOf, atEnd, withRoom, withProblem, withLines, reading, replyTo, formulaFrom, sliceFrom, readReply, readFormula, readPositive, readNegative, goes, refuses}
 use Rattle.dimacs.specs.Accepted.{ProblemLine, Permuted, wordsAmong, Skipped, Accepts}
 use Rattle.dimacs.specs.TextLaws.{begins-split, same-bytes}

@@ -40,3 +40,8 @@ faultAt code (suc k) = fault code (suc k)
 unfoldable pub unless : Fault → Reply → Reply
 unless sound r = r
 unless (fault code place) r = refused code place
+
+-- N1: "Every row leaves all lent slices unchanged"
+unfoldable pub unlessKept : Fault → List ℕ → List ℕ → List ℕ
+unlessKept sound new old = new
+unlessKept (fault code place) new old = old

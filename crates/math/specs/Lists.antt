@@ -1,10 +1,11 @@
 -- Lists: membership, tests over a list, counting, ranges. Definitions alone; ListLaws has what follows from them.
 -- Assumes nothing.
 use mathlib.Core.Bool.{Bool, true, false, cond, _&&_, _||_}
-use mathlib.Core.List.{List, [], _∷_, List·Memᴰ}
+use mathlib.Core.List.{List, [], _∷_, _++_, List·Memᴰ}
 use mathlib.Core.Path.{_≡_}
 use Prim.Native.Nat.{ℕ, zero, suc, _+_}
 use lib.Dec.{eqb}
+use lib.ListN.{length, drop}
 
 -- the number of the first failure in a list, from whether its head passes and the number in its tail
 abbrev pub failingAt : Bool → ℕ → ℕ
@@ -42,6 +43,10 @@ module _ {A : Type 0} where
   unfoldable pub firstFailing : (A → Bool) → List A → ℕ
   firstFailing t [] = 0
   firstFailing t (x ∷ xs) = failingAt (t x) (firstFailing t xs)
+
+  -- new contents in front of what was there
+  unfoldable pub over : List A → List A → List A
+  over new old = new ++ drop (length new) old
 
   -- no element stands twice
   pub data Distinct : List A → Type 0 where
