@@ -1,0 +1,203 @@
+-- Document 01, 'Sheets to try': the cases marked *, as theorems about the definitions, one list under one proposition (G.d: "Cases marked
+-- * are theorems, gathered as a list under one proposition"). Points are told as numbers: name 1 is bit 0. Assumes nothing.
+use mathlib.Core.List.{List, [], _∷_, map}
+use mathlib.Core.Option.{Option, some, none}
+use mathlib.Core.Path.{_≡_, refl}
+use Prim.Native.Nat.{ℕ}
+use lib.ListN.{length, replicate}
+use Rattle.math.specs.Bits.{bit, flip}
+use Rattle.formula.specs.declared.Formula.{Formula}
+use Rattle.formula.specs.Problem.{problemOf}
+use Rattle.formula.specs.Reply.{Reply, parsed, satisfiable, unsatisfiable, unknown, accepted}
+use Rattle.search.specs.Walk.{Slot, slot}
+use Rattle.search.specs.Builder.{searchReply, searchSlots}
+use Rattle.certificate.specs.Certificate.{contentsOf}
+use Rattle.certificate.specs.Writer.{certificateOf}
+use Rattle.checker.specs.Checker.{checkReply}
+use Rattle.dimacs.specs.Example.{satisfiable-text}
+use Rattle.dimacs.specs.Reader.{readReply, readFormula, readPositive, readNegative}
+
+-- ---- what a case is
+
+-- a certificate's length, and where its three bodies begin
+pub record Sizes : Type 0 where
+  pub size : ℕ
+  pub permutationsAt : ℕ
+  pub pointsAt : ℕ
+  pub numbersAt : ℕ
+
+-- a formula, its clauses and a number of slots; the answer, and, where document 01 gives them, the slots and the certificate's sizes
+pub record Case : Type 0 where
+  pub formula : Formula
+  pub positive : List ℕ
+  pub negative : List ℕ
+  pub lent : ℕ
+  pub reply : Reply
+  pub slots : Option (List Slot)
+  pub certificate : Option Sizes
+
+-- the certificate of a case: what the writer puts out from the slots that the search leaves
+abbrev pub certificateIn : Case → List ℕ
+certificateIn c =
+    let l = searchSlots (c .formula) (c .positive) (c .negative) (c .lent) in
+    certificateOf (problemOf (c .formula) (c .positive) (c .negative)) (map (λ (s : Slot). s .point) l) (map (λ (s : Slot). s .falsified) l) (length l)
+
+-- a thing is what document 01 gives, if it gives it
+abbrev pub Given : {A : Type 0} → Option A → A → Type 0
+Given none x = Unit {0}
+Given (some y) x = x ≡ y
+
+-- the definitions say of the case what document 01 says
+pub record Holds (c : Case) : Type 0 where
+  pub answered : searchReply (c .formula) (c .positive) (c .negative) (c .lent) ≡ c .reply
+  pub filled : Given (c .slots) (searchSlots (c .formula) (c .positive) (c .negative) (c .lent))
+  pub certified : Given (c .certificate)
+      (record {
+        size = length (certificateIn c);
+        permutationsAt = contentsOf (certificateIn c) .permutationsAt;
+        pointsAt = contentsOf (certificateIn c) .pointsAt;
+        numbersAt = contentsOf (certificateIn c) .numbersAt;
+      })
+
+-- each case of a list holds
+abbrev pub AllHold : List Case → Type 0
+AllHold [] = Unit {0}
+AllHold (c ∷ cs) = Holds c × AllHold cs
+
+-- ---- the cases
+
+-- a formula of n variables and m clauses with the target 0 and no permutation
+abbrev plain : ℕ → ℕ → Formula
+plain n m = record { variables = n; clauses = m; target = 0; permutations = 0; images = replicate 1024 0 }
+
+-- "A: n 2, rules (1 2) (−1 2) (1 −2) (−1 −2), wish 00": clauses of A
+abbrev positiveA : List ℕ
+positiveA = 3 ∷ 2 ∷ 1 ∷ 0 ∷ []
+
+abbrev negativeA : List ℕ
+negativeA = 0 ∷ 1 ∷ 2 ∷ 3 ∷ []
+
+-- "cannot be met; 00 10 01 11, rules 1 2 3 4, depths 0 1 1 2"
+abbrev pub caseA : Case
+caseA =
+    record {
+      formula = plain 2 4;
+      positive = positiveA;
+      negative = negativeA;
+      lent = 65536;
+      reply = unsatisfiable 4;
+      slots = some (slot 0 1 0 ∷ slot 1 2 1 ∷ slot 2 3 1 ∷ slot 3 4 2 ∷ []);
+      certificate = none;
+    }
+
+-- "A with exchange 2 1: 00 10 11, rules 1 2 4, depths 0 1 2. Certificate 70 bytes, bodies at 32, 34, 58."
+abbrev pub caseA-swap : Case
+caseA-swap =
+    record {
+      formula = record { variables = 2; clauses = 4; target = 0; permutations = 1; images = 2 ∷ 1 ∷ replicate 1022 0 };
+      positive = positiveA;
+      negative = negativeA;
+      lent = 65536;
+      reply = unsatisfiable 3;
+      slots = some (slot 0 1 0 ∷ slot 1 2 1 ∷ slot 3 4 2 ∷ []);
+      certificate = some (record { size = 70; permutationsAt = 32; pointsAt = 34; numbersAt = 58 });
+    }
+
+-- "A, P = 3, no exchange: no room, d 1."
+abbrev pub caseA-3 : Case
+caseA-3 = record { formula = plain 2 4; positive = positiveA; negative = negativeA; lent = 3; reply = unknown 1 3; slots = none; certificate = none }
+
+-- "P = 4: cannot be met."
+abbrev pub caseA-4 : Case
+caseA-4 = record { formula = plain 2 4; positive = positiveA; negative = negativeA; lent = 4; reply = unsatisfiable 4; slots = none; certificate = none }
+
+-- "B: n 3, rules (1 2) (−1 3), wish 000: met by 010, changes 1, slots 4."
+abbrev pub caseB : Case
+caseB = record { formula = plain 3 2; positive = 3 ∷ 4 ∷ []; negative = 0 ∷ 1 ∷ []; lent = 65536; reply = satisfiable 2 1 4; slots = none; certificate = none }
+
+-- "P = 3: no room, d 1."
+abbrev pub caseB-3 : Case
+caseB-3 = record { formula = plain 3 2; positive = 3 ∷ 4 ∷ []; negative = 0 ∷ 1 ∷ []; lent = 3; reply = unknown 1 3; slots = none; certificate = none }
+
+-- "C = 0: met by the wish, changes 0."
+abbrev pub case-none : Case
+case-none =
+    record {
+      formula = record { variables = 3; clauses = 0; target = 5; permutations = 0; images = replicate 1024 0 };
+      positive = [];
+      negative = [];
+      lent = 1;
+      reply = satisfiable 5 0 1;
+      slots = none;
+      certificate = none;
+    }
+
+-- "One empty rule: cannot be met, one slot."
+abbrev pub case-empty : Case
+case-empty = record { formula = plain 1 1; positive = 0 ∷ []; negative = 0 ∷ []; lent = 65536; reply = unsatisfiable 1; slots = none; certificate = none }
+
+-- "Rule (1 −1), n 1: met by the wish."
+abbrev pub case-both : Case
+case-both = record { formula = plain 1 1; positive = 1 ∷ []; negative = 1 ∷ []; lent = 1; reply = satisfiable 0 0 1; slots = none; certificate = none }
+
+abbrev pub cases : List Case
+cases = caseA ∷ caseA-swap ∷ caseA-3 ∷ caseA-4 ∷ caseB ∷ caseB-3 ∷ case-none ∷ case-empty ∷ case-both ∷ []
+
+-- ---- they hold
+
+hold-A-swap : Holds caseA-swap
+unfolding searchReply searchSlots certificateOf contentsOf bit flip
+hold-A-swap = record { answered = refl; filled = refl; certified = refl }
+
+hold-A : Holds caseA
+unfolding searchReply searchSlots bit flip
+hold-A = record { answered = refl; filled = refl; certified = tt }
+
+hold-A-3 : Holds caseA-3
+unfolding searchReply bit flip
+hold-A-3 = record { answered = refl; filled = tt; certified = tt }
+
+hold-A-4 : Holds caseA-4
+unfolding searchReply bit flip
+hold-A-4 = record { answered = refl; filled = tt; certified = tt }
+
+hold-B : Holds caseB
+unfolding searchReply bit flip
+hold-B = record { answered = refl; filled = tt; certified = tt }
+
+hold-B-3 : Holds caseB-3
+unfolding searchReply bit flip
+hold-B-3 = record { answered = refl; filled = tt; certified = tt }
+
+hold-none : Holds case-none
+unfolding searchReply bit flip
+hold-none = record { answered = refl; filled = tt; certified = tt }
+
+hold-empty : Holds case-empty
+unfolding searchReply bit flip
+hold-empty = record { answered = refl; filled = tt; certified = tt }
+
+hold-both : Holds case-both
+unfolding searchReply bit flip
+hold-both = record { answered = refl; filled = tt; certified = tt }
+
+-- G.d: all nine
+pub cases-hold : AllHold cases
+cases-hold = (hold-A, (hold-A-swap, (hold-A-3, (hold-A-4, (hold-B, (hold-B-3, (hold-none, (hold-empty, (hold-both, tt)))))))))
+
+-- ---- the certificate of A with exchange 2 1 is accepted, and the program's example is B
+
+pub swap-accepted : checkReply (caseA-swap .formula) positiveA negativeA (certificateIn caseA-swap) ≡ accepted
+unfolding checkReply searchSlots certificateOf bit flip
+swap-accepted = refl
+
+-- "For `p cnf 3 2`, `c wish 000`, `1 2 0`, `-1 3 0` on four lines": the reader yields the formula and the clauses of B
+pub record Yields (text : List ℕ) (c : Case) : Type 0 where
+  pub answer : readReply text (0 ∷ 0 ∷ []) (0 ∷ 0 ∷ []) ≡ parsed
+  pub formula : readFormula text (0 ∷ 0 ∷ []) (0 ∷ 0 ∷ []) ≡ c .formula
+  pub positive : readPositive text (0 ∷ 0 ∷ []) (0 ∷ 0 ∷ []) ≡ c .positive
+  pub negative : readNegative text (0 ∷ 0 ∷ []) (0 ∷ 0 ∷ []) ≡ c .negative
+
+pub text-B : Yields satisfiable-text caseB
+unfolding readReply readFormula readPositive readNegative
+text-B = record { answer = refl; formula = refl; positive = refl; negative = refl }

@@ -1,0 +1,2 @@
+-- What the product promises, and the worked cases of document 01.
+pub mod Cases
