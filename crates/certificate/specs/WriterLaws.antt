@@ -12,6 +12,7 @@ use lib.Seq.{length-take-le, take-at, drop-at, getD-take}
 use borrow.Author.Tests.{leb-true, eqb-true}
 use Rattle.math.specs.ListLaws.{and-split, in-getD}
 use Rattle.math.specs.Lists.{_∈_, count, Distinct}
+use Rattle.slices.specs.SliceLaws.{clauses-le}
 use Rattle.slices.specs.Slices.{pointsOf, clausesOf}
 use Rattle.permutations.specs.Permutations.{Permutation, isPermutation}
 use Rattle.formula.specs.declared.Formula.{Formula}
@@ -26,12 +27,6 @@ use Rattle.formula.specs.ReplyLaws.{first-split, tested, each-passed, below-pas
 use Rattle.certificate.specs.RowLaws.{points-passed, point-passes-take, clause-found, numbered-range, number-passed}
 use Rattle.certificate.specs.Rows.{pointPasses, pointsFault, numberPasses, numbersFault, roomFault}
 use Rattle.certificate.specs.Writer.{lengthNeeded, writeFault, writeReply, certificateOf, writeOutput, ReadsAs}
-
-length-clauses : (positive negative : List ℕ) → length (clausesOf positive negative) ≤ length positive
-unfolding clausesOf
-length-clauses [] ns = omega arith
-length-clauses (p ∷ ps) [] = omega arith
-length-clauses (p ∷ ps) (n ∷ ns) = let ih : length (clausesOf ps ns) ≤ length ps = length-clauses ps ns in omega arith
 
 -- ---- the writer's rows
 
@@ -123,7 +118,7 @@ module _ (f : Formula) (positive negative points numbers depths : List ℕ) (cou
         let here : getD ks (w .0) 0 ≡ getD numbers (w .0) 0 = getD-take count numbers (w .0) 0 lt in
         let same : getD ks (w .0) 0 ≡ k = w .2 in
         let within = numbered-range 1 (clausesOf positive negative) (r .0) (r .1) in
-        let size : length (clausesOf positive negative) ≤ length positive = length-clauses positive negative in
+        let size : length (clausesOf positive negative) ≤ length positive = clauses-le positive negative in
         let l = limited in
         omega arith
 

@@ -134,14 +134,14 @@ fn first_non_symmetry(
 {
     let size = n as usize;
     let end = count as usize;
-    let mut i = 0;
-    while i < end {
-        let e = permutation_at(images, size, i);
+    let mut at = 0;
+    while at < end {
+        let e = permutation_at(images, size, at);
         let kept = symmetry::keeps(e, positive, negative);
         if !kept {
-            return i + 1;
+            return at + 1;
         }
-        i += 1;
+        at += 1;
     }
     0
 }

@@ -51,8 +51,10 @@ pub fn moved(e: &[u8], s: Point) -> Point
     let mut i = e.len();
     while 0 < i {
         i -= 1;
-        let v = e[i] - 1;
-        r = points::carry(r, s, i as u32, v as u32);
+        let image = e[i] - 1;
+        let from = i as u32;
+        let to = image as u32;
+        r = points::carry(r, s, from, to);
     }
     r
 }

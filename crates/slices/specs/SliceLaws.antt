@@ -19,6 +19,9 @@ length-clauses [] ns = sym (zero-min (length ns))
 length-clauses (p ∷ ps) [] = sym (min-zero (suc (length ps)))
 length-clauses (p ∷ ps) (n ∷ ns) = ap suc (length-clauses ps ns) ∙ sym (suc-min-suc (length ps) (length ns))
 
+pub clauses-le : (ps ns : List ℕ) → length (clausesOf ps ns) ≤ length ps
+clauses-le ps ns = le-trans (le-of-eq (length-clauses ps ns)) (min-le-left (length ps) (length ns))
+
 pub clause-at : (ps ns : List ℕ) (i : ℕ) → i < length ps → i < length ns
     → getD (clausesOf ps ns) i noLiterals ≡ record { positive = getD ps i 0; negative = getD ns i 0 }
 unfolding clausesOf
@@ -31,7 +34,7 @@ pub clause-past : (ps ns : List ℕ) (i : ℕ) → (length ps ≤ i) ⊎ (length
 clause-past ps ns i h = sym (List·getD-eq-default (clausesOf ps ns) noLiterals (past h))
   where
     past : (length ps ≤ i) ⊎ (length ns ≤ i) → length (clausesOf ps ns) ≤ i
-    past (inl h) = le-trans (le-of-eq (length-clauses ps ns)) (le-trans (min-le-left (length ps) (length ns)) h)
+    past (inl h) = le-trans (clauses-le ps ns) h
     past (inr h) = le-trans (le-of-eq (length-clauses ps ns)) (le-trans (min-le-right (length ps) (length ns)) h)
 
 -- the number of the first clause that the point falsifies, of those from index i on

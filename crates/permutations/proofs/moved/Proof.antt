@@ -26,8 +26,8 @@ loop-holds c = (le-refl _, sym (ap (λ l. moved l (c .before .args .s / 2 ^ leng
 sub-i : tie.Need-sub-i Inv-loop μ-loop
 sub-i c = search needs
 
-shared-slice-read-v : tie.Need-shared-slice-read-v Inv-loop μ-loop
-shared-slice-read-v c = search needs
+shared-slice-read-image : tie.Need-shared-slice-read-image Inv-loop μ-loop
+shared-slice-read-image c = search needs
 
 -- the number read is one of 1 to 64
 read : (c : tie.After-shared-slice-known2 Inv-loop μ-loop)
@@ -41,17 +41,17 @@ read c =
 index : (c : tie.After-shared-slice-known2 Inv-loop μ-loop) → c .before .before .loop .i - 1 < 64
 index c = omega (arith, c .before .before .before .before .pre .size)
 
-sub-v : tie.Need-sub-v Inv-loop μ-loop
-sub-v c = read c .0
+sub-image : tie.Need-sub-image Inv-loop μ-loop
+sub-image c = read c .0
 
-cast-carry : tie.Need-cast-carry Inv-loop μ-loop
-cast-carry c = let h = index c in omega arith
+cast-from : tie.Need-cast-from Inv-loop μ-loop
+cast-from c = let h = index c in omega arith
 
-cast-carry-2 : tie.Need-cast-carry-2 Inv-loop μ-loop
-cast-carry-2 c = let h = read c in omega arith
+cast-to : tie.Need-cast-to Inv-loop μ-loop
+cast-to c = let h = read c in omega arith
 
 carry-requires : tie.Need-carry-requires Inv-loop μ-loop
-carry-requires c κs = (index c, (let h = read c in omega arith))
+carry-requires c κs = let from = index c in let to = read c in omega arith
 
 loop-less : tie.Need-loop-less Inv-loop μ-loop
 loop-less c = search needs
@@ -82,10 +82,10 @@ moved-spec =
     μ-loop
     loop-holds
     sub-i
-    shared-slice-read-v
-    sub-v
-    cast-carry
-    cast-carry-2
+    shared-slice-read-image
+    sub-image
+    cast-from
+    cast-to
     carry-requires
     loop-less
     loop-again

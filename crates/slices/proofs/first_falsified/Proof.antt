@@ -6,7 +6,7 @@ use lib.ListN.{length, getD}
 use borrow.Author.Needs.{needs}
 use borrow.Author.Tests.{not-true, not-false}
 use Rattle.points.specs.Points.{satisfies}
-use Rattle.slices.specs.SliceLaws.{falsifiedFrom, falsified-ends, falsified-stops, falsified-goes-on}
+use Rattle.slices.specs.SliceLaws.{clauses-le, falsifiedFrom, falsified-ends, falsified-stops, falsified-goes-on}
 use Rattle.slices.specs.Slices.{clausesOf, noLiterals}
 use Rattle.slices.proofs.first_falsified.Statement.{statement}
 use Rattle.slices.proofs.first_falsified.Tie as tie
@@ -38,7 +38,9 @@ tested : (c : tie.After-satisfies Inv-loop μ-loop)
 tested c = ap (λ d. satisfies d (c .before .before .before .before .before .before .before .args .x)) (sym (c .before .clause-at .ensures)) ∙ sym (c .satisfies .ensures)
 
 add-result : tie.Need-add-result Inv-loop μ-loop
-add-result c = search needs
+add-result c =
+    let start = c .before .before .before .before .before .before .before .before in
+    omega (arith, clauses-le (start .args .positive .now) (start .args .negative .now), start .good .0 .1)
 
 returns : tie.Need-returns Inv-loop μ-loop
 unfolding falsifiedFrom

@@ -16,11 +16,11 @@ use Rattle.formula.proofs.refusals.first_non_symmetry.Statement.{statem
 use Rattle.formula.proofs.refusals.first_non_symmetry.Tie as tie
 
 abbrev Inv-loop : tie.InvT-loop
-Inv-loop images n count positive negative size end i₀ i =
-    firstFailing (keeps (numbered (clausesOf positive negative))) (permutationsIn n count images) ≡ onFrom i (firstFailing (keeps (numbered (clausesOf positive negative))) (drop i (permutationsIn n count images)))
+Inv-loop images n count positive negative size end at₀ at =
+    firstFailing (keeps (numbered (clausesOf positive negative))) (permutationsIn n count images) ≡ onFrom at (firstFailing (keeps (numbered (clausesOf positive negative))) (drop at (permutationsIn n count images)))
 
 abbrev μ-loop : tie.MeasureT-loop
-μ-loop images n count positive negative size end i₀ i = count - i
+μ-loop images n count positive negative size end at₀ at = count - at
 
 loop-holds : tie.Need-loop-holds Inv-loop μ-loop
 loop-holds c = failing-begins _ _ noPermutation
@@ -28,26 +28,26 @@ loop-holds c = failing-begins _ _ noPermutation
 permutation-at-requires : tie.Need-permutation-at-requires Inv-loop μ-loop
 permutation-at-requires c κs =
     let start = c .before .before .before .before .before in
-    listed-room (start .args .n) (start .args .count) (c .before .loop .i) (start .args .images .now) (start .pre) (c .loop-test .taken)
+    listed-room (start .args .n) (start .args .count) (c .before .loop .at) (start .args .images .now) (start .pre) (c .loop-test .taken)
 
 keeps-requires : tie.Need-keeps-requires Inv-loop μ-loop
 keeps-requires c κs =
     let start = c .before .before .before .before .before .before in
     subst Movable (sym (c .permutation-at .ensures))
-    (listed-movable (start .args .n) (start .args .count) (c .before .before .loop .i) (start .args .images .now) (start .pre) (c .before .loop-test .taken))
+    (listed-movable (start .args .n) (start .args .count) (c .before .before .loop .at) (start .args .images .now) (start .pre) (c .before .loop-test .taken))
 
--- in the loop i is an index of the permutations
+-- in the loop at is an index of the permutations
 inside : (c : tie.After-keeps Inv-loop μ-loop)
-    → c .before .before .before .loop .i < length (permutationsIn (c .before .before .before .before .before .before .before .args .n) (c .before .before .before .before .before .before .before .args .count) (c .before .before .before .before .before .before .before .args .images .now))
+    → c .before .before .before .loop .at < length (permutationsIn (c .before .before .before .before .before .before .before .args .n) (c .before .before .before .before .before .before .before .args .count) (c .before .before .before .before .before .before .before .args .images .now))
 inside c = lt-of-lt-of-le (c .before .before .loop-test .taken) (le-of-eq (sym (length-permutations _ _ _)))
 
--- what the test says of the permutation at i
+-- what the test says of the permutation there
 tested : (c : tie.After-keeps Inv-loop μ-loop)
-    → keeps (numbered (clausesOf (c .before .before .before .before .before .before .before .args .positive .now) (c .before .before .before .before .before .before .before .args .negative .now))) (getD (permutationsIn (c .before .before .before .before .before .before .before .args .n) (c .before .before .before .before .before .before .before .args .count) (c .before .before .before .before .before .before .before .args .images .now)) (c .before .before .before .loop .i) noPermutation)
+    → keeps (numbered (clausesOf (c .before .before .before .before .before .before .before .args .positive .now) (c .before .before .before .before .before .before .before .args .negative .now))) (getD (permutationsIn (c .before .before .before .before .before .before .before .args .n) (c .before .before .before .before .before .before .before .args .count) (c .before .before .before .before .before .before .before .args .images .now)) (c .before .before .before .loop .at) noPermutation)
     ≡ c .keeps .result
 tested c =
     let a = c .before .before .before .before .before .before .before .args in
-    ap (keeps (numbered (clausesOf (c .before .before .before .before .before .before .before .args .positive .now) (c .before .before .before .before .before .before .before .args .negative .now)))) (permutation-at (a .n) (a .count) (c .before .before .before .loop .i) (a .images .now) noPermutation (c .before .before .loop-test .taken))
+    ap (keeps (numbered (clausesOf (c .before .before .before .before .before .before .before .args .positive .now) (c .before .before .before .before .before .before .before .args .negative .now)))) (permutation-at (a .n) (a .count) (c .before .before .before .loop .at) (a .images .now) noPermutation (c .before .before .loop-test .taken))
     ∙ ap (λ l. keeps (numbered (clausesOf (c .before .before .before .before .before .before .before .args .positive .now) (c .before .before .before .before .before .before .before .args .negative .now))) (record { images = l })) (sym (c .before .permutation-at .ensures)) ∙ sym (c .keeps .ensures)
 
 add-result : tie.Need-add-result Inv-loop μ-loop
@@ -56,10 +56,10 @@ add-result c = search needs
 returns : tie.Need-returns Inv-loop μ-loop
 returns c =
     let l = c .before .before .before .before .loop in
-    sym (l .inv ∙ failing-stops _ _ noPermutation (l .i) (inside (c .before)) (tested (c .before) ∙ not-true _ (c .if1 .taken)))
+    sym (l .inv ∙ failing-stops _ _ noPermutation (l .at) (inside (c .before)) (tested (c .before) ∙ not-true _ (c .if1 .taken)))
 
-add-i : tie.Need-add-i Inv-loop μ-loop
-add-i c = search needs
+add-at : tie.Need-add-at Inv-loop μ-loop
+add-at c = search needs
 
 loop-less : tie.Need-loop-less Inv-loop μ-loop
 loop-less c = search needs
@@ -67,12 +67,12 @@ loop-less c = search needs
 loop-again : tie.Need-loop-again Inv-loop μ-loop
 loop-again c =
     let l = c .before .before .before .before .loop in
-    l .inv ∙ failing-goes-on _ _ noPermutation (l .i) (inside (c .before)) (tested (c .before) ∙ not-false _ (c .if1 .left))
+    l .inv ∙ failing-goes-on _ _ noPermutation (l .at) (inside (c .before)) (tested (c .before) ∙ not-false _ (c .if1 .left))
 
 returns-2 : tie.Need-returns-2 Inv-loop μ-loop
 returns-2 c =
     let l = c .before .loop in
-    sym (l .inv ∙ failing-ends _ _ noPermutation (l .i) (le-trans (le-of-eq (length-permutations _ _ _)) (c .loop-test .left)))
+    sym (l .inv ∙ failing-ends _ _ noPermutation (l .at) (le-trans (le-of-eq (length-permutations _ _ _)) (c .loop-test .left)))
 
 pub first-non-symmetry-spec : {M : Type 1} → statement M
 first-non-symmetry-spec =
@@ -85,7 +85,7 @@ first-non-symmetry-spec =
     keeps-requires
     add-result
     returns
-    add-i
+    add-at
     loop-less
     loop-again
     returns-2)
