@@ -8,7 +8,7 @@ use Rattle.formula.specs.declared.Formula.{Formula}
 use Rattle.formula.specs.Limits.{capacity}
 use Rattle.formula.specs.Problem.{Problem, problemOf}
 use Rattle.formula.specs.Refusals.{formulaFault, permutationFault, symmetryFault}
-use Rattle.formula.specs.Reply.{Reply, refused, written, Fault, sound, fault, first, unless, unlessKept}
+use Rattle.formula.specs.Reply.{Reply, refused, written, Fault, first, unless, unlessKept}
 use Rattle.certificate.specs.Certificate.{encode, certificateLength, contentsOf, WellFormed, filePermutations, filePoints, fileNumbers}
 use Rattle.certificate.specs.Rows.{pointsFault, numbersFault, roomFault}
 use Rattle.certificate.specs.declared.Written.{Written}

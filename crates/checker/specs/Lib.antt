@@ -6,3 +6,4 @@ pub mod StableLaws
 pub mod Checker
 pub mod CheckerLaws
 pub mod Examples
+pub mod Soundness

@@ -1,6 +1,6 @@
 -- Laws of the clauses in a text: a walk over words closes the clauses that the words say in groups, and no others; what the two sets of a
 -- clause hold. Assumes nothing.
-use mathlib.Core.Bool.{Bool, true, false, cond, true≢false}
+use mathlib.Core.Bool.{Bool, true, false, cond, _||_, or-assoc, or-self, true≢false}
 use mathlib.Core.List.{List, [], _∷_, _++_, map, flatMap, append-nil, append-assoc, List·Memᴰ·head, List·Memᴰ·tail, List·Memᴰ·not-nil, List·Memᴰ·append-cases, List·Memᴰ·eq-of-singleton, List·Memᴰ·cases-cons}
 use mathlib.Core.Logic.{_⊎_, inl, inr, ⊎-elim}
 use mathlib.Core.Option.{Option, some, none}
@@ -329,3 +329,15 @@ parts-below n b (l ∷ g) c inside h = parts-below n b g (withLiteral c l) (λ k
 pub clauseOf-below : (n : ℕ) (g : List Literal) → AllWithin n g → (clauseOf g .positive < 2 ^ n) × (clauseOf g .negative < 2 ^ n)
 unfolding clauseOf part
 clauseOf-below n g inside = (parts-below n true g emptyClause inside (pow-pos n), parts-below n false g emptyClause inside (pow-pos n))
+
+-- ---- S5: "a repeated entry counts once"
+
+or-twice : (a b : ℕ) → bitOr (bitOr a b) b ≡ bitOr a b
+or-twice a b =
+    bits-ext (bitOr (bitOr a b) b) (bitOr a b)
+    (λ i. bit-or (bitOr a b) b i ∙ ap (λ t. t || bit b i) (bit-or a b i) ∙ or-assoc (bit a i) (bit b i) (bit b i) ∙ ap (λ t. bit a i || t) (or-self (bit b i)) ∙ sym (bit-or a b i))
+
+pub literal-twice : (c : Clause) (l : Literal) → withLiteral (withLiteral c l) l ≡ withLiteral c l
+unfolding withLiteral
+literal-twice c (pos v) = ap (λ p. let d : Clause = record { positive = p; negative = c .negative } in d) (or-twice (c .positive) (2 ^ (v - 1)))
+literal-twice c (neg v) = ap (λ n. let d : Clause = record { positive = c .positive; negative = n } in d) (or-twice (c .negative) (2 ^ (v - 1)))

@@ -14,10 +14,10 @@ use lib.Seq.{take-at, drop-at, length-take-le, append-snoc}
 use borrow.Author.Tests.{eqb-true, eq-eqb, leb-true, le-leb, ltb-true, lt-ltb}
 use Rattle.math.specs.BitLaws.{bit-zero, bit-suc, bits-ext-below}
 use Rattle.math.specs.Bits.{bit}
-use Rattle.math.specs.ListLaws.{and-split, and-join, or-split, or-left, or-right, all-at, all-of, range-in, range-out}
-use Rattle.math.specs.Lists.{all, count, range}
+use Rattle.math.specs.ListLaws.{and-split, or-split, or-left, or-right, all-at, all-of}
+use Rattle.math.specs.Lists.{all}
 use Rattle.permutations.specs.PermutationLaws.{isPermutation-sound, isPermutation-complete}
-use Rattle.permutations.specs.Permutations.{Permutation, IsPermutation, isPermutation}
+use Rattle.permutations.specs.Permutations.{Permutation, isPermutation}
 use Rattle.formula.specs.Limits.{maxPermutations}
 use Rattle.dimacs.specs.Text.{isBlank, Line, words, spelled, allBlank, behindHead, numberIn}
 use Rattle.dimacs.specs.Reader.{walk, isBinary, binary, targetIn, targetKept, targetStep, beginsWord, bothNumbers, numbersIn, permuting, permutationIn, permutationKept, permutationStep, goes, refuses}

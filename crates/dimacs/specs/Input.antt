@@ -5,7 +5,7 @@ use mathlib.Core.Bool.{true}
 use mathlib.Core.Path.{_≡_}
 use Prim.Native.Nat.{ℕ, suc, _-_, _*_, _^_}
 use lib.Bits.{bitOr}
-use lib.ListN.{length, drop, replicate}
+use lib.ListN.{length, replicate}
 use Rattle.math.specs.Bits.{bit}
 use Rattle.math.specs.Lists.{_∈_}
 use Rattle.points.specs.Points.{Clause}

@@ -3,15 +3,13 @@ use mathlib.Core.List.{List, [], _∷_, _++_, append-assoc, List·Memᴰ·tail, 
 use mathlib.Core.Logic.{⊎-elim}
 use mathlib.Core.Path.{_≡_, refl, sym, ap, ap₂, _∙_, subst}
 use Prim.Native.Nat.{ℕ, _-_, _*_, _≤_, _<_, _^_}
-use native.Mathlib.Nat.{mul-le-mul, le-of-eq}
+use native.Mathlib.Nat.{mul-le-mul}
 use native.Mathlib.Omega.{arith}
-use lib.Dec.{eqb}
 use lib.ListN.{length, take, drop, replicate, length-append, length-drop, length-map, length-replicate}
 use lib.Pow.{pow-pos}
 use lib.Seq.{take-at, drop-at}
-use borrow.Author.Tests.{ne-eqb}
-use Rattle.math.specs.ListLaws.{here, count-none, decIn, distinct-onto, distinct-range, length-range, range-out, map-out}
-use Rattle.math.specs.Lists.{over, _∈_, count, range}
+use Rattle.math.specs.ListLaws.{here, map-out}
+use Rattle.math.specs.Lists.{over, _∈_}
 use Rattle.math.specs.SplitLaws.{length-flatMap}
 use Rattle.points.specs.Points.{Clause, numbered}
 use Rattle.slices.specs.Slices.{clausesOf}

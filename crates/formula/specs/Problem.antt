@@ -16,7 +16,7 @@ pub record Problem : Type 0 where
   pub permutations : List Permutation
   pub clauses : List Numbered
 
--- "The sheet by value holds n, C, the wish, and the exchanges as 1,024 bytes beside their number", and two slices hold its rules
+-- S21: "The sheet by value holds n, C, the wish, and the exchanges as 1,024 bytes beside their number", and two slices hold its rules
 unfoldable pub problemOf : Formula → List ℕ → List ℕ → Problem
 unfolding permutationsIn numberedFrom clausesOf
 problemOf f positive negative =
@@ -28,10 +28,10 @@ problemOf f positive negative =
       clauses = numbered (clausesOf positive negative);
     }
 
--- "a sheet by value .. that is 0 throughout"
+-- N2: "a sheet by value .. that is 0 throughout"
 unfoldable pub emptyFormula : Formula
 emptyFormula = record { variables = 0; clauses = 0; target = 0; permutations = 0; images = replicate 1024 0 }
 
--- "none of the 2^n choices meets the rules"
+-- D3.3: "none of the 2^n choices meets the rules"
 abbrev pub Unsatisfiable : Problem → Type 0
 Unsatisfiable pb = (x : ℕ) → x < 2 ^ pb .variables → SatisfiesAll (pb .clauses) x → ⊥

@@ -1,16 +1,15 @@
 -- Laws of the refusals 10, 11 and 12: what is known once each has passed, and what passes. Assumes nothing.
-use mathlib.Core.Bool.{Bool, true, false, cond, _&&_, true≢false}
+use mathlib.Core.Bool.{Bool, true, false, cond, _&&_}
 use mathlib.Core.List.{List, [], _∷_}
-use mathlib.Core.Logic.{_⊎_, inl, inr, ⊎-elim}
-use mathlib.Core.Path.{_≡_, refl, sym, ap, _∙_, subst}
-use Prim.Native.Nat.{ℕ, zero, suc, _*_, _^_, _≤_, _<_}
+use mathlib.Core.Path.{_≡_, refl, sym, ap, _∙_}
+use Prim.Native.Nat.{ℕ, _*_, _^_, _≤_, _<_}
 use native.Mathlib.Nat.{le-trans, mul-le-mul, le-of-eq}
 use lib.Dec.{leb, ltb, eqb}
 use lib.ListN.{length}
 use borrow.Author.Tests.{leb-true, le-leb, lt-leb, ltb-true, lt-ltb, eqb-true, eq-eqb}
-use Rattle.math.specs.ListLaws.{true-or-false, and-split, and-join, all-at, all-of}
+use Rattle.math.specs.ListLaws.{and-split, all-at, all-of}
 use Rattle.math.specs.PartLaws.{none-failing, all-passing}
-use Rattle.math.specs.Lists.{_∈_, all, firstFailing}
+use Rattle.math.specs.Lists.{_∈_, firstFailing}
 use Rattle.points.specs.Points.{Numbered, numbered}
 use Rattle.slices.specs.Slices.{clausesOf}
 use Rattle.permutations.specs.Contracts.{Movable, Listed}

@@ -37,23 +37,23 @@ fits n m positive negative =
     leb 1 n && leb n maxVariables && leb m maxClauses && eqb (length positive) m && eqb (length negative) m
     && allBelow n positive && allBelow n negative
 
--- row 10 without the target, for the checker: "n outside its limits, rule lengths (unequal to C, over 4,096), a bit above n | 10 | 0"
+-- R10 without the target, for the checker: "n outside its limits, rule lengths (unequal to C, over 4,096), a bit above n | 10 | 0"
 unfoldable pub clausesFault : Formula → List ℕ → List ℕ → Fault
 unfolding fits
 clausesFault f positive negative = cond (fits (f .variables) (f .clauses) positive negative) sound (fault 10 0)
 
--- row 10 whole: the target has no bit above n either
+-- R10 whole: the target has no bit above n either
 unfoldable pub formulaFault : Formula → List ℕ → List ℕ → Fault
 unfolding fits
 formulaFault f positive negative =
     cond (fits (f .variables) (f .clauses) positive negative && ltb (f .target) (2 ^ f .variables)) sound (fault 10 0)
 
--- row 11: "over 16 exchanges, or no permutation | 11 | its number; 17 if too many, tested first"
+-- R11: "over 16 exchanges, or no permutation | 11 | its number; 17 if too many, tested first"
 unfoldable pub permutationFault : ℕ → List Permutation → Fault
 unfolding firstFailing isPermutation faultAt
 permutationFault n es = cond (leb (length es) maxPermutations) (faultAt 11 (firstFailing (isPermutation n) es)) (fault 11 17)
 
--- row 12: "exchange doesn't keep the rules | 12 | its number"
+-- R12: "exchange doesn't keep the rules | 12 | its number"
 unfoldable pub symmetryFault : List Numbered → List Permutation → Fault
 unfolding firstFailing keeps faultAt
 symmetryFault cs es = faultAt 12 (firstFailing (keeps cs) es)

@@ -3,7 +3,7 @@ use mathlib.Core.List.{List, [], _∷_}
 use Prim.Native.Nat.{ℕ, zero, suc}
 
 pub data Reply : Type 0 where
-  -- a refusal: its number, and "'returned' is the place beside the number"
+  -- D1.1: a refusal: its number, and "'returned' is the place beside the number"
   refused : ℕ → ℕ → Reply
   -- "met", with the choice, its changes and the number of slots filled
   satisfiable : ℕ → ℕ → ℕ → Reply
@@ -25,7 +25,7 @@ pub data Fault : Type 0 where
   sound : Fault
   fault : ℕ → ℕ → Fault
 
--- "Each is tested over everything before the next"
+-- N8: "Each is tested over everything before the next"
 unfoldable pub first : List Fault → Fault
 first [] = sound
 first (sound ∷ fs) = first fs

@@ -1,11 +1,10 @@
 -- Laws of binary digits: of the machine's operations, of extensionality, of what a bound says. Assumes nothing.
 use mathlib.Core.Bool.{Bool, true, false, _&&_, _||_, xor, true≢false, false≢true}
 use mathlib.Core.Path.{_≡_, refl, sym, ap, ap₂, _∙_, subst}
-use mathlib.Core.Logic.{_⊎_, inl, inr}
-use Prim.Native.Nat.{ℕ, zero, suc, _+_, _-_, _*_, _/_, _%_, _^_, _≤_, _<_, min, max, zero-le, suc-le-suc}
-use native.Mathlib.Nat.{one-mul, div-lt-iff-lt-mul, le-of-eq, div-one, pow-succ', div-div-eq-div-mul, mod-lt, zero-lt-suc, zero-div, div-eq-of-lt, lt-of-lt-of-le, le-step, suc-inj, mul-div-cancel-left, mul-mod-right, le-of-suc-le-suc, not-suc-le-zero, suc-le-suc-iff}
+use Prim.Native.Nat.{ℕ, zero, suc, _+_, _*_, _/_, _%_, _^_, _≤_, _<_, min, max, zero-le, suc-le-suc}
+use native.Mathlib.Nat.{one-mul, div-lt-iff-lt-mul, le-of-eq, div-one, pow-succ', div-div-eq-div-mul, mod-lt, zero-lt-suc, zero-div, div-eq-of-lt, lt-of-lt-of-le, mul-div-cancel-left, mul-mod-right, le-of-suc-le-suc, not-suc-le-zero}
 use native.Mathlib.Omega.{arith}
-use lib.Arith.{digits-div, digits-mod, bin-ind, lt-one}
+use lib.Arith.{digits-div, digits-mod, bin-ind}
 use lib.Bits.{bitAnd, bitOr, bitXor, and-step, or-step, xor-step, xor-lt, differ}
 use lib.Dec.{eqb, ltb, lit<, eqb·zero-suc, eqb·suc-zero, eqb·suc-suc}
 use lib.Pow.{pow-pos, pow-mono, pow-lt}

@@ -7,3 +7,4 @@ pub mod ScanLaws
 pub mod Bits
 pub mod BitLaws
 pub mod SetLaws
+pub mod CountLaws

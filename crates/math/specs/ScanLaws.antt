@@ -1,7 +1,7 @@
 -- Laws of a loop that walks a list by its index: what is left of a test over the whole list at index i is the test over the list from i on.
 -- Assumes nothing.
 use mathlib.Core.Bool.{Bool, true, false, _&&_, _||_}
-use mathlib.Core.List.{List, [], _∷_}
+use mathlib.Core.List.{List, _∷_}
 use mathlib.Core.Path.{_≡_, refl, sym, ap, _∙_}
 use Prim.Native.Nat.{ℕ, zero, suc, _+_, _≤_, _<_}
 use native.Mathlib.Nat.{lt-of-lt-of-le, le-trans, le-of-eq, min-le-left, add-zero, zero-add, suc-add, add-suc}

@@ -1,21 +1,20 @@
 -- Laws of a number as a set of numbers: the count of ones is its size, the trailing zeros are its lowest member, and its members come
 -- one by one, lowest first. Assumes nothing.
-use mathlib.Core.Bool.{Bool, true, false, cond, xor, true≢false}
-use mathlib.Core.List.{List, [], _∷_, map}
-use mathlib.Core.Logic.{_⊎_, inl, inr, ⊎-elim}
-use mathlib.Core.Path.{_≡_, refl, sym, ap, ap₂, _∙_, subst}
+use mathlib.Core.Bool.{Bool, true, false, cond, xor}
+use mathlib.Core.List.{List, [], _∷_}
+use mathlib.Core.Path.{_≡_, refl, sym, ap, ap₂, _∙_}
 use Prim.Native.Nat.{ℕ, zero, suc, _+_, _*_, _/_, _%_, _^_, _≤_, _<_, zero-le, suc-le-suc}
 use native.Mathlib.Decide.{ℕ-discrete}
-use native.Mathlib.Nat.{pow-succ', le-of-suc-le-suc, not-suc-le-zero, lt-irrefl, le-refl}
+use native.Mathlib.Nat.{pow-succ', le-of-suc-le-suc, not-suc-le-zero, le-refl}
 use native.Mathlib.Omega.{arith}
 use lib.Arith.{lt-one}
-use lib.Count.{ones, ones-step, trailingZeros, trailing-of-zero, trailing-le, under}
+use lib.Count.{ones, ones-step, trailingZeros, under}
 use lib.Dec.{eqb}
 use borrow.Author.Tests.{eq-eqb, ne-eqb}
 use Rattle.math.specs.BitLaws.{bit-zero, bit-suc, bit-of-zero, bit-flip, digit-lt}
 use Rattle.math.specs.Bits.{bit, flip, members, Lowest}
-use Rattle.math.specs.ListLaws.{here, count-ext, count-map, count-none, range-suc, range-out, select-ext}
-use Rattle.math.specs.Lists.{_∈_, count, select, range, below}
+use Rattle.math.specs.ListLaws.{count-ext, count-map, range-suc, range-out, select-ext}
+use Rattle.math.specs.Lists.{count, select, range, below}
 
 -- ---- the count of ones
 

@@ -1,11 +1,11 @@
 -- Laws of images under a permutation: the computed image is the one that the sentence fixes. Assumes nothing.
-use mathlib.Core.Bool.{Bool, true, false, _&&_, _||_, and-true, and-false, or-false}
+use mathlib.Core.Bool.{false, _&&_, _||_, and-true, and-false, or-false}
 use mathlib.Core.List.{List, [], _∷_, List·Memᴰ·head, List·Memᴰ·tail}
 use mathlib.Core.Path.{_≡_, refl, sym, ap, ap₂, _∙_, subst}
-use Prim.Native.Nat.{ℕ, zero, suc, _+_, _-_, _*_, _/_, _%_, _^_, _≤_, _<_}
+use Prim.Native.Nat.{ℕ, zero, suc, _-_, _*_, _/_, _%_, _^_, _≤_, _<_}
 use native.Mathlib.Nat.{zero-mul, one-mul, not-suc-le-zero, le-of-suc-le-suc, lt-of-le-of-lt, mul-le-mul-right, le-of-eq}
 use native.Mathlib.Omega.{arith}
-use lib.Bits.{bitOr, or-lt}
+use lib.Bits.{or-lt}
 use lib.Dec.{eqb}
 use lib.ListN.{length, getD}
 use lib.Pow.{pow-pos, pow-lt}
@@ -13,7 +13,7 @@ use borrow.Author.Tests.{eq-eqb, ne-eqb}
 use Rattle.math.specs.BitLaws.{digit-lt, bit-zero, bit-suc, bit-of-zero, bit-or, bit-pow, bits-ext-below}
 use Rattle.math.specs.Bits.{bit}
 use Rattle.math.specs.ListLaws.{here, getD-in, in-getD, or-none}
-use Rattle.math.specs.Lists.{_∈_, Distinct, distinct-nil, distinct-cons}
+use Rattle.math.specs.Lists.{_∈_, Distinct, distinct-cons}
 use Rattle.permutations.specs.PermutationLaws.{permutation-within, permutation-distinct, permutation-onto}
 use Rattle.permutations.specs.Permutations.{Permutation, IsPermutation, moved, IsImage, imageOfPoint}
 

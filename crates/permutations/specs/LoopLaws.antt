@@ -1,21 +1,21 @@
 -- Laws of the loops over a permutation and over several: the permutation test with a set of what was seen, the image from the last
 -- variable down, and where the i-th permutation lies. Assumes nothing.
-use mathlib.Core.Bool.{Bool, true, false, not, _&&_, xor, true≢false, false≢true}
+use mathlib.Core.Bool.{Bool, true, false, not, _&&_, xor, true≢false}
 use mathlib.Core.List.{List, [], _∷_, List·Memᴰ·head, List·Memᴰ·tail, List·Memᴰ·not-nil}
 use mathlib.Core.Path.{_≡_, refl, sym, ap, ap₂, _∙_, subst}
-use Prim.Native.Nat.{ℕ, zero, suc, _+_, _-_, _*_, _/_, _%_, _^_, _≤_, _<_, suc-le-suc}
-use native.Mathlib.Nat.{div-one, div-div-eq-div-mul, pow-suc, zero-mul, suc-mul, add-comm, mul-le-mul-right, le-trans, le-of-suc-le-suc, not-suc-le-zero}
+use Prim.Native.Nat.{ℕ, zero, suc, _+_, _-_, _*_, _/_, _%_, _^_, _≤_, _<_}
+use native.Mathlib.Nat.{div-div-eq-div-mul, pow-suc, zero-mul, suc-mul, add-comm, mul-le-mul-right, le-trans, le-of-suc-le-suc, not-suc-le-zero}
 use native.Mathlib.Numerals.{add-one}
 use native.Mathlib.Omega.{arith}
 use lib.Bits.{bitOr}
-use lib.Dec.{eqb, leb}
+use lib.Dec.{leb}
 use lib.ListN.{length, getD, take, drop}
 use lib.Seq.{drop-cons, drop-drop}
 use borrow.Author.Tests.{eq-eqb, leb-true, le-leb, not-true}
 use Rattle.math.specs.BitLaws.{bit-of-zero, bit-flip}
 use Rattle.math.specs.Bits.{bit, flip}
 use Rattle.math.specs.ListLaws.{here, getD-in, and-split, and-join, same-tests}
-use Rattle.math.specs.Lists.{_∈_, any, all, Distinct, distinct-nil, distinct-cons}
+use Rattle.math.specs.Lists.{_∈_, all, Distinct, distinct-nil, distinct-cons}
 use Rattle.math.specs.SetLaws.{bit-other}
 use Rattle.points.specs.Points.{Clause, numberedFrom, numbered}
 use Rattle.permutations.specs.Contracts.{fresh, Movable, Listed}

@@ -1,19 +1,19 @@
 -- Laws of permutations: what the computed tests say, and that n numbers of 1 to n without repetition are each of them once.
 -- Assumes nothing.
-use mathlib.Core.Bool.{Bool, true, false, _&&_, _||_}
-use mathlib.Core.List.{List, [], _∷_}
+use mathlib.Core.Bool.{true}
+use mathlib.Core.List.{List}
 use mathlib.Core.Logic.{⊎-elim}
 use mathlib.Core.Path.{_≡_, refl, sym, ap, ap₂, _∙_, subst}
-use Prim.Native.Nat.{ℕ, zero, suc, _+_, _*_, _≤_, _<_}
+use Prim.Native.Nat.{ℕ, _≤_}
 use native.Mathlib.Nat.{le-antisymm, le-of-eq}
 use native.Mathlib.Omega.{arith}
 use lib.Dec.{eqb}
-use lib.ListN.{length, getD, take, drop}
+use lib.ListN.{length}
 use borrow.Author.Tests.{eqb-true, eq-eqb}
 use Rattle.math.specs.ListLaws.{and-split, and-join, or-split, or-left, or-right, any-found, any-of, all-at, all-of, has-in, in-has, decIn, count-found, count-pos, count-distinct, distinct-count, distinct-onto, distinct-range, length-range, range-in, range-out}
 use Rattle.math.specs.Lists.{_∈_, any, all, count, Distinct, range, has}
 use Rattle.points.specs.Points.{Clause, Numbered}
-use Rattle.permutations.specs.Permutations.{Permutation, IsPermutation, isPermutation, imageOfPoint, imageOfClause, clausesIn, Keeps, imageAmong, keeps, sameClause, Covered, itself, by-image, imageIn, covered, permutationsIn}
+use Rattle.permutations.specs.Permutations.{Permutation, IsPermutation, isPermutation, imageOfPoint, imageOfClause, clausesIn, Keeps, imageAmong, keeps, sameClause, Covered, itself, by-image, imageIn, covered}
 
 -- ---- the computed tests and the sentences agree
 

@@ -1,6 +1,6 @@
 -- Document 01, 'Exchanges': permutations of variables, what they do to points and clauses, and which points a set covers.
 -- Assumes nothing.
-use mathlib.Core.Bool.{Bool, true, _&&_, _||_}
+use mathlib.Core.Bool.{Bool, _&&_, _||_}
 use mathlib.Core.List.{List, [], _∷_, map}
 use mathlib.Core.Path.{_≡_}
 use Prim.Native.Nat.{ℕ, zero, suc, _-_, _*_, _/_, _%_, _^_, _≤_, _<_}
@@ -11,11 +11,11 @@ use Rattle.math.specs.Bits.{bit}
 use Rattle.math.specs.Lists.{_∈_, any, all, count, range, has}
 use Rattle.points.specs.Points.{Clause, Numbered}
 
--- "An exchange sends name i to name e(i)": the numbers e(1), e(2), ..
+-- E1: "An exchange sends name i to name e(i)": the numbers e(1), e(2), ..
 pub record Permutation : Type 0 where
   pub images : List ℕ
 
--- "every number just one time": each of 1 to n stands exactly once among n numbers
+-- S19: "every number just one time": each of 1 to n stands exactly once among n numbers
 pub record IsPermutation (n : ℕ) (e : Permutation) : Type 0 where
   pub size : length (e .images) ≡ n
   pub once : (v : ℕ) → 1 ≤ v → v ≤ n → count (eqb v) (e .images) ≡ 1
@@ -30,7 +30,7 @@ unfoldable pub moved : List ℕ → ℕ → ℕ
 moved [] s = 0
 moved (v ∷ vs) s = bitOr (s % 2 * 2 ^ (v - 1)) (moved vs (s / 2))
 
--- "The image of a choice has at e(i) the value that the choice has at i": y is the image of x, over n variables
+-- E2: "The image of a choice has at e(i) the value that the choice has at i": y is the image of x, over n variables
 pub record IsImage (n : ℕ) (e : Permutation) (x y : ℕ) : Type 0 where
   pub within : y < 2 ^ n
   pub value : (i : ℕ) → i < n → bit y (getD (e .images) i 0 - 1) ≡ bit x i
@@ -40,7 +40,7 @@ unfoldable pub imageOfPoint : Permutation → ℕ → ℕ
 unfolding moved
 imageOfPoint e x = moved (e .images) x
 
--- "a rule's image lists e(i) as the rule listed i"
+-- E2: "a rule's image lists e(i) as the rule listed i"
 unfoldable pub imageOfClause : Permutation → Clause → Clause
 unfolding moved
 imageOfClause e c = record { positive = moved (e .images) (c .positive); negative = moved (e .images) (c .negative) }
@@ -49,7 +49,7 @@ imageOfClause e c = record { positive = moved (e .images) (c .positive); negativ
 abbrev pub clausesIn : List Numbered → List Clause
 clausesIn cs = map (λ (c : Numbered). c .clause) cs
 
--- "It keeps the rules if the image of each rule, as two sets of names, is among the rules."
+-- E3: "It keeps the rules if the image of each rule, as two sets of names, is among the rules."
 abbrev pub Keeps : Permutation → List Numbered → Type 0
 Keeps e cs = (c : Clause) → c ∈ clausesIn cs → imageOfClause e c ∈ clausesIn cs
 
@@ -66,7 +66,8 @@ unfoldable pub keeps : List Numbered → Permutation → Bool
 unfolding all any imageOfClause sameClause
 keeps cs e = all (imageAmong (clausesIn cs) e) (clausesIn cs)
 
--- "A choice is covered by a set if it or its image under one listed exchange is in the set."
+-- E6: "A choice is covered by a set if it or its image under one listed exchange is in the set." E4: "Doing nothing always counts as an
+-- exchange, unlisted" (itself); E5: "here one listed exchange, applied one time, counts" (by-image)
 pub data Covered (es : List Permutation) (ps : List ℕ) (x : ℕ) : Type 0 where
   itself : x ∈ ps → Covered es ps x
   by-image : (e : Permutation) → e ∈ es → imageOfPoint e x ∈ ps → Covered es ps x
@@ -80,7 +81,7 @@ unfoldable pub covered : List Permutation → List ℕ → ℕ → Bool
 unfolding any imageOfPoint
 covered es ps x = has x ps || any (imageIn ps x) es
 
--- "they stand without gaps, n bytes each, e(1) first": the first k permutations in a run of bytes
+-- S21: "they stand without gaps, n bytes each, e(1) first": the first k permutations in a run of bytes
 unfoldable pub permutationsIn : ℕ → ℕ → List ℕ → List Permutation
 permutationsIn n zero bytes = []
 permutationsIn n (suc k) bytes = record { images = take n bytes } ∷ permutationsIn n k (drop n bytes)

@@ -1,18 +1,18 @@
 -- Laws of points and clauses: what the computed tests say, and distance. Assumes nothing.
-use mathlib.Core.Bool.{Bool, true, false, not, cond, _&&_, _||_, xor, true≢false, false≢true}
+use mathlib.Core.Bool.{Bool, true, false, not, cond, _&&_, xor, true≢false, false≢true}
 use mathlib.Core.List.{List, [], _∷_, _++_, List·Memᴰ·head, List·Memᴰ·tail, List·Memᴰ·not-nil}
-use mathlib.Core.Logic.{_⊎_, inl, inr, ⊎-elim}
-use mathlib.Core.Option.{Option, some, none, Option·some-ne-none, Option·none-ne-some, Option·some-injective}
-use mathlib.Core.Path.{_≡_, refl, sym, ap, ap₂, _∙_, subst}
-use Prim.Native.Nat.{ℕ, zero, suc, _<_, _^_}
+use mathlib.Core.Logic.{⊎-elim}
+use mathlib.Core.Option.{some, none, Option·some-ne-none, Option·none-ne-some, Option·some-injective}
+use mathlib.Core.Path.{_≡_, refl, sym, ap, _∙_}
+use Prim.Native.Nat.{ℕ, _<_, _^_}
 use lib.Bits.{bitAnd, bitXor, xor-lt}
 use lib.Count.{ones}
 use lib.Dec.{eqb}
-use borrow.Author.Tests.{eq-eqb, ne-eqb, eqb-true, eqb-false, not-true}
+use borrow.Author.Tests.{ne-eqb, eqb-false, not-true}
 use Rattle.math.specs.BitLaws.{bit-and, bit-xor, bit-of-zero, some-bit, differing-bit}
 use Rattle.math.specs.Bits.{bit}
-use Rattle.math.specs.ListLaws.{count-ext, or-split, or-left, or-right, or-none, and-split, and-join, not-true-false, true-or-false, here}
-use Rattle.math.specs.Lists.{_∈_, count, below}
+use Rattle.math.specs.ListLaws.{count-ext, or-split, or-left, or-right, and-split, and-join, not-true-false, true-or-false, here}
+use Rattle.math.specs.Lists.{_∈_, below}
 use Rattle.math.specs.SetLaws.{ones-count}
 use Rattle.points.specs.Points.{Clause, Satisfies, by-yes, by-no, satisfies, distance, Numbered, SatisfiesAll, FirstFalsified, firstFalsified}
 
@@ -126,3 +126,12 @@ first-sound (d ∷ ds) x c h = by (satisfies (d .clause) x) refl h (first-sound 
           falsified = falsifies (c .clause) x (ap (λ (c : Numbered). satisfies (c .clause) x) (sym same) ∙ e);
           earlier = λ c m. absurd (List·Memᴰ·not-nil m);
         }
+
+-- ---- S5: "So a rule without names is met by none, one that lists a name both ways by all, and a repeated entry counts once."
+
+pub no-names : (x : ℕ) → Satisfies (record { positive = 0; negative = 0 }) x → ⊥
+no-names x (by-yes i p q) = true≢false (sym p ∙ bit-of-zero i)
+no-names x (by-no i p q) = true≢false (sym p ∙ bit-of-zero i)
+
+pub both-ways : (c : Clause) (i : ℕ) → bit (c .positive) i ≡ true → bit (c .negative) i ≡ true → (x : ℕ) → Satisfies c x
+both-ways c i p q x = ⊎-elim (by-yes i p) (by-no i q) (true-or-false (bit x i))

@@ -1,30 +1,31 @@
 -- Document 01, 'Sheet': names, choices and rules, here variables, points and clauses. Sizes are open: a point is a number.
+-- S1: "A name is a variable, numbered 1 to n": variable i is digit i − 1.
 -- Assumes nothing.
 use mathlib.Core.Bool.{Bool, true, false, not, cond, _||_, xor}
 use mathlib.Core.List.{List, [], _∷_, _++_}
 use mathlib.Core.Option.{Option, some, none}
 use mathlib.Core.Path.{_≡_}
-use Prim.Native.Nat.{ℕ, zero, suc, _<_, _^_}
+use Prim.Native.Nat.{ℕ, suc, _<_, _^_}
 use lib.Bits.{bitAnd, bitOr}
 use lib.Dec.{eqb}
 use Rattle.math.specs.Bits.{bit, members}
 use Rattle.math.specs.Lists.{_∈_, count, below}
 
--- "A choice (point) is a 64-bit number: bit i−1 is 1 where name i is yes; bits n and up are 0": a point of n variables
+-- S2: "A choice (point) is a 64-bit number: bit i−1 is 1 where name i is yes; bits n and up are 0": a point of n variables
 abbrev pub Point : ℕ → ℕ → Type 0
 Point n x = x < 2 ^ n
 
--- "names that differ from the wish": the number of variables, of n, in which two points differ
+-- W5: "names that differ from the wish": the number of variables, of n, in which two points differ
 unfoldable pub distance : ℕ → ℕ → ℕ → ℕ
 unfolding count xor
 distance n x y = count (λ i. xor (bit x i) (bit y i)) (below n)
 
--- "A rule (clause) is two such numbers: names wanted yes, names wanted no": a set of variables each
+-- S3: "A rule (clause) is two such numbers: names wanted yes, names wanted no": a set of variables each
 pub record Clause : Type 0 where
   pub positive : ℕ
   pub negative : ℕ
 
--- "A choice meets a rule if some listed name has the listed value."
+-- S4: "A choice meets a rule if some listed name has the listed value."
 pub data Satisfies (c : Clause) (x : ℕ) : Type 0 where
   by-yes : (i : ℕ) → bit (c .positive) i ≡ true → bit x i ≡ true → Satisfies c x
   by-no : (i : ℕ) → bit (c .negative) i ≡ true → bit x i ≡ false → Satisfies c x
@@ -33,16 +34,16 @@ pub data Satisfies (c : Clause) (x : ℕ) : Type 0 where
 unfoldable pub satisfies : Clause → ℕ → Bool
 satisfies c x = not (eqb (bitAnd x (c .positive)) 0) || not (eqb (bitAnd x (c .negative)) (c .negative))
 
--- the names that a rule lists, either way
+-- the variables that a clause lists, either way
 unfoldable pub listed : Clause → ℕ
 listed c = bitOr (c .positive) (c .negative)
 
--- "For each name listed there, ascending": a clause's variables, of n, as digits
+-- W7: "For each name listed there, ascending": a clause's variables, of n, as digits
 unfoldable pub variables : ℕ → Clause → List ℕ
 unfolding members listed
 variables n c = members n (listed c)
 
--- "Rules are numbered from 1 in sheet order."
+-- S6: "Rules are numbered from 1 in sheet order."
 pub record Numbered : Type 0 where
   pub number : ℕ
   pub clause : Clause
@@ -54,11 +55,11 @@ numberedFrom k (c ∷ cs) = record { number = k; clause = c } ∷ numberedFrom (
 abbrev pub numbered : List Clause → List Numbered
 numbered cs = numberedFrom 1 cs
 
--- "meets all rules"
+-- W5: "it meets all rules"
 abbrev pub SatisfiesAll : List Numbered → ℕ → Type 0
 SatisfiesAll cs x = (c : Numbered) → c ∈ cs → Satisfies (c .clause) x
 
--- "the lowest-numbered one unmet": falsified, and none before it is
+-- W6: "the lowest-numbered one unmet": falsified, and none before it is
 pub record FirstFalsified (cs : List Numbered) (x : ℕ) (c : Numbered) : Type 0 where
   pub before : List Numbered
   pub after : List Numbered
@@ -72,7 +73,7 @@ unfolding satisfies
 firstFalsified [] x = none
 firstFalsified (c ∷ cs) x = cond (satisfies (c .clause) x) (firstFalsified cs x) (some c)
 
--- a clause's number, 0 for none: "its slot's rule stays 0"
+-- a clause's number, 0 for none; W5: "its slot's rule stays 0"
 unfoldable pub numberOf : Option Numbered → ℕ
 numberOf none = 0
 numberOf (some c) = c .number

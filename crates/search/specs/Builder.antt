@@ -8,12 +8,12 @@ use Rattle.math.specs.Lists.{over}
 use Rattle.slices.specs.Slices.{pointsOf}
 use Rattle.formula.specs.declared.Formula.{Formula}
 use Rattle.formula.specs.Limits.{capacity}
-use Rattle.formula.specs.Problem.{Problem, problemOf}
+use Rattle.formula.specs.Problem.{problemOf}
 use Rattle.formula.specs.Refusals.{formulaFault, permutationFault, symmetryFault}
 use Rattle.formula.specs.Reply.{Reply, refused, satisfiable, unsatisfiable, unknown, Fault, sound, fault, first, unless, unlessKept}
 use Rattle.search.specs.declared.Outcome.{Outcome}
 use Rattle.search.specs.declared.Outcome.the-variants.{Satisfiable, Unsatisfiable, Unknown, Refused}
-use Rattle.search.specs.Walk.{Slot, pointsIn, walked}
+use Rattle.search.specs.Walk.{Slot, walked}
 
 -- what the code's answer says in document 01's terms
 abbrev pub replyOf : Outcome → Reply

@@ -19,7 +19,7 @@ use Rattle.permutations.specs.PermutationLaws.{covered-sound, covered-complete}
 use Rattle.permutations.specs.Permutations.{Permutation, Covered, covered}
 use Rattle.formula.specs.Problem.{Problem}
 use Rattle.formula.specs.Reply.{Reply}
-use Rattle.search.specs.Walk.{Slot, slot, pointsIn, withNumber, State, state, filled, start, Expansion, complete, full, Fills, no-more, skipped, filled-next, no-room, placed, tryFlip, expand, Walks, none-left, met, stuck, goes-on, Stepped, ends, goes, expanded, processedBy, stepFrom, Ending, followed, walk, walked}
+use Rattle.search.specs.Walk.{Slot, slot, pointsIn, withNumber, State, state, filled, start, Expansion, complete, full, Fills, no-more, skipped, filled-next, no-room, placed, expand, Walks, none-left, met, stuck, goes-on, expanded, processedBy, Ending, followed, walk, walked}
 
 -- a test that failed is a point that is not covered
 uncovered : (es : List Permutation) (ps : List ℕ) (y : ℕ) → covered es ps y ≡ false → Covered es ps y → ⊥

@@ -2,15 +2,15 @@
 use mathlib.Core.Bool.{Bool, true, false, cond}
 use mathlib.Core.List.{List, [], _∷_}
 use mathlib.Core.Logic.{_⊎_, inl, inr}
-use mathlib.Core.Option.{Option, some, none}
+use mathlib.Core.Option.{some}
 use mathlib.Core.Path.{_≡_, refl, sym, ap, _∙_}
-use Prim.Native.Nat.{ℕ, zero, suc, _+_, _≤_, _<_, min, zero-le, suc-le-suc}
+use Prim.Native.Nat.{ℕ, zero, suc, _+_, _≤_, _<_, min, zero-le}
 use native.Mathlib.Nat.{zero-min, min-zero, suc-min-suc, min-le-left, min-le-right, le-trans, le-of-eq, le-of-suc-le-suc, not-suc-le-zero}
 use native.Mathlib.Omega.{arith}
 use native.Mathlib.Numerals.{add-one}
 use lib.ListN.{length, getD, drop, drop-of-length-le, List·getD-eq-default}
 use lib.Seq.{drop-cons}
-use Rattle.points.specs.Points.{Clause, satisfies, Numbered, numberedFrom, numbered, firstFalsified, numberOf}
+use Rattle.points.specs.Points.{Clause, satisfies, numberedFrom, firstFalsified, numberOf}
 use Rattle.slices.specs.Slices.{clausesOf, noLiterals}
 
 pub length-clauses : (ps ns : List ℕ) → length (clausesOf ps ns) ≡ min (length ps) (length ns)

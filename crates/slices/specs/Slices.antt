@@ -7,7 +7,7 @@ use Rattle.points.specs.Points.{Clause}
 abbrev pub pointsOf : List ℕ → List ℕ
 pointsOf s = s
 
--- "Rules go to two lent slices": positive and negative literals side by side
+-- S23: "Rules go to two lent slices": positive and negative literals side by side
 unfoldable pub clausesOf : List ℕ → List ℕ → List Clause
 clausesOf [] ns = []
 clausesOf (p ∷ ps) [] = []

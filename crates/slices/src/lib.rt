@@ -4,7 +4,7 @@ use points::Point;
 ghost use mathlib.Core.Path.{_≡_};
 ghost use Prim.Native.Nat.{min};
 ghost use lib.ListN.{length, getD, set, take};
-ghost use Rattle.math.specs.Lists.{has, any};
+ghost use Rattle.math.specs.Lists.{has};
 ghost use Rattle.points.specs.Contracts.{clauseOf};
 ghost use Rattle.points.specs.Points.{firstFalsified, numbered, numberOf};
 ghost use Rattle.slices.specs.Slices.{pointsOf, clausesOf, noLiterals};

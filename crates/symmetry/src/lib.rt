@@ -4,7 +4,7 @@ use points::Clause;
 use slices::clause_at;
 use slices::clause_count;
 ghost use mathlib.Core.Path.{_≡_};
-ghost use Rattle.math.specs.Lists.{any, all};
+ghost use Rattle.math.specs.Lists.{any};
 ghost use Rattle.points.specs.Contracts.{clauseOf};
 ghost use Rattle.points.specs.Points.{numbered};
 ghost use Rattle.slices.specs.Slices.{clausesOf};

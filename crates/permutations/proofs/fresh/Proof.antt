@@ -1,6 +1,6 @@
 -- `permutations::fresh` meets its contract: each test says its part. Assumes nothing.
-use mathlib.Core.Bool.{not, _&&_}
-use mathlib.Core.Path.{sym, ap, _∙_}
+use mathlib.Core.Bool.{not}
+use mathlib.Core.Path.{ap}
 use borrow.Author.Needs.{needs}
 use borrow.Author.Tests.{le-leb, lt-leb}
 use Rattle.permutations.specs.Contracts.{fresh}

@@ -1,6 +1,6 @@
 -- `permutations::is_permutation` meets its contract: the test over the whole is, at index i, that over the numbers from i on with what was seen before. Assumes nothing.
 use mathlib.Core.Path.{_≡_, refl, sym, ap, _∙_}
-use Prim.Native.Nat.{ℕ, _-_, _+_, _≤_, _<_, zero-le}
+use Prim.Native.Nat.{_-_, _+_, _≤_, zero-le}
 use native.Mathlib.Omega.{arith}
 use lib.ListN.{length, getD, drop, drop-of-length-le}
 use borrow.Author.Needs.{needs}

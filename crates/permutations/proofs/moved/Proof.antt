@@ -1,6 +1,6 @@
 -- `permutations::moved` meets its contract: at index i the set holds what the numbers from i on send. Assumes nothing.
-use mathlib.Core.Path.{_≡_, refl, sym, ap, _∙_}
-use Prim.Native.Nat.{ℕ, _-_, _+_, _*_, _/_, _%_, _^_, _≤_, _<_}
+use mathlib.Core.Path.{_≡_, sym, ap, _∙_}
+use Prim.Native.Nat.{_-_, _+_, _*_, _/_, _%_, _^_, _≤_, _<_}
 use lib.Bits.{bitOr}
 use native.Mathlib.Nat.{div-one, le-refl}
 use native.Mathlib.Omega.{arith}

@@ -1,8 +1,5 @@
 -- `permutations::permutation_at` meets its contract. Assumes nothing.
-use mathlib.Core.Path.{ap}
-use Prim.Native.Nat.{ℕ, _*_}
 use native.Mathlib.Nat.{add-sub-cancel-left}
-use lib.ListN.{take, drop}
 use borrow.Author.Needs.{needs}
 use Rattle.permutations.proofs.permutation_at.Statement.{statement}
 use Rattle.permutations.proofs.permutation_at.Tie as tie

@@ -1,5 +1,4 @@
 -- `points::distance` meets its contract: the ones of x ^ y are the places in which x and y differ. Assumes nothing.
-use lib.Bits.{xor-lt}
 use Rattle.points.specs.PointLaws.{ones-distance}
 use Rattle.points.proofs.distance.Statement.{statement}
 use Rattle.points.proofs.distance.Tie as tie

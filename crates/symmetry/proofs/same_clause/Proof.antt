@@ -1,6 +1,5 @@
 -- `symmetry::same_clause` meets its contract: the second test is reached where the first passes. Assumes nothing.
-use mathlib.Core.Bool.{_&&_}
-use mathlib.Core.Path.{sym, ap, _∙_}
+use mathlib.Core.Path.{sym, _∙_}
 use borrow.Author.Needs.{needs}
 use Rattle.permutations.specs.Permutations.{sameClause}
 use Rattle.symmetry.proofs.same_clause.Statement.{statement}

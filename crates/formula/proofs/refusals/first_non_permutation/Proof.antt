@@ -1,5 +1,5 @@
 -- `formula::refusals::first_non_permutation` meets its contract: the number over all is, at index i, that over the permutations from i on. Assumes nothing.
-use mathlib.Core.Path.{_≡_, refl, sym, ap, _∙_, subst}
+use mathlib.Core.Path.{_≡_, sym, ap, _∙_}
 use Prim.Native.Nat.{_-_, _<_}
 use native.Mathlib.Nat.{le-of-eq, le-trans, lt-of-lt-of-le}
 use lib.ListN.{length, getD, drop}
@@ -7,7 +7,7 @@ use borrow.Author.Needs.{needs}
 use borrow.Author.Tests.{not-true, not-false}
 use Rattle.math.specs.Lists.{firstFailing}
 use Rattle.math.specs.ScanLaws.{onFrom, failing-begins, failing-ends, failing-stops, failing-goes-on}
-use Rattle.permutations.specs.Permutations.{Permutation, isPermutation, permutationsIn}
+use Rattle.permutations.specs.Permutations.{isPermutation, permutationsIn}
 use Rattle.permutations.specs.LoopLaws.{noPermutation, length-permutations, permutation-at, part-ends}
 use Rattle.formula.proofs.refusals.first_non_permutation.Statement.{statement}
 use Rattle.formula.proofs.refusals.first_non_permutation.Tie as tie

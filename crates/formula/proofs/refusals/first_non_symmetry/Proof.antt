@@ -1,5 +1,5 @@
 -- `formula::refusals::first_non_symmetry` meets its contract: the number over all is, at index i, that over the permutations from i on. Assumes nothing.
-use mathlib.Core.Path.{_≡_, refl, sym, ap, _∙_, subst}
+use mathlib.Core.Path.{_≡_, sym, ap, _∙_, subst}
 use Prim.Native.Nat.{_-_, _<_}
 use native.Mathlib.Nat.{le-of-eq, le-trans, lt-of-lt-of-le}
 use lib.ListN.{length, getD, drop}
@@ -11,7 +11,7 @@ use Rattle.points.specs.Points.{numbered}
 use Rattle.slices.specs.Slices.{clausesOf}
 use Rattle.permutations.specs.Contracts.{Movable}
 use Rattle.permutations.specs.LoopLaws.{noPermutation, length-permutations, permutation-at, listed-room, listed-movable}
-use Rattle.permutations.specs.Permutations.{Permutation, keeps, permutationsIn}
+use Rattle.permutations.specs.Permutations.{keeps, permutationsIn}
 use Rattle.formula.proofs.refusals.first_non_symmetry.Statement.{statement}
 use Rattle.formula.proofs.refusals.first_non_symmetry.Tie as tie
 

@@ -1,9 +1,9 @@
 -- `formula::refusals::fits` meets its contract: a test that fails refutes the whole, and where all pass it is their conjunction. Assumes nothing.
-use mathlib.Core.Path.{_≡_, sym, _∙_}
+use mathlib.Core.Path.{sym, _∙_}
 use native.Mathlib.Omega.{arith}
 use borrow.Author.Needs.{needs}
 use Rattle.math.specs.ListLaws.{not-true-false, same-tests}
-use mathlib.Core.Bool.{true, true≢false}
+use mathlib.Core.Bool.{true≢false}
 use Rattle.formula.specs.RefusalLaws.{fits-sound, fits-complete, allBelow-sound, allBelow-complete}
 use Rattle.formula.proofs.refusals.fits.Statement.{statement}
 use Rattle.formula.proofs.refusals.fits.Tie as tie
