@@ -14,7 +14,7 @@ use Rattle.certificate.specs.declared.Entry.the-variants.{Value, Outside
 use Rattle.certificate.specs.declared.Opened.{Opened}
 use Rattle.certificate.specs.declared.Opened.the-variants.{File, Refused}
 
--- what the code's answers say in document 01's terms
+-- F10: what the code's answers say in document 01's terms
 unfoldable pub replyOf : Opened → Reply
 replyOf (File c) = opened
 replyOf (Refused code place) = refused code place

@@ -14,7 +14,7 @@ use Rattle.certificate.specs.Rows.{pointsFault, numbersFault, roomFault}
 use Rattle.certificate.specs.declared.Written.{Written}
 use Rattle.certificate.specs.declared.Written.the-variants.{Bytes, Refused}
 
--- what the code's answer says in document 01's terms
+-- F10: what the code's answer says in document 01's terms
 unfoldable pub replyOf : Written → Reply
 replyOf (Bytes size) = written size
 replyOf (Refused code place) = refused code place

@@ -21,7 +21,7 @@ use Rattle.checker.specs.Stable.{Stable}
 use Rattle.checker.specs.declared.Verdict.{Verdict}
 use Rattle.checker.specs.declared.Verdict.the-variants.{Accepted, Refused}
 
--- what the code's answer says in document 01's terms
+-- F10: what the code's answer says in document 01's terms
 unfoldable pub replyOf : Verdict → Reply
 replyOf Accepted = accepted
 replyOf (Refused code place) = refused code place

@@ -77,7 +77,7 @@ positiveA = 3 ∷ 2 ∷ 1 ∷ 0 ∷ []
 abbrev negativeA : List ℕ
 negativeA = 0 ∷ 1 ∷ 2 ∷ 3 ∷ []
 
--- "cannot be met; 00 10 01 11, rules 1 2 3 4, depths 0 1 1 2"
+-- V1: "cannot be met; 00 10 01 11, rules 1 2 3 4, depths 0 1 1 2"
 abbrev pub caseA : Case
 caseA =
     record {
@@ -90,7 +90,7 @@ caseA =
       certificate = none;
     }
 
--- "A with exchange 2 1: 00 10 11, rules 1 2 4, depths 0 1 2. Certificate 70 bytes, bodies at 32, 34, 58."
+-- V2: "A with exchange 2 1: 00 10 11, rules 1 2 4, depths 0 1 2. Certificate 70 bytes, bodies at 32, 34, 58."
 abbrev pub caseA-swap : Case
 caseA-swap =
     record {
@@ -103,23 +103,23 @@ caseA-swap =
       certificate = some (record { size = 70; permutationsAt = 32; pointsAt = 34; numbersAt = 58 });
     }
 
--- "A, P = 3, no exchange: no room, d 1."
+-- V3: "A, P = 3, no exchange: no room, d 1."
 abbrev pub caseA-3 : Case
 caseA-3 = record { formula = plain 2 4; positive = positiveA; negative = negativeA; lent = 3; reply = unknown 1 3; slots = none; certificate = none }
 
--- "P = 4: cannot be met."
+-- V3: "P = 4: cannot be met."
 abbrev pub caseA-4 : Case
 caseA-4 = record { formula = plain 2 4; positive = positiveA; negative = negativeA; lent = 4; reply = unsatisfiable 4; slots = none; certificate = none }
 
--- "B: n 3, rules (1 2) (−1 3), wish 000: met by 010, changes 1, slots 4."
+-- V4: "B: n 3, rules (1 2) (−1 3), wish 000: met by 010, changes 1, slots 4."
 abbrev pub caseB : Case
 caseB = record { formula = plain 3 2; positive = 3 ∷ 4 ∷ []; negative = 0 ∷ 1 ∷ []; lent = 65536; reply = satisfiable 2 1 4; slots = none; certificate = none }
 
--- "P = 3: no room, d 1."
+-- V4: "P = 3: no room, d 1."
 abbrev pub caseB-3 : Case
 caseB-3 = record { formula = plain 3 2; positive = 3 ∷ 4 ∷ []; negative = 0 ∷ 1 ∷ []; lent = 3; reply = unknown 1 3; slots = none; certificate = none }
 
--- "C = 0: met by the wish, changes 0."
+-- V5: "C = 0: met by the wish, changes 0."
 abbrev pub case-none : Case
 case-none =
     record {
@@ -132,11 +132,11 @@ case-none =
       certificate = none;
     }
 
--- "One empty rule: cannot be met, one slot."
+-- V5: "One empty rule: cannot be met, one slot."
 abbrev pub case-empty : Case
 case-empty = record { formula = plain 1 1; positive = 0 ∷ []; negative = 0 ∷ []; lent = 65536; reply = unsatisfiable 1; slots = none; certificate = none }
 
--- "Rule (1 −1), n 1: met by the wish."
+-- V6: "Rule (1 −1), n 1: met by the wish."
 abbrev pub case-both : Case
 case-both = record { formula = plain 1 1; positive = 1 ∷ []; negative = 1 ∷ []; lent = 1; reply = satisfiable 0 0 1; slots = none; certificate = none }
 
@@ -191,7 +191,7 @@ pub swap-accepted : checkReply (caseA-swap .formula) positiveA negativeA (certif
 unfolding checkReply searchSlots certificateOf bit flip
 swap-accepted = refl
 
--- "For `p cnf 3 2`, `c wish 000`, `1 2 0`, `-1 3 0` on four lines": the reader yields the formula and the clauses of B
+-- P2: "For `p cnf 3 2`, `c wish 000`, `1 2 0`, `-1 3 0` on four lines": the reader yields the formula and the clauses of B
 pub record Yields (text : List ℕ) (c : Case) : Type 0 where
   pub answer : readReply text (0 ∷ 0 ∷ []) (0 ∷ 0 ∷ []) ≡ parsed
   pub formula : readFormula text (0 ∷ 0 ∷ []) (0 ∷ 0 ∷ []) ≡ c .formula

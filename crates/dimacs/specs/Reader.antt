@@ -255,7 +255,7 @@ reading text p q = cond (leb (length text) maxText) (withLines (length text) p q
 
 -- ---- what the reader answers, and what it leaves in the slices
 
--- D1: "an answer or a numbered refusal with its place"
+-- D1.1: "an answer or a numbered refusal with its place"
 unfoldable pub replyTo : Step Input → Reply
 replyTo (goes d) = parsed
 replyTo (refuses code place) = refused code place
@@ -272,7 +272,7 @@ unfolding over
 sliceFrom part (goes d) old = over (part (d .clauses)) old
 sliceFrom part (refuses code place) old = old
 
--- D1, D2.1: what the reader answers
+-- D1.1, D2.1: what the reader answers
 unfoldable pub readReply : List ℕ → List ℕ → List ℕ → Reply
 unfolding reading replyTo
 readReply text positive negative = replyTo (reading text (length positive) (length negative))
@@ -291,7 +291,7 @@ unfoldable pub readNegative : List ℕ → List ℕ → List ℕ → List ℕ
 unfolding reading sliceFrom
 readNegative text positive negative = sliceFrom negatives (reading text (length positive) (length negative)) negative
 
--- the reply that an answer of the code is
+-- F10: the reply that an answer of the code is
 abbrev pub replyOf : Parse → Reply
 replyOf Accepted = parsed
 replyOf (Refused code place) = refused code place

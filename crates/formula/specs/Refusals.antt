@@ -65,7 +65,7 @@ problemFault f positive negative =
     let pb = problemOf f positive negative in
     first (formulaFault f positive negative ∷ permutationFault (pb .variables) (pb .permutations) ∷ symmetryFault (pb .clauses) (pb .permutations) ∷ [])
 
--- what the code's answer of a test means
+-- F10: what the code's answer of a test means
 abbrev pub faultOf : Checked → Fault
 faultOf Passed = sound
 faultOf (Refused code place) = fault code place

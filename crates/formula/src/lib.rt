@@ -5,7 +5,7 @@ ghost use Rattle.formula.specs.Problem.{emptyFormula};
 
 pub mod refusals;
 
-// A CNF formula with its target point (01: wish) and its permutations (01: exchanges), which stand in `images` without gaps,
+// F3: a CNF formula with its target point (01: wish) and its permutations (01: exchanges), which stand in `images` without gaps,
 // `variables` bytes each. Its clauses lie in two slices beside it.
 pub struct Formula {
     pub variables: u32,
@@ -22,6 +22,7 @@ pub enum Checked {
 }
 
 impl Formula {
+    // F5: "The limits 64, 4,096, 16 and 65,536 belong to the sheet's own kind".
     pub const MAX_VARIABLES: u32 = 64;
 
     pub const MAX_CLAUSES: u32 = 4096;
@@ -32,7 +33,7 @@ impl Formula {
     // Bytes for the images of the most permutations of the most variables.
     pub const IMAGES: usize = 1024;
 
-    // The formula that is 0 throughout, which a refusal carries.
+    // F5, N2: the formula that is 0 throughout, which a refusal carries.
     pub fn empty() -> Formula
         ensures { λ r. ⌜ r ≡ emptyFormula ⌝ }
     {

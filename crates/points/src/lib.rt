@@ -62,14 +62,14 @@ pub fn carry(r: Point, s: Point, i: u32, v: u32) -> Point
     moved | r
 }
 
-// The lowest variable of a set, as its bit; 64 for the empty set.
+// F1: the lowest variable of a set, as its bit, by trailing zeros; 64 for the empty set.
 pub fn next_variable(s: Point) -> u32
     ensures { λ r. ⌜ NextVariable s r ⌝ }
 {
     u64::trailing_zeros(s)
 }
 
-// The number of variables in which two points differ.
+// F1: the number of variables in which two points differ, by the count of ones.
 pub fn distance(x: Point, y: Point) -> u32
     ensures { λ r. ⌜ r ≡ distance 64 x y ⌝ }
 {

@@ -15,7 +15,7 @@ use Rattle.search.specs.declared.Outcome.{Outcome}
 use Rattle.search.specs.declared.Outcome.the-variants.{Satisfiable, Unsatisfiable, Unknown, Refused}
 use Rattle.search.specs.Walk.{Slot, walked}
 
--- what the code's answer says in document 01's terms
+-- F10: what the code's answer says in document 01's terms
 abbrev pub replyOf : Outcome → Reply
 replyOf (Satisfiable x d k) = satisfiable x d k
 replyOf (Unsatisfiable k) = unsatisfiable k
