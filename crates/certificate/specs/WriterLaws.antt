@@ -23,7 +23,7 @@ use Rattle.formula.specs.RefusalLaws.{formula-passes}
 use Rattle.formula.specs.Reply.{unlessKept, sound, first, written}
 use Rattle.certificate.specs.Certificate.{FileContents, layout, certificateLength, Encodable}
 use Rattle.certificate.specs.CertificateLaws.{length-encode, contents-encode, encode-wellFormed, encode-permutations, encode-points, encode-numbers}
-use Rattle.formula.specs.ReplyLaws.{first-split, tested, each-passed, below-passed, not-refused, written-not-refused, unless-sound}
+use Rattle.formula.specs.ReplyLaws.{first-none, first-join, first-split, tested, each-passed, below-passed, not-refused, written-not-refused, unless-sound}
 use Rattle.certificate.specs.RowLaws.{points-passed, point-passes-take, clause-found, numbered-range, number-passed}
 use Rattle.certificate.specs.Rows.{pointPasses, pointsFault, numberPasses, numbersFault, roomFault}
 use Rattle.certificate.specs.Writer.{lengthNeeded, writeFault, writeReply, certificateOf, writeOutput, ReadsAs}
@@ -45,7 +45,8 @@ module _ (f : Formula) (positive negative points numbers depths : List ℕ) (cou
     pub row17 : numbersFault (pb .clauses) count (pointsOf points) numbers ≡ sound
     pub row19 : roomFault (lengthNeeded pb count) (length out) ≡ sound
 
-  write-rows : writeFault f positive negative points numbers depths count out
+  -- the writer's rows, in their order
+  pub write-rows : writeFault f positive negative points numbers depths count out
       ≡ first (formulaFault f positive negative ∷ permutationFault (pb .variables) (pb .permutations) ∷ symmetryFault (pb .clauses) (pb .permutations)
       ∷ pointsFault lent (pb .variables) count (pointsOf points) ∷ numbersFault (pb .clauses) count (pointsOf points) numbers ∷ roomFault (lengthNeeded pb count) (length out) ∷ [])
   unfolding writeFault
@@ -60,6 +61,11 @@ module _ (f : Formula) (positive negative points numbers depths : List ℕ) (cou
       let e = first-split _ _ (d .1) in
       let g = first-split _ _ (e .1) in
       record { row10 = a .0; row11 = b .0; row12 = c .0; row16 = d .0; row17 = e .0; row19 = g .0 }
+
+  pub passed-writer : WriterPassed → writeFault f positive negative points numbers depths count out ≡ sound
+  passed-writer w =
+      write-rows
+      ∙ first-join _ _ (w .row10) (first-join _ _ (w .row11) (first-join _ _ (w .row12) (first-join _ _ (w .row16) (first-join _ _ (w .row17) (first-join _ _ (w .row19) first-none)))))
 
   -- the points and the clause numbers of the slots given
   abbrev xs : List ℕ

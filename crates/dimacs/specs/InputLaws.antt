@@ -5,11 +5,12 @@ use mathlib.Core.Path.{_≡_, refl, sym, ap, ap₂, _∙_, subst}
 use Prim.Native.Nat.{ℕ, _-_, _*_, _≤_, _<_, _^_}
 use native.Mathlib.Nat.{mul-le-mul}
 use native.Mathlib.Omega.{arith}
-use lib.ListN.{length, take, drop, replicate, length-append, length-drop, length-map, length-replicate}
+use lib.ListN.{length, take, drop, replicate, length-append, length-map, length-replicate}
 use lib.Pow.{pow-pos}
 use lib.Seq.{take-at, drop-at}
 use Rattle.math.specs.ListLaws.{here, map-out}
 use Rattle.math.specs.Lists.{over, _∈_}
+use Rattle.math.specs.PartLaws.{over-front}
 use Rattle.math.specs.SplitLaws.{length-flatMap}
 use Rattle.points.specs.Points.{Clause, numbered}
 use Rattle.slices.specs.Slices.{clausesOf}
@@ -104,18 +105,6 @@ pub clauses-back : (cs : List Clause) → clausesOf (positives cs) (negatives cs
 unfolding clausesOf
 clauses-back [] = refl
 clauses-back (c ∷ cs) = ap (λ l. c ∷ l) (clauses-back cs)
-
-pub over-front : (k : ℕ) (new old : List ℕ) → length new ≡ k → take k (over new old) ≡ new
-unfolding over
-over-front k new old e = take-at new (drop (length new) old) k e
-
-pub over-rest : (k : ℕ) (new old : List ℕ) → length new ≡ k → drop k (over new old) ≡ drop k old
-unfolding over
-over-rest k new old e = drop-at new (drop (length new) old) k e ∙ ap (λ j. drop j old) e
-
-pub over-length : (new old : List ℕ) → length new ≤ length old → length (over new old) ≡ length old
-unfolding over
-over-length new old le = omega (arith, length-append new (drop (length new) old), length-drop (length new) old)
 
 pub input-problem : (d : Input) → Proper d → (positive₀ negative₀ : List ℕ)
     → problemOf (formulaOf d) (take (length (d .clauses)) (over (positives (d .clauses)) positive₀)) (take (length (d .clauses)) (over (negatives (d .clauses)) negative₀))

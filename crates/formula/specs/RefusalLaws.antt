@@ -1,19 +1,21 @@
 -- Laws of the refusals 10, 11 and 12: what is known once each has passed, and what passes. Assumes nothing.
 use mathlib.Core.Bool.{Bool, true, false, cond, _&&_}
 use mathlib.Core.List.{List, [], _∷_}
-use mathlib.Core.Path.{_≡_, refl, sym, ap, _∙_}
+use mathlib.Core.Path.{_≡_, refl, sym, ap, _∙_, subst}
 use Prim.Native.Nat.{ℕ, _*_, _^_, _≤_, _<_}
 use native.Mathlib.Nat.{le-trans, mul-le-mul, le-of-eq}
 use lib.Dec.{leb, ltb, eqb}
 use lib.ListN.{length}
 use borrow.Author.Tests.{leb-true, le-leb, lt-leb, ltb-true, lt-ltb, eqb-true, eq-eqb}
-use Rattle.math.specs.ListLaws.{and-split, all-at, all-of}
+use Rattle.math.specs.ListLaws.{and-split, all-at, all-of, map-in}
 use Rattle.math.specs.PartLaws.{none-failing, all-passing}
 use Rattle.math.specs.Lists.{_∈_, firstFailing}
 use Rattle.points.specs.Points.{Numbered, numbered}
+use Rattle.slices.specs.SliceLaws.{clause-sets}
 use Rattle.slices.specs.Slices.{clausesOf}
+use Rattle.theory.specs.Notions.{ClausesBelow}
 use Rattle.permutations.specs.Contracts.{Movable, Listed}
-use Rattle.permutations.specs.LoopLaws.{length-permutations}
+use Rattle.permutations.specs.LoopLaws.{length-permutations, clausesIn-numbered}
 use Rattle.permutations.specs.PermutationLaws.{isPermutation-sound, isPermutation-complete, keeps-sound, keeps-complete, permutation-within}
 use Rattle.permutations.specs.Permutations.{Permutation, IsPermutation, isPermutation, Keeps, keeps, permutationsIn}
 use Rattle.formula.specs.declared.Formula.{Formula}
@@ -56,6 +58,12 @@ module _ (n m : ℕ) (positive negative : List ℕ) where
   unfolding fits
   fits-complete f =
       rw (le-leb 1 n (f .some-variable), le-leb n maxVariables (f .few-variables), le-leb m maxClauses (f .few-clauses), eq-eqb (length positive) m (f .positive-length), eq-eqb (length negative) m (f .negative-length), allBelow-complete n positive (f .positive-below), allBelow-complete n negative (f .negative-below))
+
+-- clauses that refusal 10 lets pass list none but the variables below n
+pub fits-below : (n m : ℕ) (positive negative : List ℕ) → Fits n m positive negative → ClausesBelow n (numbered (clausesOf positive negative))
+fits-below n m positive negative f c k =
+    let w = clause-sets positive negative (c .clause) (subst (λ l. c .clause ∈ l) (clausesIn-numbered 1 (clausesOf positive negative)) (map-in (λ (c : Numbered). c .clause) k)) in
+    record { positive-below = f .positive-below (c .clause .positive) (w .0); negative-below = f .negative-below (c .clause .negative) (w .1) }
 
 -- ---- 11
 

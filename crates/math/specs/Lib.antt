@@ -8,3 +8,4 @@ pub mod Bits
 pub mod BitLaws
 pub mod SetLaws
 pub mod CountLaws
+pub mod QueueLaws

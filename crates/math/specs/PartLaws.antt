@@ -8,11 +8,11 @@ use native.Mathlib.Nat.{not-suc-le-zero, le-of-suc-le-suc, zero-add}
 use native.Mathlib.Decide.{ℕ-discrete}
 use native.Mathlib.Omega.{arith}
 use lib.Dec.{eqb}
-use lib.ListN.{length, getD, take, drop}
+use lib.ListN.{length, getD, take, drop, length-append, length-drop}
 use lib.Seq.{take-at, drop-at}
 use borrow.Author.Tests.{eq-eqb, ne-eqb}
 use Rattle.math.specs.ListLaws.{here, getD-in, in-getD, count-pos, count-none, range-out, range-in}
-use Rattle.math.specs.Lists.{_∈_, count, failingAt, firstFailing, Distinct, distinct-nil, distinct-cons, range, below}
+use Rattle.math.specs.Lists.{_∈_, count, failingAt, firstFailing, Distinct, distinct-nil, distinct-cons, range, below, over}
 
 -- the first failure's number is 0 only where the head passes and the tail has none
 failing-zero : (b : Bool) (k : ℕ) → failingAt b k ≡ 0 → (b ≡ true) × (k ≡ 0)
@@ -40,6 +40,20 @@ module _ {A : Type 0} where
 
   pub part-last : (a b : List A) (i j : ℕ) → length a ≡ i → length b ≡ j → take j (drop i (a ++ b)) ≡ b
   part-last a b i j p q = ap (λ l. take j (drop i l)) (sym (append-nil (a ++ b))) ∙ part-middle a b [] i j p q
+
+  -- ---- new contents in front of what was there
+
+  pub over-front : (k : ℕ) (new old : List A) → length new ≡ k → take k (over new old) ≡ new
+  unfolding over
+  over-front k new old e = take-at new (drop (length new) old) k e
+
+  pub over-rest : (k : ℕ) (new old : List A) → length new ≡ k → drop k (over new old) ≡ drop k old
+  unfolding over
+  over-rest k new old e = drop-at new (drop (length new) old) k e ∙ ap (λ j. drop j old) e
+
+  pub over-length : (new old : List A) → length new ≤ length old → length (over new old) ≡ length old
+  unfolding over
+  over-length new old le = omega (arith, length-append new (drop (length new) old), length-drop (length new) old)
 
   -- ---- what holds of each element of a list
 

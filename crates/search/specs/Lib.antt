@@ -1,4 +1,19 @@
--- The search: its definition, and what the builder's contract cites.
+-- The search: its definition, its theory, and what the builder's contract cites.
 pub mod Walk
-pub mod Builder
+pub mod Invariants
+pub mod InvariantLaws
+pub mod ExpansionLaws
+pub mod Ends
+pub mod Measure
+pub mod Answers
+pub mod Bound
+pub mod Nearest
+pub mod Complete
+pub mod Room
+pub mod Closed
 pub mod WalkLaws
+pub mod Builder
+pub mod Accepted
+pub mod Inputs
+pub mod Theorems
+pub mod Examples

@@ -52,20 +52,27 @@ pub data Expansion : Type 0 where
 
 -- `known` are the processed slots, the last of them that of the point x at depth d
 module _ (es : List Permutation) (capacity : ℕ) (known : List Slot) (x d : ℕ) where
+  -- W7: "the point with that name flipped .. fills the next slot with rule 0 and depth one more": the slot of a flip y, behind those that wait
+  abbrev pub filledBy : ℕ → Slot
+  filledBy y = slot y 0 (suc d)
+
+  abbrev pub queued : List Slot → Slot → List Slot
+  queued w t = w ++ t ∷ []
+
   -- W7: "For each name listed there, ascending, the point with that name flipped, if not covered by the filled slots, fills the next slot
   -- with rule 0 and depth one more." W8: "If P are filled already: answer no room"
   pub data Fills : List ℕ → List Slot → Expansion → Type 0 where
     no-more : {w : List Slot} → Fills [] w (complete w)
     skipped : {v : ℕ} {vs : List ℕ} {w : List Slot} {r : Expansion} → Covered es (pointsIn (known ++ w)) (flip x v) → Fills vs w r → Fills (v ∷ vs) w r
     filled-next : {v : ℕ} {vs : List ℕ} {w : List Slot} {r : Expansion} → (Covered es (pointsIn (known ++ w)) (flip x v) → ⊥)
-        → length (known ++ w) < capacity → Fills vs (w ++ slot (flip x v) 0 (suc d) ∷ []) r → Fills (v ∷ vs) w r
+        → length (known ++ w) < capacity → Fills vs (queued w (filledBy (flip x v))) r → Fills (v ∷ vs) w r
     no-room : {v : ℕ} {vs : List ℕ} {w : List Slot} → (Covered es (pointsIn (known ++ w)) (flip x v) → ⊥)
         → capacity ≤ length (known ++ w) → Fills (v ∷ vs) w (full w)
 
   -- the same, computed: a flip y, from whether it is covered and whether there is room
   unfoldable pub placed : Bool → Bool → ℕ → List Slot → Expansion
   placed true roomy y w = complete w
-  placed false true y w = complete (w ++ slot y 0 (suc d) ∷ [])
+  placed false true y w = complete (queued w (filledBy y))
   placed false false y w = full w
 
   unfoldable pub tryFlip : ℕ → Expansion → Expansion

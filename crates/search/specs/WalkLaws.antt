@@ -1,25 +1,25 @@
 -- The search as computed is the search as the sentence has it: what `walk` gives is what `Walks` says, and `Walks` says one thing only.
 -- Assumes nothing.
 use mathlib.Core.Bool.{Bool, true, false, true≢false}
-use mathlib.Core.List.{List, [], _∷_, _++_, append-assoc}
+use mathlib.Core.List.{List, [], _∷_, _++_}
 use mathlib.Core.Option.{Option, some, none}
 use mathlib.Core.Path.{_≡_, refl, sym, ap, ap₂, _∙_, subst}
 use Prim.Native.Nat.{ℕ, zero, suc, _+_, _≤_, _<_}
 use native.Mathlib.Nat.{le-trans, le-of-eq}
-use native.Mathlib.Numerals.{add-one}
 use native.Mathlib.Omega.{arith}
 use lib.Dec.{ltb}
 use lib.ListN.{length, length-append}
 use borrow.Author.Tests.{lt-ltb, le-ltb, ltb-true, ltb-false}
 use Rattle.math.specs.Bits.{flip}
 use Rattle.math.specs.ListLaws.{not-true-false}
+use Rattle.math.specs.QueueLaws.{length-snoc, length-moved}
 use Rattle.points.specs.PointLaws.{first-sound, first-complete, first-none, none-first}
 use Rattle.points.specs.Points.{variables, Numbered, firstFalsified}
 use Rattle.permutations.specs.PermutationLaws.{covered-sound, covered-complete}
 use Rattle.permutations.specs.Permutations.{Permutation, Covered, covered}
 use Rattle.formula.specs.Problem.{Problem}
 use Rattle.formula.specs.Reply.{Reply}
-use Rattle.search.specs.Walk.{Slot, slot, pointsIn, withNumber, State, state, filled, start, Expansion, complete, full, Fills, no-more, skipped, filled-next, no-room, placed, expand, Walks, none-left, met, stuck, goes-on, expanded, processedBy, Ending, followed, walk, walked}
+use Rattle.search.specs.Walk.{Slot, slot, pointsIn, withNumber, State, state, filled, start, Expansion, complete, full, filledBy, queued, Fills, no-more, skipped, filled-next, no-room, placed, expand, Walks, none-left, met, stuck, goes-on, expanded, processedBy, Ending, followed, walk, walked}
 
 -- a test that failed is a point that is not covered
 uncovered : (es : List Permutation) (ps : List ℕ) (y : ℕ) → covered es ps y ≡ false → Covered es ps y → ⊥
@@ -42,9 +42,9 @@ module _ (es : List Permutation) (capacity : ℕ) (known : List Slot) (x d : ℕ
   abbrev run : List ℕ → Expansion → Expansion
   run vs r = expand es capacity known x d vs r
 
-  -- the slot that a flip fills
-  abbrev new : ℕ → Slot
-  new v = slot (flip x v) 0 (suc d)
+  -- the slots that wait once a flip has filled one
+  abbrev more : List Slot → ℕ → List Slot
+  more w v = queued es capacity known x d w (filledBy es capacity known x d (flip x v))
 
   -- once there is no room, the rest is not looked at
   stays-full : (vs : List ℕ) (w : List Slot) → run vs (full w) ≡ full w
@@ -61,7 +61,7 @@ module _ (es : List Permutation) (capacity : ℕ) (known : List Slot) (x d : ℕ
           → ((u : List Slot) → fills vs u (run vs (complete u))) → fills (v ∷ vs) w (run vs (placed es capacity known x d b t (flip x v) w))
       by true t c r ih = skipped (covered-sound es (pointsIn (known ++ w)) (flip x v) c) (ih w)
       by false true c r ih =
-          filled-next (uncovered es (pointsIn (known ++ w)) (flip x v) c) (ltb-true (length (known ++ w)) capacity r) (ih (w ++ new v ∷ []))
+          filled-next (uncovered es (pointsIn (known ++ w)) (flip x v) c) (ltb-true (length (known ++ w)) capacity r) (ih (more w v))
       by false false c r ih =
           subst (fills (v ∷ vs) w) (sym (stays-full vs w))
           (no-room (uncovered es (pointsIn (known ++ w)) (flip x v) c) (ltb-false (length (known ++ w)) capacity r))
@@ -84,18 +84,13 @@ module _ (es : List Permutation) (capacity : ℕ) (known : List Slot) (x d : ℕ
   fills-room no-more h = h
   fills-room (skipped c f) h = fills-room f h
   fills-room (filled-next {v = v} {w = w} c lt f) h =
-      fills-room f
-      (le-trans (le-of-eq (ap length (sym (append-assoc known w (new v ∷ []))) ∙ length-append (known ++ w) (new v ∷ []) ∙ add-one (length (known ++ w)))) lt)
+      let whole = length-append known (more w v) in
+      let front = length-append known w in
+      let last = length-append w (filledBy es capacity known x d (flip x v) ∷ []) in
+      fills-room f (let one : length (known ++ more w v) ≤ capacity = omega arith in one)
   fills-room (no-room c le) h = h
 
 -- ---- the search
-
--- the slot that is processed moves from those that wait to those processed
-length-moved : (p w : List Slot) (s t : Slot) → length ((p ++ t ∷ []) ++ w) ≡ length (p ++ s ∷ w)
-length-moved p w s t = ap length (append-assoc p (t ∷ []) w) ∙ length-append p (t ∷ w) ∙ sym (length-append p (s ∷ w))
-
-one-more : (p : List Slot) (t : Slot) → length (p ++ t ∷ []) ≡ suc (length p)
-one-more p t = length-append p (t ∷ []) ∙ add-one (length p)
 
 module _ (pb : Problem) (capacity : ℕ) where
   abbrev known : List Slot → Slot → Numbered → List Slot
@@ -128,10 +123,10 @@ module _ (pb : Problem) (capacity : ℕ) where
       on c f (full u) e ih = stuck (first-sound (pb .clauses) (s .point) c f) (flipped p s w c (full u) e)
       on c f (complete u) e ih =
           let fl = flipped p s w c (complete u) e in
-          let m = one-more p (withNumber s c) in
+          let m = length-snoc p (withNumber s c) in
           goes-on (first-sound (pb .clauses) (s .point) c f) fl
           (ih (known p s c) u
-          (fills-room (pb .permutations) capacity (known p s c) (s .point) (s .depth) fl (le-trans (le-of-eq (length-moved p w s (withNumber s c))) room))
+          (fills-room (pb .permutations) capacity (known p s c) (s .point) (s .depth) fl (le-trans (le-of-eq (length-moved p w (withNumber s c) s)) room))
           (omega arith))
 
       by : (o : Option Numbered) → firstFalsified (pb .clauses) (s .point) ≡ o → Rest
@@ -157,11 +152,11 @@ module _ (pb : Problem) (capacity : ℕ) where
       ∙ ap (λ x. followed pb capacity (expanded pb capacity (known p s c) (s .depth) x) (λ q. walk pb capacity k q))
       (fills-expand (pb .permutations) capacity (known p s c) (s .point) (s .depth) fl)
   walks-walk (goes-on {p = p} {w = w} {w′ = u} {s = s} {c = c} f fl t) room (suc k) more =
-      let m = one-more p (withNumber s c) in
+      let m = length-snoc p (withNumber s c) in
       ap (λ o. followed pb capacity (processedBy pb capacity p s w o) (λ q. walk pb capacity k q)) (first-complete (pb .clauses) (s .point) c f)
       ∙ ap (λ x. followed pb capacity (expanded pb capacity (known p s c) (s .depth) x) (λ q. walk pb capacity k q))
       (fills-expand (pb .permutations) capacity (known p s c) (s .point) (s .depth) fl)
-      ∙ walks-walk t (fills-room (pb .permutations) capacity (known p s c) (s .point) (s .depth) fl (le-trans (le-of-eq (length-moved p w s (withNumber s c))) room)) k (omega arith)
+      ∙ walks-walk t (fills-room (pb .permutations) capacity (known p s c) (s .point) (s .depth) fl (le-trans (le-of-eq (length-moved p w (withNumber s c) s)) room)) k (omega arith)
 
   -- from the target: the whole search, with at least one slot
   pub walked-walks : 1 ≤ capacity → Walks pb capacity (start pb) (walked pb capacity .reply) (walked pb capacity .slots)

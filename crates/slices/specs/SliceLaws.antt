@@ -1,6 +1,6 @@
 -- Laws of clauses in two parallel slices, and of scanning them for the first falsified one. Assumes nothing.
 use mathlib.Core.Bool.{Bool, true, false, cond}
-use mathlib.Core.List.{List, [], _∷_}
+use mathlib.Core.List.{List, [], _∷_, List·Memᴰ·head, List·Memᴰ·tail, List·Memᴰ·not-nil}
 use mathlib.Core.Logic.{_⊎_, inl, inr}
 use mathlib.Core.Option.{some}
 use mathlib.Core.Path.{_≡_, refl, sym, ap, _∙_}
@@ -10,6 +10,7 @@ use native.Mathlib.Omega.{arith}
 use native.Mathlib.Numerals.{add-one}
 use lib.ListN.{length, getD, drop, drop-of-length-le, List·getD-eq-default}
 use lib.Seq.{drop-cons}
+use Rattle.math.specs.Lists.{_∈_}
 use Rattle.points.specs.Points.{Clause, satisfies, numberedFrom, firstFalsified, numberOf}
 use Rattle.slices.specs.Slices.{clausesOf, noLiterals}
 
@@ -36,6 +37,14 @@ clause-past ps ns i h = sym (List·getD-eq-default (clausesOf ps ns) noLiterals 
     past : (length ps ≤ i) ⊎ (length ns ≤ i) → length (clausesOf ps ns) ≤ i
     past (inl h) = le-trans (clauses-le ps ns) h
     past (inr h) = le-trans (le-of-eq (length-clauses ps ns)) (le-trans (min-le-right (length ps) (length ns)) h)
+
+-- the two sets of a clause stand in the two slices
+pub clause-sets : (ps ns : List ℕ) (c : Clause) → c ∈ clausesOf ps ns → (c .positive ∈ ps) × (c .negative ∈ ns)
+unfolding clausesOf
+clause-sets [] ns c m = absurd (List·Memᴰ·not-nil m)
+clause-sets (p ∷ ps) [] c m = absurd (List·Memᴰ·not-nil m)
+clause-sets (p ∷ ps) (n ∷ ns) c (List·Memᴰ·head e) = (List·Memᴰ·head (ap (λ (c : Clause). c .positive) e), List·Memᴰ·head (ap (λ (c : Clause). c .negative) e))
+clause-sets (p ∷ ps) (n ∷ ns) c (List·Memᴰ·tail m) = let w = clause-sets ps ns c m in (List·Memᴰ·tail (w .0), List·Memᴰ·tail (w .1))
 
 -- the number of the first clause that the point falsifies, of those from index i on
 unfoldable pub falsifiedFrom : List Clause → ℕ → ℕ → ℕ
