@@ -17,7 +17,7 @@ use Rattle.formula.specs.Refusals.{clausesFault, permutationFault, symmetryFaul
 use Rattle.formula.specs.Reply.{Reply, refused, accepted, Fault, sound, fault, faultAt, first, unless}
 use Rattle.certificate.specs.Certificate.{contentsOf, WellFormed, filePermutations, filePoints, fileNumbers}
 use Rattle.certificate.specs.Rows.{fileFault, pointsFault, clauseNumbered, numbersFault}
-use Rattle.checker.specs.Stable.{Stable}
+use Rattle.stable.specs.Stable.{Stable}
 use Rattle.checker.specs.declared.Verdict.{Verdict}
 use Rattle.checker.specs.declared.Verdict.the-variants.{Accepted, Refused}
 

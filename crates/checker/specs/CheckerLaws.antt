@@ -28,7 +28,7 @@ use Rattle.formula.specs.ReplyLaws.{first-none, first-split, first-join, tested
 use Rattle.certificate.specs.RowLaws.{points-passed, points-pass, clause-found, OwnNumbers, clause-of, numbered-own, number-passed, number-passes}
 use Rattle.certificate.specs.Rows.{fileFault, pointPasses, pointsFault, clauseNumbered, numberPasses, numbersFault}
 use Rattle.checker.specs.Checker.{sameSizes, sizesFault, flipsOf, flipsPass, flipsFault, checkFault, checkReply, Accepts}
-use Rattle.checker.specs.Stable.{Transported, Stable}
+use Rattle.stable.specs.Stable.{Transported, Stable}
 
 -- ---- the rows 11, 12, 16, 17 and 18, which look at lists alone
 

@@ -1,10 +1,7 @@
 -- An accepted certificate means that no point satisfies the clauses. Assumes nothing.
-use mathlib.Core.List.{List, [], _∷_, List·Memᴰ·head, List·Memᴰ·tail, List·Memᴰ·not-nil}
-use mathlib.Core.Path.{_≡_, ap}
-use Prim.Native.Nat.{ℕ, suc}
-use Rattle.math.specs.Lists.{_∈_}
-use Rattle.points.specs.Points.{Clause, Numbered, numberedFrom}
-use Rattle.slices.specs.Slices.{clausesOf}
+use mathlib.Core.List.{List}
+use mathlib.Core.Path.{_≡_}
+use Prim.Native.Nat.{ℕ}
 use Rattle.theory.specs.Notions.{ClausesBelow}
 use Rattle.formula.specs.declared.Formula.{Formula}
 use Rattle.formula.specs.Problem.{problemOf, Unsatisfiable}
@@ -15,7 +12,7 @@ use Rattle.formula.specs.ReplyLaws.{tested}
 use Rattle.certificate.specs.Certificate.{filePermutations, filePoints, fileNumbers}
 use Rattle.checker.specs.Checker.{checkReply}
 use Rattle.checker.specs.CheckerLaws.{accepts-sound}
-use Rattle.checker.specs.Refutation.{stable-refutes}
+use Rattle.stable.specs.Refutation.{stable-refutes}
 
 -- clauses that the checker's refusal 10 lets pass list none but the variables below n
 sound-below : (f : Formula) (positive negative : List ℕ) → clausesFault f positive negative ≡ sound

@@ -9,7 +9,7 @@ use Rattle.math.specs.Bits.{bit, flip}
 use Rattle.formula.specs.declared.Formula.{Formula}
 use Rattle.formula.specs.Problem.{problemOf}
 use Rattle.formula.specs.Reply.{Reply, parsed, satisfiable, unsatisfiable, unknown, accepted}
-use Rattle.search.specs.Walk.{Slot, slot}
+use Rattle.traversal.specs.Walk.{Slot, slot}
 use Rattle.search.specs.Builder.{searchReply, searchSlots}
 use Rattle.certificate.specs.Certificate.{contentsOf}
 use Rattle.certificate.specs.Writer.{certificateOf}

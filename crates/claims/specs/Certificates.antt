@@ -26,10 +26,11 @@ use Rattle.formula.specs.Refusals.{clausesFault, formulaFault, permutationFault
 use Rattle.formula.specs.Reply.{Reply, refused, unsatisfiable, written, accepted, sound, fault, first, faultAt, unless, unlessKept, Fault}
 use Rattle.formula.specs.ReplyLaws.{first-skips, first-stops, test-passed, passes-below, not-refused}
 use Rattle.search.specs.Accepted.{rows, answered}
-use Rattle.search.specs.Answers.{Answered, ClosedSlots}
+use Rattle.traversal.specs.Answers.{ClosedSlots}
+use Rattle.search.specs.Answered.{Answered}
 use Rattle.search.specs.Builder.{lentBy, searchFault, searchReply, searchSlots, searchSlice}
 use Rattle.search.specs.Theorems.{search-closed, slots-filled}
-use Rattle.search.specs.Walk.{Slot, slot, walked}
+use Rattle.traversal.specs.Walk.{Slot, slot, walked}
 use Rattle.certificate.specs.Certificate.{filePoints, fileNumbers}
 use Rattle.certificate.specs.RowLaws.{points-pass, point-passes-take, clause-of, numbered-own, number-passes, OwnNumbers}
 use Rattle.certificate.specs.Rows.{pointPasses, pointsFault, clauseNumbered, numberPasses, numbersFault, roomFault}
@@ -37,7 +38,7 @@ use Rattle.certificate.specs.Writer.{lengthNeeded, certificateOf, writeFault, w
 use Rattle.certificate.specs.WriterLaws.{write-rows, passed-writer, reply-written, reads-back, past-unchanged}
 use Rattle.checker.specs.Checker.{checkReply}
 use Rattle.checker.specs.CheckerLaws.{accepts-complete}
-use Rattle.checker.specs.Stable.{Transported, Stable}
+use Rattle.stable.specs.Stable.{Transported, Stable}
 
 -- ---- lists of slots, part by part
 

@@ -5,3 +5,5 @@ pub mod Reply
 pub mod ReplyLaws
 pub mod Refusals
 pub mod RefusalLaws
+pub mod Alike
+pub mod AlikeLaws

@@ -14,8 +14,8 @@ use Rattle.points.specs.Points.{Numbered, numbered}
 use Rattle.slices.specs.SliceLaws.{clause-sets}
 use Rattle.slices.specs.Slices.{clausesOf}
 use Rattle.theory.specs.Notions.{ClausesBelow}
-use Rattle.permutations.specs.Contracts.{Movable, Listed}
-use Rattle.permutations.specs.LoopLaws.{length-permutations, clausesIn-numbered}
+use Rattle.images.specs.Contracts.{Movable, Listed}
+use Rattle.images.specs.LoopLaws.{length-permutations, clausesIn-numbered}
 use Rattle.permutations.specs.PermutationLaws.{isPermutation-sound, isPermutation-complete, keeps-sound, keeps-complete, permutation-within}
 use Rattle.permutations.specs.Permutations.{Permutation, IsPermutation, isPermutation, Keeps, keeps, permutationsIn}
 use Rattle.formula.specs.declared.Formula.{Formula}

@@ -1,8 +1,8 @@
 // Refusals 10, 11 and 12: each a function that says which it is, and where.
 use crate::Checked;
 use crate::Formula;
-use permutations::is_permutation;
-use permutations::permutation_at;
+use images::is_permutation;
+use images::permutation_at;
 use slices::point_at;
 use slices::point_count;
 ghost use mathlib.Core.Path.{_≡_};
@@ -11,7 +11,7 @@ ghost use lib.ListN.{length};
 ghost use Rattle.math.specs.Lists.{firstFailing};
 ghost use Rattle.points.specs.Points.{numbered};
 ghost use Rattle.slices.specs.Slices.{pointsOf, clausesOf};
-ghost use Rattle.permutations.specs.Contracts.{Listed};
+ghost use Rattle.images.specs.Contracts.{Listed};
 ghost use Rattle.permutations.specs.Permutations.{isPermutation, keeps, permutationsIn};
 ghost use Rattle.formula.specs.Refusals.{allBelow, fits, clausesFault, formulaFault, permutationFault, symmetryFault, problemFault, faultOf};
 

@@ -1,6 +1,6 @@
--- Permutations of variables.
+-- Permutations of variables: definitions, the tests, images, and what a permutation that keeps the clauses does.
 pub mod Permutations
-pub mod Contracts
 pub mod PermutationLaws
 pub mod ImageLaws
-pub mod LoopLaws
+pub mod Images
+pub mod Symmetries

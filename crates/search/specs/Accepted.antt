@@ -1,28 +1,24 @@
 -- A formula that refusals 10 to 13 let pass is ready to be searched, and the builder's reply is then that of the search. Assumes nothing.
-use mathlib.Core.List.{List, [], _∷_, List·Memᴰ·head, List·Memᴰ·tail, List·Memᴰ·not-nil}
-use mathlib.Core.Path.{_≡_, sym, ap, _∙_, subst}
+use mathlib.Core.List.{List, [], _∷_}
+use mathlib.Core.Path.{_≡_, sym, _∙_, subst}
 use Prim.Native.Nat.{ℕ, zero, suc, _≤_, zero-le, suc-le-suc}
 use native.Mathlib.Omega.{arith}
-use Rattle.math.specs.ListLaws.{map-in}
-use Rattle.math.specs.Lists.{_∈_}
-use Rattle.points.specs.Points.{Clause, Numbered, numbered}
+use Rattle.points.specs.Points.{numbered}
 use Rattle.slices.specs.Slices.{clausesOf}
-use Rattle.permutations.specs.LoopLaws.{clausesIn-numbered}
 use Rattle.permutations.specs.Permutations.{Permutation, permutationsIn}
-use Rattle.theory.specs.Notions.{ClausesBelow}
-use Rattle.theory.specs.Symmetries.{symmetry-automorphism}
+use Rattle.permutations.specs.Symmetries.{symmetry-automorphism}
 use Rattle.formula.specs.declared.Formula.{Formula}
 use Rattle.formula.specs.Limits.{maxSlots, capacity}
 use Rattle.formula.specs.Problem.{problemOf}
 use Rattle.formula.specs.RefusalLaws.{fits-below, formula-passes, permutation-passes, symmetry-passes}
-use Rattle.formula.specs.Refusals.{Fits, formulaFault, permutationFault, symmetryFault}
+use Rattle.formula.specs.Refusals.{formulaFault, permutationFault, symmetryFault}
 use Rattle.formula.specs.Reply.{Reply, refused, Fault, sound}
 use Rattle.formula.specs.ReplyLaws.{first-split, first-last, fault-not-sound, not-refused, unless-sound}
-use Rattle.search.specs.Answers.{Answered}
+use Rattle.search.specs.Answered.{Answered}
 use Rattle.search.specs.Builder.{slotFault, searchFault, searchReply, searchSlots}
-use Rattle.search.specs.Invariants.{Ready}
-use Rattle.search.specs.Walk.{start, Walks, walked}
-use Rattle.search.specs.WalkLaws.{walked-walks}
+use Rattle.traversal.specs.Invariants.{Ready}
+use Rattle.traversal.specs.Walk.{start, Walks, walked}
+use Rattle.traversal.specs.WalkLaws.{walked-walks}
 
 lent-slot : (k : ℕ) → slotFault k ≡ sound → 1 ≤ k
 unfolding slotFault

@@ -13,7 +13,7 @@ use Rattle.formula.specs.Refusals.{formulaFault, permutationFault, symmetryFaul
 use Rattle.formula.specs.Reply.{Reply, refused, satisfiable, unsatisfiable, unknown, Fault, sound, fault, first, unless, unlessKept}
 use Rattle.search.specs.declared.Outcome.{Outcome}
 use Rattle.search.specs.declared.Outcome.the-variants.{Satisfiable, Unsatisfiable, Unknown, Refused}
-use Rattle.search.specs.Walk.{Slot, walked}
+use Rattle.traversal.specs.Walk.{Slot, walked}
 
 -- F10: what the code's answer says in document 01's terms
 abbrev pub replyOf : Outcome → Reply

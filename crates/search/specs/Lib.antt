@@ -1,19 +1,6 @@
--- The search: its definition, its theory, and what the builder's contract cites.
-pub mod Walk
-pub mod Invariants
-pub mod InvariantLaws
-pub mod ExpansionLaws
-pub mod Ends
-pub mod Measure
-pub mod Answers
-pub mod Bound
-pub mod Nearest
-pub mod Complete
-pub mod Room
-pub mod Closed
-pub mod WalkLaws
+-- What the builder answers, and what its reply says of an accepted formula.
 pub mod Builder
+pub mod Answered
 pub mod Accepted
 pub mod Inputs
 pub mod Theorems
-pub mod Examples

@@ -11,20 +11,23 @@ use Rattle.points.specs.Points.{distance}
 use Rattle.slices.specs.Slices.{pointsOf}
 use Rattle.formula.specs.declared.Formula.{Formula}
 use Rattle.formula.specs.Limits.{maxSlots}
+use Rattle.formula.specs.AlikeLaws.{same-problem}
 use Rattle.formula.specs.Problem.{Problem, problemOf, Unsatisfiable}
 use Rattle.formula.specs.Reply.{Reply, refused, satisfiable, unsatisfiable, unknown}
 use Rattle.search.specs.Accepted.{answered, lent-enough}
-use Rattle.search.specs.Answers.{LowerBound, Nearest, HandedBack, ClosedSlots, reported, Answered, Alike}
-use Rattle.search.specs.Bound.{unknown-bound}
+use Rattle.traversal.specs.Answers.{LowerBound, Nearest, HandedBack, ClosedSlots, reported}
+use Rattle.search.specs.Answered.{Answered}
+use Rattle.formula.specs.Alike.{Alike}
+use Rattle.traversal.specs.Bound.{unknown-bound}
 use Rattle.search.specs.Builder.{lentBy, searchReply, searchSlots, searchSlice}
-use Rattle.search.specs.Closed.{refuted-closed}
-use Rattle.search.specs.Complete.{refuted, unsatisfiable-exactly}
-use Rattle.search.specs.Ends.{search-ends, ended-filled, ended-family, walks-reported}
-use Rattle.search.specs.Inputs.{same-problem, same-reply, same-slots, same-slice}
-use Rattle.search.specs.Invariants.{Ready, slotAt, Parent, Filled}
-use Rattle.search.specs.Nearest.{found-nearest, found-slot}
-use Rattle.search.specs.Room.{never-unknown}
-use Rattle.search.specs.Walk.{Slot, pointsIn, start, Walks}
+use Rattle.traversal.specs.Closed.{refuted-closed}
+use Rattle.traversal.specs.Complete.{refuted, unsatisfiable-exactly}
+use Rattle.traversal.specs.Ends.{search-ends, ended-filled, ended-family, walks-reported}
+use Rattle.search.specs.Inputs.{same-reply, same-slots, same-slice}
+use Rattle.traversal.specs.Invariants.{Ready, slotAt, Parent, Filled}
+use Rattle.traversal.specs.Nearest.{found-nearest, found-slot}
+use Rattle.traversal.specs.Room.{never-unknown}
+use Rattle.traversal.specs.Walk.{Slot, pointsIn, start, Walks}
 
 -- ---- the slots l that a search leaves, whatever it answers
 

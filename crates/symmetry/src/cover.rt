@@ -1,6 +1,6 @@
 // Which points a set of points covers, modulo one listed permutation.
-use permutations::image_of_point;
-use permutations::permutation_at;
+use images::image_of_point;
+use images::permutation_at;
 use points::Point;
 use slices::contains;
 ghost use mathlib.Core.Path.{_≡_};
@@ -8,7 +8,7 @@ ghost use lib.ListN.{take};
 ghost use Rattle.math.specs.Lists.{any};
 ghost use Rattle.slices.specs.Slices.{pointsOf};
 ghost use Rattle.permutations.specs.Permutations.{imageIn, covered, permutationsIn};
-ghost use Rattle.permutations.specs.Contracts.{Listed};
+ghost use Rattle.images.specs.Contracts.{Listed};
 
 // Whether the image of the point under one of the permutations is among the first k points of the slice. An image, n steps, and a scan,
 // k steps, for each permutation.

@@ -1,5 +1,5 @@
 // Whether a permutation keeps the clauses: then it is a symmetry of the formula.
-use permutations::image_of_clause;
+use images::image_of_clause;
 use points::Clause;
 use slices::clause_at;
 use slices::clause_count;
@@ -9,7 +9,7 @@ ghost use Rattle.points.specs.Contracts.{clauseOf};
 ghost use Rattle.points.specs.Points.{numbered};
 ghost use Rattle.slices.specs.Slices.{clausesOf};
 ghost use Rattle.permutations.specs.Permutations.{sameClause, keeps};
-ghost use Rattle.permutations.specs.Contracts.{Movable};
+ghost use Rattle.images.specs.Contracts.{Movable};
 
 pub mod cover;
 

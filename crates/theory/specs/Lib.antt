@@ -4,6 +4,4 @@ pub mod Distance
 pub mod Closer
 pub mod Maps
 pub mod Approach
-pub mod Images
-pub mod Symmetries
 pub mod Refutes

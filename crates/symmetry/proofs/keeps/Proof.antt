@@ -8,7 +8,7 @@ use borrow.Author.Tests.{not-true, not-false}
 use Rattle.math.specs.Lists.{any, all}
 use Rattle.math.specs.ScanLaws.{all-ends, all-stops, all-goes-on}
 use Rattle.slices.specs.Slices.{clausesOf, noLiterals}
-use Rattle.permutations.specs.LoopLaws.{keeps-numbered}
+use Rattle.images.specs.LoopLaws.{keeps-numbered}
 use Rattle.permutations.specs.Permutations.{imageAmong, sameClause}
 use Rattle.symmetry.proofs.keeps.Statement.{statement}
 use Rattle.symmetry.proofs.keeps.Tie as tie

@@ -8,7 +8,7 @@ use borrow.Author.Tests.{not-true, not-false}
 use Rattle.math.specs.Lists.{firstFailing}
 use Rattle.math.specs.ScanLaws.{onFrom, failing-begins, failing-ends, failing-stops, failing-goes-on}
 use Rattle.permutations.specs.Permutations.{isPermutation, permutationsIn}
-use Rattle.permutations.specs.LoopLaws.{noPermutation, length-permutations, permutation-at, part-ends}
+use Rattle.images.specs.LoopLaws.{noPermutation, length-permutations, permutation-at, part-ends}
 use Rattle.formula.proofs.refusals.first_non_permutation.Statement.{statement}
 use Rattle.formula.proofs.refusals.first_non_permutation.Tie as tie
 

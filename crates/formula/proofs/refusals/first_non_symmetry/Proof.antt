@@ -9,8 +9,8 @@ use Rattle.math.specs.Lists.{firstFailing}
 use Rattle.math.specs.ScanLaws.{onFrom, failing-begins, failing-ends, failing-stops, failing-goes-on}
 use Rattle.points.specs.Points.{numbered}
 use Rattle.slices.specs.Slices.{clausesOf}
-use Rattle.permutations.specs.Contracts.{Movable}
-use Rattle.permutations.specs.LoopLaws.{noPermutation, length-permutations, permutation-at, listed-room, listed-movable}
+use Rattle.images.specs.Contracts.{Movable}
+use Rattle.images.specs.LoopLaws.{noPermutation, length-permutations, permutation-at, listed-room, listed-movable}
 use Rattle.permutations.specs.Permutations.{keeps, permutationsIn}
 use Rattle.formula.proofs.refusals.first_non_symmetry.Statement.{statement}
 use Rattle.formula.proofs.refusals.first_non_symmetry.Tie as tie

@@ -1,7 +1,7 @@
 -- `formula::refusals::permutations_refusal` meets its contract: too many first, then the first that is none. Assumes nothing.
 use mathlib.Core.Path.{_≡_, refl, sym, ap, _∙_}
 use native.Mathlib.Nat.{le-of-eq, le-trans, lt-of-lt-of-le}
-use Rattle.permutations.specs.LoopLaws.{length-permutations}
+use Rattle.images.specs.LoopLaws.{length-permutations}
 use Rattle.permutations.specs.Permutations.{permutationsIn}
 use Rattle.formula.specs.Refusals.{permutationFault}
 use Rattle.formula.specs.RefusalLaws.{too-many, few-enough}

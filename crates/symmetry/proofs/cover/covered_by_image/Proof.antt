@@ -6,8 +6,8 @@ use lib.ListN.{length, getD, take, drop}
 use borrow.Author.Needs.{needs}
 use Rattle.math.specs.Lists.{any, has}
 use Rattle.math.specs.ScanLaws.{any-ends, any-stops, any-goes-on}
-use Rattle.permutations.specs.Contracts.{Movable}
-use Rattle.permutations.specs.LoopLaws.{noPermutation, length-permutations, permutation-at, listed-room, listed-movable}
+use Rattle.images.specs.Contracts.{Movable}
+use Rattle.images.specs.LoopLaws.{noPermutation, length-permutations, permutation-at, listed-room, listed-movable}
 use Rattle.permutations.specs.Permutations.{imageIn, permutationsIn}
 use Rattle.symmetry.proofs.cover.covered_by_image.Statement.{statement}
 use Rattle.symmetry.proofs.cover.covered_by_image.Tie as tie

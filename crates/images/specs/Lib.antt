@@ -1,0 +1,3 @@
+-- What the functions on permutations require, and the laws of their loops.
+pub mod Contracts
+pub mod LoopLaws
