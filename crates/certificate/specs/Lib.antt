@@ -10,3 +10,4 @@ pub mod WriterLaws
 pub mod Reader
 pub mod ReaderLaws
 pub mod Examples
+pub mod Inputs
