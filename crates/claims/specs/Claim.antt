@@ -1,4 +1,4 @@
--- The one claim: the third demand whole, over sheet, search, written certificate and checker together. It cites the very definitions that
+-- K3: the one claim: the third demand whole, over sheet, search, written certificate and checker together. It cites the very definitions that
 -- the entry points' contracts cite. Definitions alone; Theorem shows it. Assumes nothing.
 use mathlib.Core.List.{List}
 use mathlib.Core.Logic.{_↔_}
