@@ -9,3 +9,4 @@ pub mod BitLaws
 pub mod SetLaws
 pub mod CountLaws
 pub mod QueueLaws
+pub mod OverLaws

@@ -4,3 +4,7 @@ pub mod Answered
 pub mod Accepted
 pub mod Inputs
 pub mod Theorems
+pub mod Memory
+pub mod Filling
+pub mod FillingLaws
+pub mod TryingLaws

@@ -1,0 +1,51 @@
+-- What filling the flips of one point does to the memory: the contracts of `try_flip` and `expand`. Assumes nothing.
+use mathlib.Core.Bool.{Bool, true, false}
+use mathlib.Core.List.{List, _∷_, _++_}
+use mathlib.Core.Path.{_≡_}
+use Prim.Native.Nat.{ℕ, _≤_, _<_, _^_}
+use lib.ListN.{length}
+use Rattle.math.specs.Bits.{members}
+use Rattle.points.specs.Contracts.{NextVariable}
+use Rattle.images.specs.Contracts.{Listed}
+use Rattle.permutations.specs.Permutations.{Permutation}
+use Rattle.formula.specs.Limits.{maxVariables, maxSlots}
+use Rattle.search.specs.Memory.{Memory, Holds, Lends, SameLengths}
+use Rattle.traversal.specs.Walk.{Slot, Expansion, full, Fills}
+
+-- what lets a flip be tried, of a point at depth d: the images hold `count` permutations of n variables, and each slice has room for
+-- `capacity` slots
+pub record Fillable (n count : ℕ) (images : List ℕ) (capacity d : ℕ) (m : Memory) : Type 0 where
+  pub few : n ≤ maxVariables
+  pub listed : Listed n count images
+  pub room : Lends capacity m
+  pub shallow : d < maxSlots
+
+module _ (es : List Permutation) (capacity x d : ℕ) where
+  -- how the filling ends, with the flips vs still to come and the slots w waiting: as `Fills` says if there was room so far, else there
+  abbrev pub Onward : List Slot → Bool → List ℕ → List Slot → Expansion → Type 0
+  Onward known true vs w r = Fills es capacity known x d vs w r
+  Onward known false vs w r = r ≡ full w
+
+  -- the memory m holds the slots `known` and some that wait, k together, and whatever comes of the flips vs from there comes of the
+  -- flips vs₀ from the waiting slots w₀
+  pub record Reaches (old : Memory) (known w₀ : List Slot) (vs₀ : List ℕ) (roomy : Bool) (vs : List ℕ) (k : ℕ) (m : Memory) : Type 0 where
+    pub waiting : List Slot
+    pub holds : Holds old (known ++ waiting) m
+    pub number : length (known ++ waiting) ≡ k
+    pub onward : (r : Expansion) → Onward known roomy vs waiting r → Fills es capacity known x d vs₀ w₀ r
+
+  -- from k₀ slots in the memory m₀, whichever they are and whatever is behind them, and the flips vs₀ to come
+  abbrev pub Advances : List ℕ → ℕ → Memory → Bool → List ℕ → ℕ → Memory → Type 0
+  Advances vs₀ k₀ m₀ roomy vs k m =
+      (old : Memory) (known w₀ : List Slot) → Holds old (known ++ w₀) m₀ → length (known ++ w₀) ≡ k₀ → Reaches old known w₀ vs₀ roomy vs k m
+
+  -- the flip of one variable is tried, whichever are to come
+  abbrev pub Tries : ℕ → ℕ → Memory → Bool → ℕ → Memory → Type 0
+  Tries v k₀ m₀ roomy k m = (vs : List ℕ) → Advances (v ∷ vs) k₀ m₀ roomy vs k m
+
+  -- the loop over the variables of the set `listed`: those of `left` are still to be tried, v the lowest of them
+  pub record Trying (n listed k₀ : ℕ) (m₀ : Memory) (left v k : ℕ) (m : Memory) : Type 0 where
+    pub within : left < 2 ^ n
+    pub next : NextVariable left v
+    pub lengths : SameLengths m₀ m
+    pub advances : Advances (members n listed) k₀ m₀ true (members n left) k m
