@@ -9,7 +9,7 @@ use native.Mathlib.Omega.{arith}
 use lib.ListN.{length, take, drop, set, length-map, length-append, length-drop}
 use Rattle.math.specs.Bits.{flip}
 use Rattle.math.specs.Lists.{over}
-use Rattle.math.specs.OverLaws.{over-snoc}
+use Rattle.math.specs.OverLaws.{over-none, over-snoc}
 use Rattle.math.specs.PartLaws.{over-front, over-length}
 use Rattle.math.specs.QueueLaws.{length-snoc}
 use Rattle.math.specs.SplitLaws.{map-append}
@@ -40,6 +40,10 @@ lends-still a b =
       depths-room = le-trans (a .depths-room) (le-of-eq (sym (b .depths-length)));
     }
 
+-- fewer slots have room too
+pub lends-fewer : {j k : ℕ} {m : Memory} → j ≤ k → Lends k m → Lends j m
+lends-fewer le r = record { points-room = le-trans le (r .points-room); falsified-room = le-trans le (r .falsified-room); depths-room = le-trans le (r .depths-room) }
+
 -- the points of the slots are the first of the slice
 pub held-points : {old : Memory} {l : List Slot} {m : Memory} (k : ℕ) → Holds old l m → length l ≡ k → take k (m .points) ≡ pointsIn l
 held-points {old} {l} k h e = ap (take k) (h .points-held) ∙ over-front k (pointsIn l) (old .points) (length-map l (λ (s : Slot). s .point) ∙ e)
@@ -69,7 +73,17 @@ held-more {old} {l} {m} {s = s} k h n room st =
       depths-held = st .depths-stored ∙ slice-more (λ (s : Slot). s .depth) l s (old .depths) (m .depths) k (h .depths-held) n (room .depths-room);
     }
 
+-- the first slot stored, nothing is held but it
+pub held-first : {m m′ : Memory} {s : Slot} → Lends 1 m → Stored m 0 s m′ → Holds m (s ∷ []) m′
+held-first {m} room st =
+    held-more {l = []} 0 (record { points-held = sym (over-none (m .points)); falsified-held = sym (over-none (m .falsified)); depths-held = sym (over-none (m .depths)) }) refl room st
+
 -- ---- the flips
+
+-- how the filling ended
+abbrev pub ended : Bool → List Slot → Expansion
+ended true w = complete w
+ended false w = full w
 
 module _ (es : List Permutation) (capacity x d : ℕ) where
   pub advances-begins : (vs : List ℕ) (k : ℕ) (m : Memory) → Advances es capacity x d vs k m true vs k m
@@ -112,7 +126,7 @@ module _ (es : List Permutation) (capacity x d : ℕ) where
     flip-filled {m′} y c lt room q given old known w₀ h e =
         record {
           waiting = w₀ ++ new ∷ [];
-          holds = subst (λ l. Holds old l m′) (append-assoc known w₀ (new ∷ [])) (held-more k h e (roomy room) (same given));
+          holds = subst (λ l. Holds old l m′) (append-assoc known w₀ (new ∷ [])) (held-more k h e (lends-fewer lt room) (same given));
           number = ap length (sym (append-assoc known w₀ (new ∷ []))) ∙ length-snoc (known ++ w₀) new ∙ ap suc e ∙ sym (add-one k);
           onward = λ r f. filled-next (uncovered (known ++ w₀) (held-points k h e) c) (subst (λ (j : ℕ). j < capacity) (sym e) lt) f;
         }
@@ -128,9 +142,6 @@ module _ (es : List Permutation) (capacity x d : ℕ) where
               depths-stored = st .depths-stored ∙ ap (set (m .depths) k) (add-one d);
             }
 
-        roomy : Lends capacity m → Lends (suc k) m
-        roomy r = record { points-room = le-trans lt (r .points-room); falsified-room = le-trans lt (r .falsified-room); depths-room = le-trans lt (r .depths-room) }
-
   -- once a flip found no room, those to come do not matter
   pub advances-stuck : {vs₀ vs : List ℕ} {k₀ k : ℕ} {m₀ m : Memory} (vs′ : List ℕ) → Advances es capacity x d vs₀ k₀ m₀ false vs k m
       → Advances es capacity x d vs₀ k₀ m₀ false vs′ k m
@@ -138,11 +149,6 @@ module _ (es : List Permutation) (capacity x d : ℕ) where
       let b = a old known w₀ h e in record { waiting = b .waiting; holds = b .holds; number = b .number; onward = b .onward }
 
   -- ---- the end of the flips
-
-  -- how the filling ended
-  abbrev pub ended : Bool → List Slot → Expansion
-  ended true w = complete w
-  ended false w = full w
 
   pub advances-ends : {vs₀ : List ℕ} {k : ℕ} {m : Memory} {roomy : Bool} {old : Memory} {known w₀ : List Slot}
       → (a : Reaches es capacity x d old known w₀ vs₀ roomy [] k m) → Fills es capacity known x d vs₀ w₀ (ended roomy (a .waiting))

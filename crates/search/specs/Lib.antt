@@ -8,3 +8,7 @@ pub mod Memory
 pub mod Filling
 pub mod FillingLaws
 pub mod TryingLaws
+pub mod Stepping
+pub mod NumberLaws
+pub mod SteppingLaws
+pub mod WalkingLaws

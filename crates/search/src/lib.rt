@@ -1,8 +1,16 @@
 // The search (01: walk, builder): breadth first from the target, to the nearest satisfying point, a stable set, or the end of the room.
+use formula::refusals::problem_refusal;
+use formula::Checked;
+use formula::Formula;
 use points::Point;
+use slices::least;
+use slices::point_count;
+ghost use mathlib.Core.Path.{_≡_};
+ghost use Rattle.search.specs.Builder.{lentBy, Searched};
 
 mod expansion;
 mod slots;
+mod walk;
 
 // A slot's depth: how many flips lie between the target and its point.
 pub type Depth = u32;
@@ -40,4 +48,59 @@ pub struct Frame {
 pub struct Grown {
     filled: usize,
     roomy: bool,
+}
+
+// What processing one slot comes to: an answer, or more slots filled.
+pub enum Step {
+    Ends(Outcome),
+    Goes { filled: usize },
+}
+
+// The slots that three lent slices give: the shortest length, and at most 65,536.
+fn room(points: &[u64], falsified: &[u32], depths: &[Depth]) -> usize
+    ensures { λ r. ⌜ r ≡ lentBy (now (points .entry)) (now (falsified .entry)) (now (depths .entry)) ⌝ }
+{
+    let most = Formula::MAX_SLOTS as usize;
+    let held = point_count(points);
+    let beside = least(falsified.len(), depths.len());
+    let shortest = least(held, beside);
+    least(most, shortest)
+}
+
+// D2.2: searches from the formula's target, with the slots in the three lent slices; refusals 10 to 13 leave all three as they were.
+// A search of k slots takes at most k steps, each a scan of the clauses and at most n look-ups, each of at most (permutations + 1) · k
+// comparisons.
+pub fn search(
+    f: Formula,
+    positive: &[u64],
+    negative: &[u64],
+    points: &mut [u64],
+    falsified: &mut [u32],
+    depths: &mut [Depth],
+) -> Outcome
+    ensures { λ r. ⌜ Searched f (now (positive .entry)) (now (negative .entry)) (now (points .entry)) (now (falsified .entry)) (now (depths .entry)) r
+        (now (points .exit)) (now (falsified .exit)) (now (depths .exit)) ⌝ }
+{
+    let checked = problem_refusal(f, positive, negative);
+    match checked {
+        Checked::Passed => {}
+        Checked::Refused { code, place } => {
+            return Outcome::Refused {
+                code: code,
+                place: place,
+            };
+        }
+    }
+    let lent = room(points, falsified, depths);
+    if lent == 0 {
+        return Outcome::Refused { code: 13, place: 0 };
+    }
+    let images = f.images;
+    let g = Frame {
+        variables: f.variables,
+        permutations: f.permutations,
+        room: lent,
+        target: f.target,
+    };
+    walk::start(g, &images, positive, negative, points, falsified, depths)
 }

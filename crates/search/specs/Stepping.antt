@@ -1,0 +1,91 @@
+-- What one step of the search and the search from a state do to the memory: the contracts of `process`, `walk_on` and `start`.
+-- Assumes nothing.
+use mathlib.Core.List.{List, [], _∷_, _++_}
+use mathlib.Core.Path.{_≡_}
+use Prim.Native.Nat.{ℕ, _+_, _≤_}
+use lib.ListN.{length}
+use Rattle.points.specs.Points.{numberedFrom, numbered}
+use Rattle.slices.specs.Slices.{clausesOf}
+use Rattle.images.specs.Contracts.{Listed}
+use Rattle.permutations.specs.Permutations.{permutationsIn}
+use Rattle.formula.specs.Limits.{maxVariables, maxClauses, maxSlots}
+use Rattle.formula.specs.Problem.{Problem}
+use Rattle.formula.specs.Reply.{Reply}
+use Rattle.search.specs.Builder.{replyOf}
+use Rattle.search.specs.declared.Frame.{Frame}
+use Rattle.search.specs.declared.Step.{Step}
+use Rattle.search.specs.declared.Step.the-variants.{Ends, Goes}
+use Rattle.search.specs.Memory.{Memory, Holds, Lends}
+use Rattle.traversal.specs.Invariants.{Ready, Invariants}
+use Rattle.traversal.specs.Walk.{Slot, slot, state, Walks}
+
+-- the problem that the frame, the images and the clause slices make
+abbrev pub framed : Frame → List ℕ → List ℕ → List ℕ → Problem
+framed g images positive negative =
+    record {
+      variables = g .variables;
+      total = length positive;
+      target = g .target;
+      permutations = permutationsIn (g .variables) (g .permutations) images;
+      clauses = numbered (clausesOf positive negative);
+    }
+
+-- what is known of it once refusals 10 to 13 have passed
+pub record Searchable (g : Frame) (images positive negative : List ℕ) : Type 0 where
+  pub few : g .variables ≤ maxVariables
+  pub listed : Listed (g .variables) (g .permutations) images
+  pub clauses : length (clausesOf positive negative) ≤ maxClauses
+  pub ready : Ready (framed g images positive negative)
+  pub some : 1 ≤ g .room
+  pub most : g .room ≤ maxSlots
+
+module _ (pb : Problem) (capacity : ℕ) where
+  -- the search has come to the slot of index i: in front of what the memory `old` has, m holds the processed slots p, i of them, and the
+  -- waiting slots w, k together
+  pub record Stands (old : Memory) (p w : List Slot) (i k : ℕ) (m : Memory) : Type 0 where
+    pub holds : Holds old (p ++ w) m
+    pub processed : length p ≡ i
+    pub filled : length (p ++ w) ≡ k
+    pub invariants : Invariants pb capacity p w
+
+  -- the memory m has the target in its first slot, in front of whatever was there
+  pub record Begun (m : Memory) : Type 0 where
+    pub old : Memory
+    pub holds : Holds old (slot (pb .target) 0 0 ∷ []) m
+
+  -- there are slots at which the search stands
+  pub record Midway (i k : ℕ) (m : Memory) : Type 0 where
+    pub old : Memory
+    pub front : List Slot
+    pub back : List Slot
+    pub stands : Stands old front back i k m
+
+  -- it goes on from the state p w, to a state from which it answers what it answers from there
+  pub record GoesOn (old : Memory) (p w : List Slot) (i k : ℕ) (m : Memory) : Type 0 where
+    pub front : List Slot
+    pub back : List Slot
+    pub stands : Stands old front back i k m
+    pub onward : (r : Reply) (l : List Slot) → Walks pb capacity (state front back) r l → Walks pb capacity (state p w) r l
+
+  -- it ends, with an answer, and the memory holds the slots that it leaves
+  pub record Ended (old : Memory) (p w : List Slot) (r : Reply) (m : Memory) : Type 0 where
+    pub slots : List Slot
+    pub holds : Holds old slots m
+    pub walks : Walks pb capacity (state p w) r slots
+
+  -- what a step answers
+  abbrev pub After : Memory → List Slot → List Slot → ℕ → Step → Memory → Type 0
+  After old p w i (Ends o) m = Ended old p w (replyOf o) m
+  After old p w i (Goes k) m = GoesOn old p w (i + 1) k m
+
+  -- one step from the slot of index i, whichever slots are filled
+  abbrev pub Steps : ℕ → ℕ → Memory → Step → Memory → Type 0
+  Steps i k m₀ step m = (old : Memory) (p w : List Slot) → Stands old p w i k m₀ → After old p w i step m
+
+  -- the loop over the slots, from the first
+  abbrev pub Walking : Memory → ℕ → ℕ → Memory → Type 0
+  Walking m₀ i k m = (old : Memory) → Holds old (slot (pb .target) 0 0 ∷ []) m₀ → GoesOn old [] (slot (pb .target) 0 0 ∷ []) i k m
+
+  -- the search from the target in the first slot, answered
+  abbrev pub Answers : Memory → Reply → Memory → Type 0
+  Answers m₀ r m = (old : Memory) → Holds old (slot (pb .target) 0 0 ∷ []) m₀ → Ended old [] (slot (pb .target) 0 0 ∷ []) r m
