@@ -12,3 +12,4 @@ pub mod Stepping
 pub mod NumberLaws
 pub mod SteppingLaws
 pub mod WalkingLaws
+pub mod BuilderLaws

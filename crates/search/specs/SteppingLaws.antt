@@ -104,7 +104,7 @@ module _ (g : Frame) (images positive negative : List ℕ) (ok : Searchable g im
           let same = point-of s w st in
           let below : s .point < 2 ^ g .variables = st .invariants .filled .below s (Memᴰ·append-right p (here s w)) in
           let near : d ≡ distance (g .variables) (s .point) (g .target) =
-              far ∙ ap (λ y. distance 64 y (g .target)) same ∙ distance-wider (g .variables) 64 (s .point) (g .target) below (ok .ready .target-below) (ok .few) in
+          far ∙ ap (λ y. distance 64 y (g .target)) same ∙ distance-wider (g .variables) 64 (s .point) (g .target) below (ok .ready .target-below) (ok .few) in
           let all = st .filled in
           let e : satisfiable (s .point) (distance (g .variables) (s .point) (g .target)) (length (p ++ s ∷ w)) ≡ satisfiable x d k = cc in
           record {

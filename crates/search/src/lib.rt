@@ -1,7 +1,7 @@
 // The search (01: walk, builder): breadth first from the target, to the nearest satisfying point, a stable set, or the end of the room.
-use formula::refusals::problem_refusal;
 use formula::Checked;
 use formula::Formula;
+use formula::refusals::problem_refusal;
 use points::Point;
 use slices::least;
 use slices::point_count;

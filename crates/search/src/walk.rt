@@ -1,10 +1,10 @@
 // The search from the target, slot by slot, oldest first.
-use crate::expansion::expand;
-use crate::slots::fill;
 use crate::Depth;
 use crate::Frame;
 use crate::Outcome;
 use crate::Step;
+use crate::expansion::expand;
+use crate::slots::fill;
 use slices::clause_at;
 use slices::first_falsified;
 use slices::point_at;
@@ -41,13 +41,11 @@ fn process(
     if number == 0 {
         let distance = points::distance(x, g.target);
         let slots = filled as u32;
-        return Step::Ends(
-            Outcome::Satisfiable {
-                point: x,
-                distance: distance,
-                filled: slots,
-            },
-        );
+        return Step::Ends(Outcome::Satisfiable {
+            point: x,
+            distance: distance,
+            filled: slots,
+        });
     }
     falsified[at] = number as u32;
     let before = number - 1;
@@ -59,7 +57,10 @@ fn process(
         return Step::Goes { filled: held };
     }
     let slots = held as u32;
-    Step::Ends(Outcome::Unknown { bound: d, filled: slots })
+    Step::Ends(Outcome::Unknown {
+        bound: d,
+        filled: slots,
+    })
 }
 
 // W4, W9: processes the slots one after the other until one gives the answer or none is left. At most `room` steps. `start` has stored the
@@ -82,7 +83,17 @@ fn walk_on(
     let mut at = 0;
     let mut filled = 1;
     while at < filled {
-        let step = process(g, images, positive, negative, points, falsified, depths, at, filled);
+        let step = process(
+            g,
+            images,
+            positive,
+            negative,
+            points,
+            falsified,
+            depths,
+            at,
+            filled,
+        );
         match step {
             Step::Ends(outcome) => {
                 return outcome;

@@ -1,70 +1,65 @@
+-- `search::search` meets its contract: a law of BuilderLaws for each way out. Assumes nothing.
+use mathlib.Core.Path.{_≡_}
+use lib.ListN.{length}
+use Rattle.search.specs.BuilderLaws.{searched-faulty, searched-none-lent, startable-of, searched-of}
 use borrow.Author.Needs.{needs}
 use Rattle.search.proofs.search.Statement.{statement}
 use Rattle.search.proofs.search.Tie as tie
-use Rattle.search.proofs.search.Reads as reads
-use Rattle.search.proofs.search.Lts as lts
-use Rattle.formula.proofs.refusals.problem_refusal.Reads as problem-refusal-reads
-use Rattle.search.proofs.room.Reads as room-reads
-use Rattle.search.proofs.walk.start.Reads as start-reads
 
--- src/lib.rt:84:9
 problem-refusal-requires : tie.Need-problem-refusal-requires
 problem-refusal-requires c κs = search needs
 
 enum-told : tie.Need-enum-told
 enum-told c = search needs
 
--- src/lib.rt:87:28
 enum-known-checked : tie.Need-enum-known-checked
 enum-known-checked c = search needs
 
--- src/lib.rt:88:13
 returns : tie.Need-returns
-returns c = ?
+returns c = searched-faulty _ _ _ _ _ _ _ (c .before .before .before .problem-refusal .ensures) _ _ (c .before .checked .given .1)
 
--- src/lib.rt:94:9
 room-requires : tie.Need-room-requires
 room-requires c κs = search needs
 
--- src/lib.rt:96:9
 same-length : tie.Need-same-length
 same-length c = search needs
 
--- src/lib.rt:96:9
 same-length-2 : tie.Need-same-length-2
 same-length-2 c = search needs
 
--- src/lib.rt:96:9
 same-length-3 : tie.Need-same-length-3
 same-length-3 c = search needs
 
--- src/lib.rt:96:9
 returns-2 : tie.Need-returns-2
-returns-2 c = ?
+returns-2 c = searched-none-lent _ _ _ _ _ _ _ (c .before .before .before .before .before .before .before .problem-refusal .ensures) (c .before .before .before .before .before .enum-told .given .1) _ (c .before .room .ensures) (c .if1 .taken)
 
--- src/lib.rt:105:20
+-- the array of the images is as long as its type says
+size : (c : tie.Start) → length (c .args .f .images) ≡ 1024
+size c = search needs
+
 slice-aggregate-start : tie.Need-slice-aggregate-start
 slice-aggregate-start c = search needs
 
--- src/lib.rt:105:5
 start-requires : tie.Need-start-requires
-start-requires c κs = ?
+start-requires c κs =
+    let lent = c .before .before .before .before .before .before in
+    let told = lent .before .before .before .before in
+    startable-of _ _ _ _ _ _ _ (told .before .before .problem-refusal .ensures) (told .enum-told .given .1) _ (lent .room .ensures) (c .before .before .before .before .before .if1 .left) (size (c .before .before .before .before .before .before .before .before .before .before .before .before .before .before .before .before .before .before))
 
--- src/lib.rt:73:1
 same-length-4 : tie.Need-same-length-4
 same-length-4 c = search needs
 
--- src/lib.rt:73:1
 same-length-5 : tie.Need-same-length-5
 same-length-5 c = search needs
 
--- src/lib.rt:73:1
 same-length-6 : tie.Need-same-length-6
 same-length-6 c = search needs
 
--- src/lib.rt:73:1
 returns-3 : tie.Need-returns-3
-returns-3 c = ?
+returns-3 c =
+    let lent = c .before .before .before .before .before .before .before .before .before .before .before .before .before in
+    let told = lent .before .before .before .before in
+    searched-of _ _ _ _ _ _ _ (told .before .before .problem-refusal .ensures) (told .enum-told .given .1) _ (lent .room .ensures) (c .before .before .before .before .before .before .before .before .before .before .before .before .if1 .left) _ _ (c .before .before .before .before .before .before .start .ensures)
 
 pub search-spec : {M : Type 1} → statement M
 search-spec =

@@ -81,13 +81,15 @@ expand-requires : tie.Need-expand-requires
 expand-requires c κs =
     let start = c .before .before .before .before .before .before .before .before .before .before .before .before .before .before .before .before in
     let ok = start .pre .0 in
-    let a = read (c .before .before .before) in
-    (record {
-      few = ok .few;
-      listed = ok .listed;
-      room = lends-still (start .pre .1) (record { points-length = refl; falsified-length = stored (c .before .before .before .before .before); depths-length = refl });
-      shallow = read-shallow _ _ _ _ ok (start .pre .2) a (start .pre .3);
-    }, read-below _ _ _ _ ok (start .pre .2) a (start .pre .3))
+    let a = read (c .before .before .before) in (
+      record {
+        few = ok .few;
+        listed = ok .listed;
+        room = lends-still (start .pre .1) (record { points-length = refl; falsified-length = stored (c .before .before .before .before .before); depths-length = refl });
+        shallow = read-shallow _ _ _ _ ok (start .pre .2) a (start .pre .3);
+      },
+      read-below _ _ _ _ ok (start .pre .2) a (start .pre .3),
+    )
 
 same-length-2 : tie.Need-same-length-2
 same-length-2 c = search needs

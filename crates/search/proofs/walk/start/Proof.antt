@@ -19,8 +19,7 @@ stored c = let pre = c .before .before .before .before .before .before .before .
 walk-on-requires : tie.Need-walk-on-requires
 walk-on-requires c κs =
     let filled = c .before .before .before .before .before .before .before .before .before in
-    let pre = filled .before .before .before .before .before .before .before .before .before .before .pre in
-    (
+    let pre = filled .before .before .before .before .before .before .before .before .before .before .pre in (
       pre .0,
       lends-still (pre .1) (record { points-length = filled .fill .kept .0; falsified-length = filled .fill .kept .1 .0; depths-length = filled .fill .kept .1 .1 .0 }),
       record { old = _; holds = stored filled },

@@ -63,8 +63,7 @@ loop-less c =
 loop-again : tie.Need-loop-again Inv-loop μ-loop
 loop-again c =
     let done = c .before .before .before .before .before .before .before .before .before .process in
-    let inv = c .before .before .before .before .before .before .before .before .before .before .before .before .before .before .loop .inv in
-    (
+    let inv = c .before .before .before .before .before .before .before .before .before .before .before .before .before .before .loop .inv in (
       lengths-trans (inv .0) (record { points-length = done .kept .1 .1 .1 .1 .0; falsified-length = done .kept .1 .1 .1 .1 .1 .0; depths-length = done .kept .1 .1 .1 .1 .1 .1 .0 }),
       walking-goes-on _ _ (inv .1) (done .ensures) _ (c .before .step2 .given .1),
     )
