@@ -1,9 +1,11 @@
 -- Laws of new contents in front of what was there, while they grow at their end or one element of them changes. Assumes nothing.
 use mathlib.Core.List.{List, [], _∷_, _++_, append-assoc}
 use mathlib.Core.Path.{_≡_, refl, sym, ap, _∙_}
-use Prim.Native.Nat.{ℕ, suc, _<_}
-use lib.ListN.{length, getD, set, drop, length-append}
-use lib.Seq.{drop-cons, set-at, getD-at}
+use Prim.Native.Nat.{ℕ, suc, _+_, _<_}
+use native.Mathlib.Nat.{le-of-lt}
+use native.Mathlib.Omega.{arith}
+use lib.ListN.{length, getD, set, take, drop, length-append}
+use lib.Seq.{length-take-le, take-suc, drop-cons, set-at, getD-at}
 use Rattle.math.specs.Lists.{over}
 use Rattle.math.specs.QueueLaws.{length-snoc}
 
@@ -37,3 +39,9 @@ module _ {A : Type 0} where
   over-at k front back old a d e =
       ap (λ l. getD l k d) (append-assoc front (a ∷ back) (drop (length (front ++ a ∷ back)) old))
       ∙ getD-at front a (back ++ drop (length (front ++ a ∷ back)) old) d k e
+
+  -- copying another list element by element: after i come i + 1
+  pub over-take-next : (i : ℕ) (xs old : List A) (d : A) → i < length xs → i < length old → set (over (take i xs) old) i (getD xs i d) ≡ over (take (i + 1) xs) old
+  over-take-next i xs old d more room =
+      over-snoc i (take i xs) old (getD xs i d) (length-take-le i xs (le-of-lt more)) room
+      ∙ ap (λ l. over l old) (sym (take-suc xs i d more) ∙ ap (λ (j : ℕ). take j xs) (let z : suc i ≡ i + 1 = omega arith in z))

@@ -1,0 +1,54 @@
+-- `exports::jugbowo_search` meets its contract: with room for the answer it tells what the search answers. Assumes nothing.
+use borrow.Author.Needs.{needs}
+use Rattle.exports.specs.ExportedLaws.{tells-nothing, tells-search}
+use Rattle.exports.proofs.jugbowo_search.Statement.{statement}
+use Rattle.exports.proofs.jugbowo_search.Tie as tie
+
+returns : tie.Need-returns
+returns c =
+    let a = c .before .before .before .before .before .before .before .before .args in
+    tells-nothing _ (a .positive .now) (a .negative .now) (a .points .now) (a .falsified .now) (a .depths .now) (a .reply .now) (c .if1 .taken)
+
+formula-from-requires : tie.Need-formula-from-requires
+formula-from-requires c κs = search needs
+
+search-requires : tie.Need-search-requires
+search-requires c κs = search needs
+
+put-outcome-requires : tie.Need-put-outcome-requires
+put-outcome-requires c κs = search needs
+
+same-length : tie.Need-same-length
+same-length c = search needs
+
+same-length-2 : tie.Need-same-length-2
+same-length-2 c = search needs
+
+same-length-3 : tie.Need-same-length-3
+same-length-3 c = search needs
+
+same-length-4 : tie.Need-same-length-4
+same-length-4 c = search needs
+
+returns-2 : tie.Need-returns-2
+returns-2 c =
+    let answered = c .before .before .before .before .before .before .before .before .before .before in
+    let made = answered .before .before .before .before in
+    let roomy = made .before in
+    let a = roomy .before .before .before .before .before .before .before .before .args in
+    tells-search _ (a .positive .now) (a .negative .now) (a .points .now) (a .falsified .now) (a .depths .now) (a .reply .now) _ (answered .search .result) _ _ _ _
+    (roomy .if1 .left) (made .formula-from .ensures) (answered .search .ensures) (c .before .before .put-outcome .ensures)
+
+pub jugbowo-search-spec : {M : Type 1} → statement M
+jugbowo-search-spec =
+    tie.close
+    (tie.spec
+    returns
+    formula-from-requires
+    search-requires
+    put-outcome-requires
+    same-length
+    same-length-2
+    same-length-3
+    same-length-4
+    returns-2)

@@ -1,0 +1,22 @@
+-- An answer as words of a lent slice, and the images of a formula from lent bytes. Assumes nothing.
+use mathlib.Core.List.{List, [], _∷_}
+use Prim.Native.Nat.{ℕ}
+use lib.ListN.{take, replicate}
+use Rattle.math.specs.Lists.{over}
+use Rattle.formula.specs.Reply.{Reply, refused, satisfiable, unsatisfiable, unknown, parsed, written, opened, accepted}
+
+-- F10: an answer as four words: which it is, then what it carries, in its order, then 0
+unfoldable pub wordsOf : Reply → List ℕ
+wordsOf (refused code place) = 0 ∷ code ∷ place ∷ 0 ∷ []
+wordsOf (satisfiable x d k) = 1 ∷ x ∷ d ∷ k ∷ []
+wordsOf (unsatisfiable k) = 2 ∷ k ∷ 0 ∷ 0 ∷ []
+wordsOf (unknown b k) = 3 ∷ b ∷ k ∷ 0 ∷ []
+wordsOf parsed = 4 ∷ 0 ∷ 0 ∷ 0 ∷ []
+wordsOf (written k) = 5 ∷ k ∷ 0 ∷ 0 ∷ []
+wordsOf opened = 6 ∷ 0 ∷ 0 ∷ 0 ∷ []
+wordsOf accepted = 7 ∷ 0 ∷ 0 ∷ 0 ∷ []
+
+-- S21: "the exchanges as 1,024 bytes": the first 1,024 bytes lent, and 0 where there are fewer
+unfoldable pub imagesFrom : List ℕ → List ℕ
+unfolding over
+imagesFrom bytes = over (take 1024 bytes) (replicate 1024 0)

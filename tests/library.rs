@@ -1,0 +1,61 @@
+// The exported functions, as crates/exports declares them, behind safe functions. A slice is a pointer and a length.
+
+// A formula with its clauses.
+pub struct Sheet {
+    pub variables: u32,
+    pub clauses: u32,
+    pub target: u64,
+    pub permutations: u32,
+    pub images: Vec<u8>,
+    pub positive: Vec<u64>,
+    pub negative: Vec<u64>,
+}
+
+extern "C" {
+    fn jugbowo_search(
+        variables: u32,
+        clauses: u32,
+        target: u64,
+        permutations: u32,
+        images: *const u8,
+        images_len: usize,
+        positive: *const u64,
+        positive_len: usize,
+        negative: *const u64,
+        negative_len: usize,
+        points: *mut u64,
+        points_len: usize,
+        falsified: *mut u32,
+        falsified_len: usize,
+        depths: *mut u32,
+        depths_len: usize,
+        reply: *mut u64,
+        reply_len: usize,
+    ) -> u32;
+}
+
+// Searches over three lent slices; four words of `reply` take the answer, and the result is 1, or 0 where they have no place.
+pub fn search(s: &Sheet, points: &mut [u64], falsified: &mut [u32], depths: &mut [u32], reply: &mut [u64]) -> u32 {
+    unsafe {
+        jugbowo_search(
+            s.variables,
+            s.clauses,
+            s.target,
+            s.permutations,
+            s.images.as_ptr(),
+            s.images.len(),
+            s.positive.as_ptr(),
+            s.positive.len(),
+            s.negative.as_ptr(),
+            s.negative.len(),
+            points.as_mut_ptr(),
+            points.len(),
+            falsified.as_mut_ptr(),
+            falsified.len(),
+            depths.as_mut_ptr(),
+            depths.len(),
+            reply.as_mut_ptr(),
+            reply.len(),
+        )
+    }
+}

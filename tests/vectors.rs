@@ -1,0 +1,159 @@
+// Runs outside vectors against the compiled library: compares each reply and all memory lent, prints a line for each disagreement and a
+// count for each kind. Exit status 1 if anything differs. Usage: vectors FILE.
+use std::collections::HashMap;
+use std::fmt::Debug;
+
+mod library;
+use library::Sheet;
+
+// A vector: its kind, its id, and the words behind each key.
+struct Vector<'a> {
+    kind: &'a str,
+    id: &'a str,
+    told: HashMap<&'a str, Vec<&'a str>>,
+}
+
+impl<'a> Vector<'a> {
+    fn words(&self, key: &str) -> &[&'a str] {
+        self.told.get(key).map(|w| w.as_slice()).unwrap_or(&[])
+    }
+
+    fn numbers(&self, key: &str) -> Vec<u64> {
+        self.words(key).iter().map(|w| w.parse().expect("a number")).collect()
+    }
+
+    // Before the call place i of every lent slice holds fill + i.
+    fn filled(&self, len: usize) -> Vec<u64> {
+        let fill = self.numbers("fill")[0];
+        (0..len).map(|i| fill.wrapping_add(i as u64)).collect()
+    }
+
+    fn sheet(&self) -> Sheet {
+        let words = self.words("sheet");
+        let number = |i: usize| words[i].parse::<u64>().expect("a number");
+        let mut images = vec![0u8; 1024];
+        let told: Vec<u8> = words[4..].iter().flat_map(|w| run(w)).collect();
+        images[..told.len()].copy_from_slice(&told);
+        Sheet {
+            variables: number(0) as u32,
+            clauses: number(1) as u32,
+            target: number(2),
+            permutations: number(3) as u32,
+            images,
+            positive: self.numbers("yes"),
+            negative: self.numbers("no"),
+        }
+    }
+}
+
+// One run of bytes: H:hex:times or U:first:count.
+fn run(word: &str) -> Vec<u8> {
+    let parts: Vec<&str> = word.split(':').collect();
+    let count: usize = parts[2].parse().expect("a count");
+    if parts[0] == "U" {
+        let first: u64 = parts[1].parse().expect("a number");
+        return (0..count as u64).flat_map(|i| (first + i).to_le_bytes()).collect();
+    }
+    let digits = parts[1].as_bytes();
+    let bytes: Vec<u8> = digits
+        .chunks(2)
+        .map(|p| u8::from_str_radix(std::str::from_utf8(p).expect("text"), 16).expect("hex"))
+        .collect();
+    bytes.repeat(count)
+}
+
+// What should stand in a slice afterwards: the new contents, then what was there.
+fn over<T: Copy>(new: Vec<T>, old: &[T]) -> Vec<T> {
+    let rest = old[new.len()..].to_vec();
+    [new, rest].concat()
+}
+
+fn narrow(xs: Vec<u64>) -> Vec<u32> {
+    xs.into_iter().map(|x| x as u32).collect()
+}
+
+// Collects what differs of one vector.
+struct Differences(Vec<String>);
+
+impl Differences {
+    fn compare<T: PartialEq + Debug>(&mut self, what: &str, got: T, wanted: T) {
+        if got != wanted {
+            let mut line = format!("{what}: got {got:?}, wanted {wanted:?}");
+            line.truncate(300);
+            self.0.push(line);
+        }
+    }
+}
+
+// The words of a reply: 0 refused, 1 satisfiable, 2 unsatisfiable, 3 unknown, each with its numbers.
+fn reply_words(answer: &[&str]) -> Vec<u64> {
+    let kind = match answer[0] {
+        "refused" => 0,
+        "met" => 1,
+        "unmet" => 2,
+        "room" => 3,
+        other => panic!("no reply of the search: {other}"),
+    };
+    let mut words = vec![kind];
+    words.extend(answer[1..].iter().map(|w| w.parse::<u64>().expect("a number")));
+    words.resize(4, 0);
+    words
+}
+
+fn builder(v: &Vector, d: &mut Differences) {
+    let s = v.sheet();
+    let lent = v.numbers("lent");
+    let mut points = v.filled(lent[0] as usize);
+    let mut falsified = narrow(v.filled(lent[1] as usize));
+    let mut depths = narrow(v.filled(lent[2] as usize));
+    let before = (points.clone(), falsified.clone(), depths.clone());
+    let mut reply = vec![7u64; 5];
+    let told = library::search(&s, &mut points, &mut falsified, &mut depths, &mut reply);
+    d.compare("told", told, 1);
+    d.compare("reply", reply, over(reply_words(v.words("answer")), &[7; 5]));
+    d.compare("points", points, over(v.numbers("after-points"), &before.0));
+    d.compare("clause numbers", falsified, over(narrow(v.numbers("after-numbers")), &before.1));
+    d.compare("depths", depths, over(narrow(v.numbers("after-depths")), &before.2));
+}
+
+fn vectors(text: &str) -> Vec<Vector<'_>> {
+    let blocks = text.split("\n\n").filter(|b| !b.trim().is_empty());
+    blocks
+        .map(|block| {
+            let mut told = HashMap::new();
+            for line in block.lines() {
+                let mut words = line.split(' ');
+                told.insert(words.next().expect("a key"), words.collect::<Vec<&str>>());
+            }
+            let name = told["vector"].clone();
+            Vector { kind: name[0], id: name[1], told }
+        })
+        .collect()
+}
+
+fn main() {
+    let path = std::env::args().nth(1).expect("a file of vectors");
+    let text = std::fs::read_to_string(path).expect("the vectors");
+    let kinds: [(&str, fn(&Vector, &mut Differences)); 1] = [("builder", builder)];
+    let all = vectors(&text);
+    let (mut passed, mut failed) = (0, 0);
+    for (kind, test) in kinds {
+        let (mut run, mut wrong) = (0, 0);
+        for v in all.iter().filter(|v| v.kind == kind) {
+            let mut d = Differences(Vec::new());
+            test(v, &mut d);
+            run += 1;
+            if !d.0.is_empty() {
+                wrong += 1;
+                println!("{}: {}", v.id, d.0.join("; "));
+            }
+        }
+        println!("{kind} vectors: {wrong} of {run} differ");
+        passed += run - wrong;
+        failed += wrong;
+    }
+    println!("vectors: {passed} passed, {failed} failed");
+    if failed > 0 {
+        std::process::exit(1);
+    }
+}
