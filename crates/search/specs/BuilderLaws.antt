@@ -21,11 +21,11 @@ use Rattle.formula.specs.Reply.{Reply, Fault, sound, fault, first, unless, unle
 use Rattle.formula.specs.ReplyLaws.{fault-not-sound, unless-sound}
 use Rattle.search.specs.Accepted.{rows, ready-of-faults, lent-of-faults, lent-few}
 use Rattle.search.specs.Builder.{replyOf, slotFault, searchFault, lentBy, searchReply, searchSlots, searchSlice, Searched}
-use Rattle.search.specs.declared.Frame.{Frame}
+use Rattle.expansion.specs.declared.Frame.{Frame}
 use Rattle.search.specs.declared.Outcome.{Outcome}
 use Rattle.search.specs.declared.Outcome.the-variants.{Refused}
-use Rattle.search.specs.Memory.{Memory, memory, Lends}
-use Rattle.search.specs.Stepping.{framed, Searchable, Ended}
+use Rattle.expansion.specs.Memory.{Memory, memory, Lends}
+use Rattle.frontier.specs.Stepping.{framed, Searchable, Ended}
 use Rattle.traversal.specs.Invariants.{Ready}
 use Rattle.traversal.specs.Walk.{Slot, slot, start, Walks, walked}
 use Rattle.traversal.specs.WalkLaws.{walks-walked}
@@ -145,16 +145,16 @@ module _ (f : Formula) (positive negative : List ℕ) where
           pub startable-of : length (f .images) ≡ 1024 → Searchable (frameOf f k) (f .images) positive negative × Lends k (memory points falsified depths)
           startable-of size = (searchable-of size, subst (λ j. Lends j (memory points falsified depths)) (sym room) (lent-room points falsified depths))
 
-          pub searched-of : (r : Outcome) (m : Memory)
-              → Ended (framed (frameOf f k) (f .images) positive negative) k (memory points falsified depths) [] (slot (f .target) 0 0 ∷ []) (replyOf r) m
+          pub searched-of : (q : Reply) (r : Outcome) (m : Memory) → replyOf r ≡ q
+              → Ended (framed (frameOf f k) (f .images) positive negative) k (memory points falsified depths) [] (slot (f .target) 0 0 ∷ []) q m
               → Searched f positive negative points falsified depths r (m .points) (m .falsified) (m .depths)
-          searched-of r m e =
+          searched-of q r m same e =
               let passed-here = subst (λ j. searchFault f positive negative j ≡ sound) room clean in
-              let in-problem = subst (λ pb. Walks pb k (start pb) (replyOf r) (e .slots)) (framed-is k (rows f positive negative k clean .0)) (e .walks) in
-              let in-room = subst (λ j. Walks (problemOf f positive negative) j (start (problemOf f positive negative)) (replyOf r) (e .slots)) room in-problem in
+              let in-problem = subst (λ pb. Walks pb k (start pb) q (e .slots)) (framed-is k (rows f positive negative k clean .0)) (e .walks) in
+              let in-room = subst (λ j. Walks (problemOf f positive negative) j (start (problemOf f positive negative)) q (e .slots)) room in-problem in
               let w = walks-walked (problemOf f positive negative) lent (lent-of-faults f positive negative lent passed-here) in-room in
               record {
-                reply = reply-of lent (replyOf r) passed-here (w .0);
+                reply = same ∙ reply-of lent q passed-here (w .0);
                 points = slice-of (λ (s : Slot). s .point) lent (e .slots) (pointsOf points) (m .points) passed-here (w .1) (e .holds .points-held);
                 falsified = slice-of (λ (s : Slot). s .falsified) lent (e .slots) falsified (m .falsified) passed-here (w .1) (e .holds .falsified-held);
                 depths = slice-of (λ (s : Slot). s .depth) lent (e .slots) depths (m .depths) passed-here (w .1) (e .holds .depths-held);

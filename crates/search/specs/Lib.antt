@@ -4,12 +4,4 @@ pub mod Answered
 pub mod Accepted
 pub mod Inputs
 pub mod Theorems
-pub mod Memory
-pub mod Filling
-pub mod FillingLaws
-pub mod TryingLaws
-pub mod Stepping
-pub mod NumberLaws
-pub mod SteppingLaws
-pub mod WalkingLaws
 pub mod BuilderLaws

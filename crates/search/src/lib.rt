@@ -1,19 +1,18 @@
 // The search (01: walk, builder): breadth first from the target, to the nearest satisfying point, a stable set, or the end of the room.
+use expansion::Frame;
 use formula::Checked;
 use formula::Formula;
 use formula::refusals::problem_refusal;
+use frontier::Answer;
 use points::Point;
 use slices::least;
 use slices::point_count;
 ghost use mathlib.Core.Path.{_≡_};
-ghost use Rattle.search.specs.Builder.{lentBy, Searched};
-
-mod expansion;
-mod slots;
-mod walk;
+ghost use Rattle.frontier.specs.Stepping.{answerOf};
+ghost use Rattle.search.specs.Builder.{replyOf, lentBy, Searched};
 
 // A slot's depth: how many flips lie between the target and its point.
-pub type Depth = u32;
+pub type Depth = expansion::Depth;
 
 // What the search answers. Of an unknown result the bound is a number of variables: every satisfying point differs from the target in at
 // least so many.
@@ -36,24 +35,26 @@ pub enum Outcome {
     },
 }
 
-// What stays the same during a search: the number of variables and of permutations, the number of slots, and the target.
-pub struct Frame {
-    variables: u32,
-    permutations: u32,
-    room: usize,
-    target: Point,
-}
-
-// How many slots are filled after flips were tried, and whether each that was to fill one found it.
-pub struct Grown {
-    filled: usize,
-    roomy: bool,
-}
-
-// What processing one slot comes to: an answer, or more slots filled.
-pub enum Step {
-    Ends(Outcome),
-    Goes { filled: usize },
+// What a search that was not refused answers.
+fn as_outcome(a: Answer) -> Outcome
+    ensures { λ r. ⌜ replyOf r ≡ answerOf a ⌝ }
+{
+    match a {
+        Answer::Satisfiable {
+            point,
+            distance,
+            filled,
+        } => Outcome::Satisfiable {
+            point: point,
+            distance: distance,
+            filled: filled,
+        },
+        Answer::Unsatisfiable { filled } => Outcome::Unsatisfiable { filled: filled },
+        Answer::Unknown { bound, filled } => Outcome::Unknown {
+            bound: bound,
+            filled: filled,
+        },
+    }
 }
 
 // The slots that three lent slices give: the shortest length, and at most 65,536.
@@ -102,5 +103,6 @@ pub fn search(
         room: lent,
         target: f.target,
     };
-    walk::start(g, &images, positive, negative, points, falsified, depths)
+    let answer = frontier::start(g, &images, positive, negative, points, falsified, depths);
+    as_outcome(answer)
 }

@@ -7,12 +7,11 @@ use native.Mathlib.Omega.{arith}
 use lib.ListN.{length, length-append}
 use Rattle.formula.specs.Problem.{Problem}
 use Rattle.formula.specs.Reply.{Reply, unsatisfiable}
-use Rattle.search.specs.Builder.{replyOf}
-use Rattle.search.specs.declared.Outcome.{Outcome}
-use Rattle.search.specs.declared.Step.{Step}
-use Rattle.search.specs.declared.Step.the-variants.{Ends, Goes}
-use Rattle.search.specs.Memory.{Memory, Holds}
-use Rattle.search.specs.Stepping.{Stands, Begun, Midway, GoesOn, Ended, After, Steps, Walking, Answers}
+use Rattle.frontier.specs.declared.Answer.{Answer}
+use Rattle.frontier.specs.declared.Step.{Step}
+use Rattle.frontier.specs.declared.Step.the-variants.{Ends, Goes}
+use Rattle.expansion.specs.Memory.{Memory, Holds}
+use Rattle.frontier.specs.Stepping.{answerOf, Stands, Begun, Midway, GoesOn, Ended, After, Steps, Walking, Answers}
 use Rattle.traversal.specs.InvariantLaws.{invariants-start}
 use Rattle.traversal.specs.Invariants.{Ready}
 use Rattle.traversal.specs.Walk.{Slot, slot, state, Walks, none-left}
@@ -42,11 +41,11 @@ module _ (pb : Problem) (capacity : ℕ) where
           let c : GoesOn pb capacity old (b .front) (b .back) (i + 1) k′ m′ = subst (λ x. After pb capacity old (b .front) (b .back) i x m′) e (s old (b .front) (b .back) (b .stands)) in
           record { front = c .front; back = c .back; stands = c .stands; onward = λ r l t. b .onward r l (c .onward r l t) }
 
-      pub walking-stops : (o : Outcome) → step ≡ Ends o → Answers pb capacity m₀ (replyOf o) m′
+      pub walking-stops : (o : Answer) → step ≡ Ends o → Answers pb capacity m₀ (answerOf o) m′
       walking-stops o e old h =
           let b = a old h in
-          let c : Ended pb capacity old (b .front) (b .back) (replyOf o) m′ = subst (λ x. After pb capacity old (b .front) (b .back) i x m′) e (s old (b .front) (b .back) (b .stands)) in
-          record { slots = c .slots; holds = c .holds; walks = b .onward (replyOf o) (c .slots) (c .walks) }
+          let c : Ended pb capacity old (b .front) (b .back) (answerOf o) m′ = subst (λ x. After pb capacity old (b .front) (b .back) i x m′) e (s old (b .front) (b .back) (b .stands)) in
+          record { slots = c .slots; holds = c .holds; walks = b .onward (answerOf o) (c .slots) (c .walks) }
 
     -- W9: "None left: answer cannot be met, with slots filled."
     pub walking-ends : k ≤ i → Answers pb capacity m₀ (unsatisfiable k) m

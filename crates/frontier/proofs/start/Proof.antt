@@ -1,11 +1,11 @@
--- `search::walk::start` meets its contract: the first slot holds the target, in front of what was there. Assumes nothing.
+-- `frontier::start` meets its contract: the first slot holds the target, in front of what was there. Assumes nothing.
 use mathlib.Core.List.{[], _∷_}
-use Rattle.search.specs.FillingLaws.{lends-still, lends-fewer, held-first}
-use Rattle.search.specs.Memory.{memory, Holds}
+use Rattle.expansion.specs.FillingLaws.{lends-still, lends-fewer, held-first}
+use Rattle.expansion.specs.Memory.{memory, Holds}
 use Rattle.traversal.specs.Walk.{slot}
 use borrow.Author.Needs.{needs}
-use Rattle.search.proofs.walk.start.Statement.{statement}
-use Rattle.search.proofs.walk.start.Tie as tie
+use Rattle.frontier.proofs.start.Statement.{statement}
+use Rattle.frontier.proofs.start.Tie as tie
 
 fill-requires : tie.Need-fill-requires
 fill-requires c κs = search needs
@@ -16,8 +16,8 @@ stored : (c : tie.After-fill)
     Holds (memory (a .points .now) (a .falsified .now) (a .depths .now)) (slot (a .g .target) 0 0 ∷ []) (memory (c .fill .last .0) (c .fill .last .1 .0) (c .fill .last .1 .1 .0))
 stored c = let pre = c .before .before .before .before .before .before .before .before .before .before .pre in held-first (lends-fewer (pre .0 .some) (pre .1)) (c .fill .ensures)
 
-walk-on-requires : tie.Need-walk-on-requires
-walk-on-requires c κs =
+explore-requires : tie.Need-explore-requires
+explore-requires c κs =
     let filled = c .before .before .before .before .before .before .before .before .before in
     let pre = filled .before .before .before .before .before .before .before .before .before .before .pre in (
       pre .0,
@@ -35,9 +35,9 @@ same-length-3 : tie.Need-same-length-3
 same-length-3 c = search needs
 
 returns : tie.Need-returns
-returns c = c .before .before .before .before .before .before .walk-on .ensures _ (stored (c .before .before .before .before .before .before .before .before .before .before .before .before .before .before .before .before))
+returns c = c .before .before .before .before .before .before .explore .ensures _ (stored (c .before .before .before .before .before .before .before .before .before .before .before .before .before .before .before .before))
 
 pub start-spec : {M : Type 1} → statement M
 start-spec =
     tie.close
-    (tie.spec fill-requires walk-on-requires same-length same-length-2 same-length-3 returns)
+    (tie.spec fill-requires explore-requires same-length same-length-2 same-length-3 returns)

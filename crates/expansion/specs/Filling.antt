@@ -9,7 +9,7 @@ use Rattle.points.specs.Contracts.{NextVariable}
 use Rattle.images.specs.Contracts.{Listed}
 use Rattle.permutations.specs.Permutations.{Permutation}
 use Rattle.formula.specs.Limits.{maxVariables, maxSlots}
-use Rattle.search.specs.Memory.{Memory, Holds, Lends, SameLengths}
+use Rattle.expansion.specs.Memory.{Memory, Holds, Lends, SameLengths}
 use Rattle.traversal.specs.Walk.{Slot, Expansion, full, Fills}
 
 -- what lets a flip be tried, of a point at depth d: the images hold `count` permutations of n variables, and each slice has room for

@@ -14,9 +14,9 @@ use Rattle.math.specs.SetLaws.{members-next, members-none}
 use Rattle.points.specs.Contracts.{NextVariable}
 use Rattle.permutations.specs.Permutations.{Permutation}
 use Rattle.formula.specs.Limits.{maxVariables}
-use Rattle.search.specs.Filling.{Advances, Tries, Trying}
-use Rattle.search.specs.FillingLaws.{lengths-refl, lengths-trans, advances-begins, advances-on, advances-stuck}
-use Rattle.search.specs.Memory.{Memory, SameLengths}
+use Rattle.expansion.specs.Filling.{Advances, Tries, Trying}
+use Rattle.expansion.specs.FillingLaws.{lengths-refl, lengths-trans, advances-begins, advances-on, advances-stuck}
+use Rattle.expansion.specs.Memory.{Memory, SameLengths}
 
 -- ---- the next variable of a set of n
 

@@ -22,14 +22,14 @@ use Rattle.theory.specs.Distance.{distance-wider}
 use Rattle.formula.specs.Limits.{maxSlots}
 use Rattle.formula.specs.Problem.{Problem}
 use Rattle.formula.specs.Reply.{Reply, satisfiable, unknown}
-use Rattle.search.specs.declared.Frame.{Frame}
-use Rattle.search.specs.declared.Outcome.the-variants.{Unknown}
-use Rattle.search.specs.declared.Step.the-variants.{Ends, Goes}
-use Rattle.search.specs.Filling.{Reaches, Advances}
-use Rattle.search.specs.FillingLaws.{ended, advances-ends}
-use Rattle.search.specs.Memory.{Memory, memory, Holds, Lends}
-use Rattle.search.specs.NumberLaws.{number-none, number-found}
-use Rattle.search.specs.Stepping.{framed, Searchable, Stands, Midway, GoesOn, Ended, Steps}
+use Rattle.expansion.specs.declared.Frame.{Frame}
+use Rattle.frontier.specs.declared.Answer.the-variants.{Unknown}
+use Rattle.frontier.specs.declared.Step.the-variants.{Ends, Goes}
+use Rattle.expansion.specs.Filling.{Reaches, Advances}
+use Rattle.expansion.specs.FillingLaws.{ended, advances-ends}
+use Rattle.expansion.specs.Memory.{Memory, memory, Holds, Lends}
+use Rattle.frontier.specs.NumberLaws.{number-none, number-found}
+use Rattle.frontier.specs.Stepping.{framed, Searchable, Stands, Midway, GoesOn, Ended, Steps}
 use Rattle.traversal.specs.ExpansionLaws.{invariants-step}
 use Rattle.traversal.specs.InvariantLaws.{first-in}
 use Rattle.traversal.specs.Invariants.{slotAt}

@@ -15,8 +15,8 @@ use Rattle.math.specs.QueueLaws.{length-snoc}
 use Rattle.math.specs.SplitLaws.{map-append}
 use Rattle.permutations.specs.PermutationLaws.{covered-sound, covered-complete}
 use Rattle.permutations.specs.Permutations.{Permutation, Covered, covered}
-use Rattle.search.specs.Filling.{Onward, Reaches, Advances}
-use Rattle.search.specs.Memory.{Memory, Holds, Lends, SameLengths, Stored}
+use Rattle.expansion.specs.Filling.{Onward, Reaches, Advances}
+use Rattle.expansion.specs.Memory.{Memory, Holds, Lends, SameLengths, Stored}
 use Rattle.traversal.specs.Walk.{Slot, slot, pointsIn, Expansion, complete, full, Fills, no-more, skipped, filled-next, no-room}
 
 -- ---- the memory

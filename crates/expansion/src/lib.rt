@@ -1,16 +1,52 @@
-// The flips of one point: each that is not covered by the filled slots fills the next.
-use crate::Depth;
-use crate::Frame;
-use crate::Grown;
-use crate::slots::fill;
+// The flips of one point: each that is not covered by the filled slots fills the next (01: "the point with that name flipped, if not
+// covered by the filled slots, fills the next slot").
 use points::Point;
+use slices::put_point;
 use symmetry::cover::covered;
 ghost use mathlib.Core.List.{[]};
 ghost use Prim.Native.Nat.{_<_, _^_};
+ghost use lib.ListN.{length};
 ghost use Rattle.math.specs.Bits.{members};
 ghost use Rattle.permutations.specs.Permutations.{permutationsIn};
-ghost use Rattle.search.specs.Memory.{memory};
-ghost use Rattle.search.specs.Filling.{Fillable, Advances, Tries};
+ghost use Rattle.traversal.specs.Walk.{slot};
+ghost use Rattle.expansion.specs.Memory.{memory, Stored};
+ghost use Rattle.expansion.specs.Filling.{Fillable, Advances, Tries};
+
+// A slot's depth: how many flips lie between the target and its point.
+pub type Depth = u32;
+
+// What stays the same during a search: the number of variables and of permutations, the number of slots, and the target.
+pub struct Frame {
+    pub variables: u32,
+    pub permutations: u32,
+    pub room: usize,
+    pub target: Point,
+}
+
+// How many slots are filled after flips were tried, and whether each that was to fill one found it.
+pub struct Grown {
+    pub filled: usize,
+    pub roomy: bool,
+}
+
+// Fills the slot of index i with a point, its depth, and 0 for its clause, as no slot is processed that is just filled. A caller fills
+// slots below the shortest length lent.
+pub fn fill(
+    points: &mut [u64],
+    falsified: &mut [u32],
+    depths: &mut [Depth],
+    i: usize,
+    x: Point,
+    depth: Depth,
+)
+    requires { ⌜ (i < length (now falsified)) × (i < length (now depths)) ⌝ }
+    ensures { λ _. ⌜ Stored (memory (now (points .entry)) (now (falsified .entry)) (now (depths .entry))) i (slot x 0 depth)
+        (memory (now (points .exit)) (now (falsified .exit)) (now (depths .exit))) ⌝ }
+{
+    put_point(points, i, x);
+    falsified[i] = 0;
+    depths[i] = depth;
+}
 
 // W7, W8: tries the point x, of depth d, with the variable v flipped: unless it is covered it fills the next slot, one deeper, if there is
 // one. A look-up compares it and its image under each permutation with each filled slot: at most (permutations + 1) · filled comparisons,

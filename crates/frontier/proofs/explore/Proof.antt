@@ -1,13 +1,13 @@
--- `search::walk::walk_on` meets its contract: a law of WalkingLaws for each event of the loop. Assumes nothing.
+-- `frontier::explore` meets its contract: a law of WalkingLaws for each event of the loop. Assumes nothing.
 use Prim.Native.Nat.{_-_, _≤_}
 use native.Mathlib.Omega.{arith}
-use Rattle.search.specs.FillingLaws.{lengths-refl, lengths-trans, lends-still}
-use Rattle.search.specs.Memory.{memory, SameLengths}
-use Rattle.search.specs.Stepping.{framed, Walking}
-use Rattle.search.specs.WalkingLaws.{walking-begins, walking-midway, walking-goes-on, walking-stops, walking-ends, midway-room}
+use Rattle.expansion.specs.FillingLaws.{lengths-refl, lengths-trans, lends-still}
+use Rattle.expansion.specs.Memory.{memory, SameLengths}
+use Rattle.frontier.specs.Stepping.{framed, Walking}
+use Rattle.frontier.specs.WalkingLaws.{walking-begins, walking-midway, walking-goes-on, walking-stops, walking-ends, midway-room}
 use borrow.Author.Needs.{needs}
-use Rattle.search.proofs.walk.walk_on.Statement.{statement}
-use Rattle.search.proofs.walk.walk_on.Tie as tie
+use Rattle.frontier.proofs.explore.Statement.{statement}
+use Rattle.frontier.proofs.explore.Tie as tie
 
 abbrev Inv-loop : tie.InvT-loop
 Inv-loop g images positive negative points₀ falsified₀ depths₀ at₀ filled₀ points falsified depths at filled =
@@ -83,8 +83,8 @@ same-length-6 c = search needs
 returns-2 : tie.Need-returns-2 Inv-loop μ-loop
 returns-2 c = walking-ends _ _ (c .before .loop .inv .1) (c .loop-test .left)
 
-pub walk-on-spec : {M : Type 1} → statement M
-walk-on-spec =
+pub explore-spec : {M : Type 1} → statement M
+explore-spec =
     tie.close
     (tie.spec
     Inv-loop

@@ -1,22 +1,42 @@
 // The search from the target, slot by slot, oldest first.
-use crate::Depth;
-use crate::Frame;
-use crate::Outcome;
-use crate::Step;
-use crate::expansion::expand;
-use crate::slots::fill;
+use expansion::Depth;
+use expansion::Frame;
+use expansion::expand;
+use expansion::fill;
+use points::Point;
 use slices::clause_at;
 use slices::first_falsified;
 use slices::point_at;
 ghost use mathlib.Core.List.{[], _∷_};
 ghost use Prim.Native.Nat.{_<_};
-ghost use Rattle.search.specs.Builder.{replyOf};
-ghost use Rattle.search.specs.Memory.{memory, Lends};
-ghost use Rattle.search.specs.Stepping.{framed, Searchable, Begun, Midway, Steps, Answers, Ended};
 ghost use Rattle.traversal.specs.Walk.{slot};
+ghost use Rattle.expansion.specs.Memory.{memory, Lends};
+ghost use Rattle.frontier.specs.Stepping.{answerOf, framed, Searchable, Begun, Midway, Steps, Answers, Ended};
+
+// What a search comes to.
+pub enum Answer {
+    Satisfiable {
+        point: Point,
+        distance: u32,
+        filled: u32,
+    },
+    Unsatisfiable {
+        filled: u32,
+    },
+    Unknown {
+        bound: u32,
+        filled: u32,
+    },
+}
+
+// What processing one slot comes to: the search's answer, or how many slots are filled now.
+pub enum Step {
+    Ends(Answer),
+    Goes { filled: usize },
+}
 
 // W5 to W8: processes the slot of index `at`. Its point satisfies all clauses, or the number of the first that it falsifies is stored, and
-// then the flips of that clause's variables are tried. One scan of the clauses, and at most n look-ups among the filled slots. `walk_on`
+// then the flips of that clause's variables are tried. One scan of the clauses, and at most n look-ups among the filled slots. `explore`
 // sees to what it requires.
 fn process(
     g: Frame,
@@ -41,7 +61,7 @@ fn process(
     if number == 0 {
         let distance = points::distance(x, g.target);
         let slots = filled as u32;
-        return Step::Ends(Outcome::Satisfiable {
+        return Step::Ends(Answer::Satisfiable {
             point: x,
             distance: distance,
             filled: slots,
@@ -57,7 +77,7 @@ fn process(
         return Step::Goes { filled: held };
     }
     let slots = held as u32;
-    Step::Ends(Outcome::Unknown {
+    Step::Ends(Answer::Unknown {
         bound: d,
         filled: slots,
     })
@@ -65,7 +85,7 @@ fn process(
 
 // W4, W9: processes the slots one after the other until one gives the answer or none is left. At most `room` steps. `start` has stored the
 // target.
-fn walk_on(
+fn explore(
     g: Frame,
     images: &[u8],
     positive: &[u64],
@@ -73,11 +93,11 @@ fn walk_on(
     points: &mut [u64],
     falsified: &mut [u32],
     depths: &mut [Depth],
-) -> Outcome
+) -> Answer
     requires { ⌜ Searchable g (now images) (now positive) (now negative) × Lends (g .room) (memory (now points) (now falsified) (now depths))
         × Begun (framed g (now images) (now positive) (now negative)) (g .room) (memory (now points) (now falsified) (now depths)) ⌝ }
     ensures { λ r. ⌜ Answers (framed g (now (images .entry)) (now (positive .entry)) (now (negative .entry))) (g .room)
-        (memory (now (points .entry)) (now (falsified .entry)) (now (depths .entry))) (replyOf r)
+        (memory (now (points .entry)) (now (falsified .entry)) (now (depths .entry))) (answerOf r)
         (memory (now (points .exit)) (now (falsified .exit)) (now (depths .exit))) ⌝ }
 {
     let mut at = 0;
@@ -95,8 +115,8 @@ fn walk_on(
             filled,
         );
         match step {
-            Step::Ends(outcome) => {
-                return outcome;
+            Step::Ends(answer) => {
+                return answer;
             }
             Step::Goes { filled: more } => {
                 filled = more;
@@ -105,7 +125,7 @@ fn walk_on(
         at += 1;
     }
     let slots = filled as u32;
-    Outcome::Unsatisfiable { filled: slots }
+    Answer::Unsatisfiable { filled: slots }
 }
 
 // W3: stores the target in the first slot and searches from there. `search` has tested that there is a slot.
@@ -117,12 +137,12 @@ pub fn start(
     points: &mut [u64],
     falsified: &mut [u32],
     depths: &mut [Depth],
-) -> Outcome
+) -> Answer
     requires { ⌜ Searchable g (now images) (now positive) (now negative) × Lends (g .room) (memory (now points) (now falsified) (now depths)) ⌝ }
     ensures { λ r. ⌜ Ended (framed g (now (images .entry)) (now (positive .entry)) (now (negative .entry))) (g .room)
-        (memory (now (points .entry)) (now (falsified .entry)) (now (depths .entry))) [] (slot (g .target) 0 0 ∷ []) (replyOf r)
+        (memory (now (points .entry)) (now (falsified .entry)) (now (depths .entry))) [] (slot (g .target) 0 0 ∷ []) (answerOf r)
         (memory (now (points .exit)) (now (falsified .exit)) (now (depths .exit))) ⌝ }
 {
     fill(points, falsified, depths, 0, g.target, 0);
-    walk_on(g, images, positive, negative, points, falsified, depths)
+    explore(g, images, positive, negative, points, falsified, depths)
 }

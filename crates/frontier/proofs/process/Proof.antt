@@ -1,16 +1,16 @@
--- `search::walk::process` meets its contract: a law of SteppingLaws for each of its three answers. Assumes nothing.
+-- `frontier::process` meets its contract: a law of SteppingLaws for each of its three answers. Assumes nothing.
 use mathlib.Core.Path.{_≡_, refl, _∙_}
 use native.Mathlib.Omega.{arith}
 use lib.ListN.{length, getD, set, length-set}
 use Rattle.points.specs.Contracts.{clauseOf}
 use Rattle.slices.specs.SliceLaws.{falsified-le}
 use Rattle.slices.specs.Slices.{clausesOf}
-use Rattle.search.specs.FillingLaws.{lends-still}
-use Rattle.search.specs.Memory.{memory}
-use Rattle.search.specs.SteppingLaws.{Read, step-met, read-shallow, read-below, read-room, read-goes, read-stuck}
+use Rattle.expansion.specs.FillingLaws.{lends-still}
+use Rattle.expansion.specs.Memory.{memory}
+use Rattle.frontier.specs.SteppingLaws.{Read, step-met, read-shallow, read-below, read-room, read-goes, read-stuck}
 use borrow.Author.Needs.{needs}
-use Rattle.search.proofs.walk.process.Statement.{statement}
-use Rattle.search.proofs.walk.process.Tie as tie
+use Rattle.frontier.proofs.process.Statement.{statement}
+use Rattle.frontier.proofs.process.Tie as tie
 
 point-at-requires : tie.Need-point-at-requires
 point-at-requires c κs = search needs

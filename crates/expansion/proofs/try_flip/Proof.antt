@@ -1,12 +1,12 @@
--- `search::expansion::try_flip` meets its contract: a law of FillingLaws for each of its three answers. Assumes nothing.
+-- `expansion::try_flip` meets its contract: a law of FillingLaws for each of its three answers. Assumes nothing.
 use mathlib.Core.Path.{_≡_, sym, ap, _∙_}
 use lib.ListN.{take}
 use Rattle.math.specs.Bits.{flip}
 use Rattle.permutations.specs.Permutations.{covered, permutationsIn}
-use Rattle.search.specs.FillingLaws.{flip-covered, flip-full, flip-filled}
+use Rattle.expansion.specs.FillingLaws.{flip-covered, flip-full, flip-filled}
 use borrow.Author.Needs.{needs}
-use Rattle.search.proofs.expansion.try_flip.Statement.{statement}
-use Rattle.search.proofs.expansion.try_flip.Tie as tie
+use Rattle.expansion.proofs.try_flip.Statement.{statement}
+use Rattle.expansion.proofs.try_flip.Tie as tie
 
 cast-n : tie.Need-cast-n
 cast-n c = search needs

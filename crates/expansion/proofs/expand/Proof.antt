@@ -1,16 +1,16 @@
--- `search::expansion::expand` meets its contract: a law of TryingLaws for each event of the loop. Assumes nothing.
+-- `expansion::expand` meets its contract: a law of TryingLaws for each event of the loop. Assumes nothing.
 use native.Mathlib.Omega.{arith}
 use lib.ListN.{length}
 use borrow.Author.Tests.{not-true, not-false}
 use Rattle.math.specs.Bits.{members}
 use Rattle.permutations.specs.Permutations.{permutationsIn}
-use Rattle.search.specs.Filling.{Trying}
-use Rattle.search.specs.FillingLaws.{lends-still}
-use Rattle.search.specs.Memory.{memory}
-use Rattle.search.specs.TryingLaws.{trying-begins, trying-less, trying-goes-on, trying-stops, trying-ends}
+use Rattle.expansion.specs.Filling.{Trying}
+use Rattle.expansion.specs.FillingLaws.{lends-still}
+use Rattle.expansion.specs.Memory.{memory}
+use Rattle.expansion.specs.TryingLaws.{trying-begins, trying-less, trying-goes-on, trying-stops, trying-ends}
 use borrow.Author.Needs.{needs}
-use Rattle.search.proofs.expansion.expand.Statement.{statement}
-use Rattle.search.proofs.expansion.expand.Tie as tie
+use Rattle.expansion.proofs.expand.Statement.{statement}
+use Rattle.expansion.proofs.expand.Tie as tie
 
 abbrev Inv-loop : tie.InvT-loop
 Inv-loop g images points₀ falsified₀ depths₀ filled x d listed n left₀ v₀ held₀ points falsified depths left v held =

@@ -1,4 +1,4 @@
--- What one step of the search and the search from a state do to the memory: the contracts of `process`, `walk_on` and `start`.
+-- What one step of the search and the search from a state do to the memory: the contracts of `process`, `explore` and `start`.
 -- Assumes nothing.
 use mathlib.Core.List.{List, [], _∷_, _++_}
 use mathlib.Core.Path.{_≡_}
@@ -10,14 +10,21 @@ use Rattle.images.specs.Contracts.{Listed}
 use Rattle.permutations.specs.Permutations.{permutationsIn}
 use Rattle.formula.specs.Limits.{maxVariables, maxClauses, maxSlots}
 use Rattle.formula.specs.Problem.{Problem}
-use Rattle.formula.specs.Reply.{Reply}
-use Rattle.search.specs.Builder.{replyOf}
-use Rattle.search.specs.declared.Frame.{Frame}
-use Rattle.search.specs.declared.Step.{Step}
-use Rattle.search.specs.declared.Step.the-variants.{Ends, Goes}
-use Rattle.search.specs.Memory.{Memory, Holds, Lends}
+use Rattle.formula.specs.Reply.{Reply, satisfiable, unsatisfiable, unknown}
+use Rattle.frontier.specs.declared.Answer.{Answer}
+use Rattle.frontier.specs.declared.Answer.the-variants.{Satisfiable, Unsatisfiable, Unknown}
+use Rattle.expansion.specs.declared.Frame.{Frame}
+use Rattle.frontier.specs.declared.Step.{Step}
+use Rattle.frontier.specs.declared.Step.the-variants.{Ends, Goes}
+use Rattle.expansion.specs.Memory.{Memory, Holds, Lends}
 use Rattle.traversal.specs.Invariants.{Ready, Invariants}
 use Rattle.traversal.specs.Walk.{Slot, slot, state, Walks}
+
+-- F10: what the code's answer says in document 01's terms
+abbrev pub answerOf : Answer → Reply
+answerOf (Satisfiable x d k) = satisfiable x d k
+answerOf (Unsatisfiable k) = unsatisfiable k
+answerOf (Unknown b k) = unknown b k
 
 -- the problem that the frame, the images and the clause slices make
 abbrev pub framed : Frame → List ℕ → List ℕ → List ℕ → Problem
@@ -75,7 +82,7 @@ module _ (pb : Problem) (capacity : ℕ) where
 
   -- what a step answers
   abbrev pub After : Memory → List Slot → List Slot → ℕ → Step → Memory → Type 0
-  After old p w i (Ends o) m = Ended old p w (replyOf o) m
+  After old p w i (Ends a) m = Ended old p w (answerOf a) m
   After old p w i (Goes k) m = GoesOn old p w (i + 1) k m
 
   -- one step from the slot of index i, whichever slots are filled

@@ -1,0 +1,28 @@
+-- `search::as_outcome` meets its contract: each answer says the same as the outcome made of it. Assumes nothing.
+use mathlib.Core.Path.{sym, ap}
+use Rattle.frontier.specs.Stepping.{answerOf}
+use borrow.Author.Needs.{needs}
+use Rattle.search.proofs.as_outcome.Statement.{statement}
+use Rattle.search.proofs.as_outcome.Tie as tie
+
+enum-known-a : tie.Need-enum-known-a
+enum-known-a c = search needs
+
+enum-known-a-2 : tie.Need-enum-known-a-2
+enum-known-a-2 c = search needs
+
+enum-known-a-3 : tie.Need-enum-known-a-3
+enum-known-a-3 c = search needs
+
+returns : tie.Need-returns
+returns c = sym (ap answerOf (c .before .a .given .1))
+
+returns-2 : tie.Need-returns-2
+returns-2 c = sym (ap answerOf (c .before .a2 .given .1))
+
+returns-3 : tie.Need-returns-3
+returns-3 c = sym (ap answerOf (c .before .a3 .given .1))
+
+pub as-outcome-spec : {M : Type 1} → statement M
+as-outcome-spec =
+    tie.close (tie.spec enum-known-a enum-known-a-2 enum-known-a-3 returns returns-2 returns-3)
