@@ -1,4 +1,5 @@
 -- What the exported functions take and tell.
 pub mod Words
-pub mod Exported
-pub mod ExportedLaws
+pub mod RoomLaws
+pub mod Builder
+pub mod BuilderLaws

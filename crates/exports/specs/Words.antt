@@ -1,8 +1,11 @@
--- An answer as words of a lent slice, and the images of a formula from lent bytes. Assumes nothing.
+-- An answer as words of a lent slice, and a formula from numbers and lent bytes. Assumes nothing.
+use mathlib.Core.Bool.{Bool}
 use mathlib.Core.List.{List, [], _∷_}
 use Prim.Native.Nat.{ℕ}
-use lib.ListN.{take, replicate}
+use lib.Dec.{leb}
+use lib.ListN.{length, take, replicate}
 use Rattle.math.specs.Lists.{over}
+use Rattle.formula.specs.declared.Formula.{Formula}
 use Rattle.formula.specs.Reply.{Reply, refused, satisfiable, unsatisfiable, unknown, parsed, written, opened, accepted}
 
 -- F10: an answer as four words: which it is, then what it carries, in its order, then 0
@@ -20,3 +23,13 @@ wordsOf accepted = 7 ∷ 0 ∷ 0 ∷ 0 ∷ []
 unfoldable pub imagesFrom : List ℕ → List ℕ
 unfolding over
 imagesFrom bytes = over (take 1024 bytes) (replicate 1024 0)
+
+-- the formula by value that numbers and bytes make
+unfoldable pub formulaFrom : ℕ → ℕ → ℕ → ℕ → List ℕ → Formula
+unfolding imagesFrom
+formulaFrom variables clauses target permutations bytes =
+    record { variables = variables; clauses = clauses; target = target; permutations = permutations; images = imagesFrom bytes }
+
+-- whether a slice has room for an answer's four words
+abbrev pub hasRoom : List ℕ → Bool
+hasRoom reply = leb 4 (length reply)

@@ -2,7 +2,7 @@
 use mathlib.Core.Path.{refl, sym}
 use Prim.Native.Nat.{ℕ}
 use borrow.Author.Needs.{needs}
-use Rattle.exports.specs.Exported.{formulaFrom}
+use Rattle.exports.specs.Words.{formulaFrom}
 use Rattle.exports.proofs.formula_from.Statement.{statement}
 use Rattle.exports.proofs.formula_from.Tie as tie
 

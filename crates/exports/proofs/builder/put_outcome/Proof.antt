@@ -1,4 +1,4 @@
--- `exports::put_outcome` meets its contract: of each answer the words that it carries. Assumes nothing.
+-- `exports::builder::put_outcome` meets its contract: of each answer the words that it carries. Assumes nothing.
 use mathlib.Core.List.{List}
 use mathlib.Core.Path.{_≡_, sym, ap, _∙_}
 use Prim.Native.Nat.{ℕ}
@@ -7,8 +7,8 @@ use Rattle.math.specs.Lists.{over}
 use Rattle.search.specs.declared.Outcome.{Outcome}
 use Rattle.search.specs.Builder.{replyOf}
 use Rattle.exports.specs.Words.{wordsOf}
-use Rattle.exports.proofs.put_outcome.Statement.{statement}
-use Rattle.exports.proofs.put_outcome.Tie as tie
+use Rattle.exports.proofs.builder.put_outcome.Statement.{statement}
+use Rattle.exports.proofs.builder.put_outcome.Tie as tie
 
 -- of equal answers the words are equal
 told : {r s : Outcome} (reply : List ℕ) → r ≡ s → over (wordsOf (replyOf r)) reply ≡ over (wordsOf (replyOf s)) reply

@@ -1,26 +1,14 @@
--- What an exported function returns, and what it leaves in the slices lent to it. Assumes nothing.
-use mathlib.Core.Bool.{Bool, cond}
+-- What the exported search returns, and what it leaves in the slices lent to it. Assumes nothing.
+use mathlib.Core.Bool.{cond}
 use mathlib.Core.List.{List}
 use mathlib.Core.Path.{_≡_}
 use Prim.Native.Nat.{ℕ}
-use lib.Dec.{leb}
-use lib.ListN.{length}
 use Rattle.math.specs.Lists.{over}
 use Rattle.slices.specs.Slices.{pointsOf}
 use Rattle.formula.specs.declared.Formula.{Formula}
 use Rattle.search.specs.Builder.{lentBy, searchReply, searchSlice}
 use Rattle.traversal.specs.Walk.{Slot}
-use Rattle.exports.specs.Words.{wordsOf, imagesFrom}
-
--- the formula by value that numbers and bytes make
-unfoldable pub formulaFrom : ℕ → ℕ → ℕ → ℕ → List ℕ → Formula
-unfolding imagesFrom
-formulaFrom variables clauses target permutations bytes =
-    record { variables = variables; clauses = clauses; target = target; permutations = permutations; images = imagesFrom bytes }
-
--- whether a slice has room for an answer's four words
-abbrev pub hasRoom : List ℕ → Bool
-hasRoom reply = leb 4 (length reply)
+use Rattle.exports.specs.Words.{wordsOf, hasRoom}
 
 -- D2.2 for a caller in another language: with room for the answer, it and the three slices are the search's; without, nothing changes
 pub record SearchTold (f : Formula) (positive negative points₀ falsified₀ depths₀ reply₀ : List ℕ) (r : ℕ) (points₁ falsified₁ depths₁ reply₁ : List ℕ) : Type 0 where

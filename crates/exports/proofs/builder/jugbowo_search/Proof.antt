@@ -1,8 +1,8 @@
--- `exports::jugbowo_search` meets its contract: with room for the answer it tells what the search answers. Assumes nothing.
+-- `exports::builder::jugbowo_search` meets its contract: with room for the answer it tells what the search answers. Assumes nothing.
 use borrow.Author.Needs.{needs}
-use Rattle.exports.specs.ExportedLaws.{tells-nothing, tells-search}
-use Rattle.exports.proofs.jugbowo_search.Statement.{statement}
-use Rattle.exports.proofs.jugbowo_search.Tie as tie
+use Rattle.exports.specs.BuilderLaws.{tells-nothing, tells-search}
+use Rattle.exports.proofs.builder.jugbowo_search.Statement.{statement}
+use Rattle.exports.proofs.builder.jugbowo_search.Tie as tie
 
 returns : tie.Need-returns
 returns c =
