@@ -1,6 +1,5 @@
 -- `exports::formula_from` meets its contract. Assumes nothing.
 use mathlib.Core.Path.{refl, sym}
-use Prim.Native.Nat.{ℕ}
 use borrow.Author.Needs.{needs}
 use Rattle.exports.specs.Words.{formulaFrom}
 use Rattle.exports.proofs.formula_from.Statement.{statement}
