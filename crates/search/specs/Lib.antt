@@ -5,3 +5,4 @@ pub mod Accepted
 pub mod Inputs
 pub mod Theorems
 pub mod BuilderLaws
+pub mod Corollary
