@@ -1,20 +1,21 @@
 -- Laws of filling flips: it begins, one flip is covered, fills a slot or finds no room, and such steps follow one another. Assumes nothing.
 use mathlib.Core.Bool.{Bool, true, false, true≢false}
-use mathlib.Core.List.{List, [], _∷_, _++_, map, append-assoc}
+use mathlib.Core.List.{List, [], _∷_, _++_, map, append-assoc, List·Memᴰ·head, List·Memᴰ·tail, List·Memᴰ·not-nil}
 use mathlib.Core.Path.{_≡_, refl, sym, ap, _∙_, subst}
-use Prim.Native.Nat.{ℕ, suc, _+_, _≤_, _<_}
-use native.Mathlib.Nat.{le-trans, le-of-eq}
+use Prim.Native.Nat.{ℕ, zero, suc, _+_, _≤_, _<_}
+use native.Mathlib.Nat.{le-trans, le-of-eq, le-refl, mul-le-mul, le-of-suc-le-suc, not-suc-le-zero}
 use native.Mathlib.Numerals.{add-one}
 use native.Mathlib.Omega.{arith}
 use lib.ListN.{length, take, drop, set, length-map, length-append, length-drop}
 use Rattle.math.specs.Bits.{flip}
-use Rattle.math.specs.Lists.{over}
+use Rattle.math.specs.Lists.{_∈_, over}
 use Rattle.math.specs.OverLaws.{over-none, over-snoc}
 use Rattle.math.specs.PartLaws.{over-front, over-length}
 use Rattle.math.specs.QueueLaws.{length-snoc}
 use Rattle.math.specs.SplitLaws.{map-append}
 use Rattle.permutations.specs.PermutationLaws.{covered-sound, covered-complete}
-use Rattle.permutations.specs.Permutations.{Permutation, Covered, covered}
+use Rattle.images.specs.Contracts.{Listed}
+use Rattle.permutations.specs.Permutations.{Permutation, Covered, covered, permutationsIn}
 use Rattle.expansion.specs.Filling.{Onward, Reaches, Advances}
 use Rattle.expansion.specs.Memory.{Memory, Holds, Lends, SameLengths, Stored}
 use Rattle.traversal.specs.Walk.{Slot, slot, pointsIn, Expansion, complete, full, Fills, no-more, skipped, filled-next, no-room}
@@ -77,6 +78,19 @@ held-more {old} {l} {m} {s = s} k h n room st =
 pub held-first : {m m′ : Memory} {s : Slot} → Lends 1 m → Stored m 0 s m′ → Holds m (s ∷ []) m′
 held-first {m} room st =
     held-more {l = []} 0 (record { points-held = sym (over-none (m .points)); falsified-held = sym (over-none (m .falsified)); depths-held = sym (over-none (m .depths)) }) refl room st
+
+-- ---- the permutations
+
+-- the first j of the listed are among the first k
+fewer-in : (n j k : ℕ) (bytes : List ℕ) → j ≤ k → {e : Permutation} → e ∈ permutationsIn n j bytes → e ∈ permutationsIn n k bytes
+unfolding permutationsIn
+fewer-in n zero k bytes le m = absurd (List·Memᴰ·not-nil m)
+fewer-in n (suc j) zero bytes le m = absurd (not-suc-le-zero le)
+fewer-in n (suc j) (suc k) bytes le (List·Memᴰ·head e) = List·Memᴰ·head e
+fewer-in n (suc j) (suc k) bytes le (List·Memᴰ·tail m) = List·Memᴰ·tail (fewer-in n j k (drop n bytes) (le-of-suc-le-suc le) m)
+
+pub listed-fewer : (n j k : ℕ) (bytes : List ℕ) → j ≤ k → Listed n k bytes → Listed n j bytes
+listed-fewer n j k bytes le l = record { room = le-trans (mul-le-mul le (le-refl n)) (l .room); movable = λ e m. l .movable e (fewer-in n j k bytes le m) }
 
 -- ---- the flips
 

@@ -67,7 +67,8 @@ fn process(
             filled: slots,
         });
     }
-    falsified[at] = number as u32;
+    let stored = number as u32;
+    falsified[at] = stored;
     let before = number - 1;
     let c = clause_at(positive, negative, before);
     let listed = points::listed(c);
@@ -76,10 +77,10 @@ fn process(
     if grown.roomy {
         return Step::Goes { filled: held };
     }
-    let slots = held as u32;
+    let total = held as u32;
     Step::Ends(Answer::Unknown {
         bound: d,
-        filled: slots,
+        filled: total,
     })
 }
 
@@ -114,6 +115,7 @@ fn explore(
             at,
             filled,
         );
+        let next = at + 1;
         match step {
             Step::Ends(answer) => {
                 return answer;
@@ -122,7 +124,7 @@ fn explore(
                 filled = more;
             }
         }
-        at += 1;
+        at = next;
     }
     let slots = filled as u32;
     Answer::Unsatisfiable { filled: slots }

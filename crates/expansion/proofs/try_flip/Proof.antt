@@ -1,9 +1,10 @@
 -- `expansion::try_flip` meets its contract: a law of FillingLaws for each of its three answers. Assumes nothing.
 use mathlib.Core.Path.{_≡_, sym, ap, _∙_}
+use native.Mathlib.Omega.{arith}
 use lib.ListN.{take}
 use Rattle.math.specs.Bits.{flip}
 use Rattle.permutations.specs.Permutations.{covered, permutationsIn}
-use Rattle.expansion.specs.FillingLaws.{flip-covered, flip-full, flip-filled}
+use Rattle.expansion.specs.FillingLaws.{listed-fewer, flip-covered, flip-full, flip-filled}
 use borrow.Author.Needs.{needs}
 use Rattle.expansion.proofs.try_flip.Statement.{statement}
 use Rattle.expansion.proofs.try_flip.Tie as tie
@@ -18,7 +19,7 @@ flip-requires : tie.Need-flip-requires
 flip-requires c κs = search needs
 
 covered-requires : tie.Need-covered-requires
-covered-requires c κs = search needs
+covered-requires c κs = let start = c .before .before .before .before .before .before .before .before in listed-fewer _ _ _ _ (omega arith) (start .pre .0 .listed)
 
 -- what the test says of the flipped point
 tested : (c : tie.After-covered)

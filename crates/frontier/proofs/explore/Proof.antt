@@ -32,6 +32,11 @@ process-requires c κs =
 few : (c : tie.At-loop Inv-loop μ-loop) → c .loop .filled ≤ c .before .before .before .before .before .before .before .args .g .room
 few c = midway-room (walking-midway _ _ (c .loop .inv .1) (c .before .before .before .before .before .before .before .pre .2))
 
+add-next : tie.Need-add-next Inv-loop μ-loop
+add-next c =
+    let head = c .before .before .before .before .before .before .before .before .before .before .before in
+    omega (arith, few head, c .before .before .before .before .before .before .before .before .before .before .loop-test .taken, head .before .before .before .before .before .before .before .pre .0 .most)
+
 enum-known-step : tie.Need-enum-known-step Inv-loop μ-loop
 enum-known-step c = search needs
 
@@ -49,11 +54,6 @@ returns c = walking-stops _ _ (c .before .before .before .before .before .before
 
 enum-known-step-2 : tie.Need-enum-known-step-2 Inv-loop μ-loop
 enum-known-step-2 c = search needs
-
-add-at : tie.Need-add-at Inv-loop μ-loop
-add-at c =
-    let head = c .before .before .before .before .before .before .before .before .before .before .before .before .before .before in
-    omega (arith, few head, c .before .before .before .before .before .before .before .before .before .before .before .before .before .loop-test .taken, head .before .before .before .before .before .before .before .pre .0 .most)
 
 loop-less : tie.Need-loop-less Inv-loop μ-loop
 loop-less c =
@@ -91,13 +91,13 @@ explore-spec =
     μ-loop
     loop-holds
     process-requires
+    add-next
     enum-known-step
     same-length
     same-length-2
     same-length-3
     returns
     enum-known-step-2
-    add-at
     loop-less
     loop-again
     cast-slots

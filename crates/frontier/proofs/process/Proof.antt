@@ -38,8 +38,8 @@ returns c old p w st =
     let start = c .before .before .before .before .before .before .before .before .before .before .before .before in
     step-met _ _ _ _ (start .pre .0) _ _ (c .before .before .before .before .point-at .ensures) (c .before .before .first-falsified .ensures) (start .pre .2) w _ (c .before .if1 .taken) (c .distance .ensures) st
 
-cast-falsified : tie.Need-cast-falsified
-cast-falsified c =
+cast-stored : tie.Need-cast-stored
+cast-stored c =
     let start = c .before .before .before .before .before .before .before .before .before .before .before in
     omega (arith, c .before .first-falsified .ensures, falsified-le (clausesOf (start .args .positive .now) (start .args .negative .now)) (c .before .before .before .point-at .result) 0, start .pre .0 .clauses)
 
@@ -106,8 +106,8 @@ returns-2 c =
     let start = flips .before .before .before .before .before .before .before .before .before .before .before .before .before .before .before .before .before in
     read-goes _ _ _ _ (start .pre .0) (start .pre .2) (read (flips .before .before .before .before)) (flips .expand .ensures) (c .if2 .taken)
 
-cast-slots-2 : tie.Need-cast-slots-2
-cast-slots-2 c =
+cast-total : tie.Need-cast-total
+cast-total c =
     let flips = c .before .before .before .before .before .before .before in
     let start = flips .before .before .before .before .before .before .before .before .before .before .before .before .before .before .before .before .before in
     omega (arith, read-room _ _ _ _ (start .pre .0) (start .pre .2) (read (flips .before .before .before .before)) (flips .expand .ensures) (start .pre .3), start .pre .0 .most)
@@ -139,7 +139,7 @@ process-spec =
     cast-slots
     same-length
     returns
-    cast-falsified
+    cast-stored
     mul-falsified
     slice-write-falsified
     sub-before
@@ -150,7 +150,7 @@ process-spec =
     same-length-3
     same-length-4
     returns-2
-    cast-slots-2
+    cast-total
     same-length-5
     same-length-6
     same-length-7
