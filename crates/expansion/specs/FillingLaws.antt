@@ -10,13 +10,13 @@ use lib.ListN.{length, take, drop, set, length-map, length-append, length-drop}
 use Rattle.math.specs.Bits.{flip}
 use Rattle.math.specs.Lists.{_∈_, over}
 use Rattle.math.specs.OverLaws.{over-none, over-snoc}
-use Rattle.math.specs.PartLaws.{over-front, over-length}
+use Rattle.math.specs.PartLaws.{over-front}
 use Rattle.math.specs.QueueLaws.{length-snoc}
 use Rattle.math.specs.SplitLaws.{map-append}
 use Rattle.permutations.specs.PermutationLaws.{covered-sound, covered-complete}
 use Rattle.images.specs.Contracts.{Listed}
 use Rattle.permutations.specs.Permutations.{Permutation, Covered, covered, permutationsIn}
-use Rattle.expansion.specs.Filling.{Onward, Reaches, Advances}
+use Rattle.expansion.specs.Filling.{Reaches, Advances}
 use Rattle.expansion.specs.Memory.{Memory, Holds, Lends, SameLengths, Stored}
 use Rattle.traversal.specs.Walk.{Slot, slot, pointsIn, Expansion, complete, full, Fills, no-more, skipped, filled-next, no-room}
 

@@ -6,7 +6,7 @@ use mathlib.Core.Path.{_≡_, refl, sym, ap, _∙_, subst}
 use Prim.Native.Nat.{ℕ, suc, _-_, _≤_}
 use native.Mathlib.Nat.{le-refl}
 use native.Mathlib.Omega.{arith}
-use lib.ListN.{length, getD}
+use lib.ListN.{getD}
 use Rattle.points.specs.PointLaws.{first-sound, first-none}
 use Rattle.points.specs.Points.{Clause, satisfies, Numbered, numberedFrom, numbered, SatisfiesAll, FirstFalsified, firstFalsified, numberOf}
 use Rattle.slices.specs.Slices.{noLiterals}

@@ -4,7 +4,7 @@ use mathlib.Core.List.{List, [], _∷_, _++_}
 use mathlib.Core.Path.{_≡_}
 use Prim.Native.Nat.{ℕ, _+_, _≤_}
 use lib.ListN.{length}
-use Rattle.points.specs.Points.{numberedFrom, numbered}
+use Rattle.points.specs.Points.{numbered}
 use Rattle.slices.specs.Slices.{clausesOf}
 use Rattle.images.specs.Contracts.{Listed}
 use Rattle.permutations.specs.Permutations.{permutationsIn}
@@ -16,7 +16,7 @@ use Rattle.frontier.specs.declared.Answer.the-variants.{Satisfiable, Uns
 use Rattle.expansion.specs.declared.Frame.{Frame}
 use Rattle.frontier.specs.declared.Step.{Step}
 use Rattle.frontier.specs.declared.Step.the-variants.{Ends, Goes}
-use Rattle.expansion.specs.Memory.{Memory, Holds, Lends}
+use Rattle.expansion.specs.Memory.{Memory, Holds}
 use Rattle.traversal.specs.Invariants.{Ready, Invariants}
 use Rattle.traversal.specs.Walk.{Slot, slot, state, Walks}
 

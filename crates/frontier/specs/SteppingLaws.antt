@@ -8,10 +8,10 @@ use native.Mathlib.Nat.{le-trans, le-of-eq}
 use native.Mathlib.Numerals.{add-one}
 use native.Mathlib.Omega.{arith}
 use lib.Bits.{or-lt}
-use lib.ListN.{length, getD, set, length-map, length-append, length-set}
+use lib.ListN.{length, getD, set, length-map}
 use lib.Seq.{getD-at}
 use Rattle.math.specs.Bits.{members}
-use Rattle.math.specs.Lists.{_∈_, over}
+use Rattle.math.specs.Lists.{over}
 use Rattle.math.specs.ListLaws.{here}
 use Rattle.math.specs.OverLaws.{over-change, over-at}
 use Rattle.math.specs.QueueLaws.{length-snoc, length-moved, map-moved}
@@ -21,19 +21,19 @@ use Rattle.slices.specs.Slices.{clausesOf, noLiterals}
 use Rattle.theory.specs.Distance.{distance-wider}
 use Rattle.formula.specs.Limits.{maxSlots}
 use Rattle.formula.specs.Problem.{Problem}
-use Rattle.formula.specs.Reply.{Reply, satisfiable, unknown}
+use Rattle.formula.specs.Reply.{satisfiable, unknown}
 use Rattle.expansion.specs.declared.Frame.{Frame}
 use Rattle.frontier.specs.declared.Answer.the-variants.{Unknown}
 use Rattle.frontier.specs.declared.Step.the-variants.{Ends, Goes}
-use Rattle.expansion.specs.Filling.{Reaches, Advances}
+use Rattle.expansion.specs.Filling.{Advances}
 use Rattle.expansion.specs.FillingLaws.{ended, advances-ends}
-use Rattle.expansion.specs.Memory.{Memory, memory, Holds, Lends}
+use Rattle.expansion.specs.Memory.{Memory, memory, Holds}
 use Rattle.frontier.specs.NumberLaws.{number-none, number-found}
 use Rattle.frontier.specs.Stepping.{framed, Searchable, Stands, Midway, GoesOn, Ended, Steps}
 use Rattle.traversal.specs.ExpansionLaws.{invariants-step}
 use Rattle.traversal.specs.InvariantLaws.{first-in}
 use Rattle.traversal.specs.Invariants.{slotAt}
-use Rattle.traversal.specs.Walk.{Slot, slot, withNumber, state, Expansion, Fills, complete, full, Walks, met, stuck, goes-on}
+use Rattle.traversal.specs.Walk.{Slot, slot, withNumber, state, Expansion, Fills, Walks, met, stuck, goes-on}
 use Rattle.traversal.specs.WalkLaws.{fills-room}
 
 -- ---- a slot in the memory

@@ -1,7 +1,7 @@
 -- Laws of the builder's answer: a refusal, and the search that is run where there is none. Assumes nothing.
 use mathlib.Core.List.{List, [], _∷_, _++_, map}
 use mathlib.Core.Path.{_≡_, refl, sym, ap, _∙_, subst}
-use Prim.Native.Nat.{ℕ, zero, suc, _≤_, zero-le, suc-le-suc}
+use Prim.Native.Nat.{ℕ, zero, suc}
 use native.Mathlib.Nat.{le-trans, le-of-eq}
 use native.Mathlib.Omega.{arith}
 use lib.ListN.{length}
@@ -14,10 +14,10 @@ use Rattle.formula.specs.declared.Checked.{Checked}
 use Rattle.formula.specs.declared.Checked.the-variants.{Passed, Refused as Faulty}
 use Rattle.formula.specs.declared.Formula.{Formula}
 use Rattle.formula.specs.Limits.{capacity}
-use Rattle.formula.specs.Problem.{Problem, problemOf}
+use Rattle.formula.specs.Problem.{problemOf}
 use Rattle.formula.specs.RefusalLaws.{formula-passes, formula-listed}
 use Rattle.formula.specs.Refusals.{formulaFault, permutationFault, symmetryFault, problemFault, faultOf}
-use Rattle.formula.specs.Reply.{Reply, Fault, sound, fault, first, unless, unlessKept}
+use Rattle.formula.specs.Reply.{Reply, Fault, sound, fault, first}
 use Rattle.formula.specs.ReplyLaws.{fault-not-sound, unless-sound}
 use Rattle.search.specs.Accepted.{rows, ready-of-faults, lent-of-faults, lent-few}
 use Rattle.search.specs.Builder.{replyOf, slotFault, searchFault, lentBy, searchReply, searchSlots, searchSlice, Searched}

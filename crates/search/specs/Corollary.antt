@@ -10,7 +10,7 @@ use Rattle.slices.specs.Slices.{pointsOf}
 use Rattle.formula.specs.declared.Formula.{Formula}
 use Rattle.formula.specs.Limits.{maxSlots}
 use Rattle.formula.specs.Problem.{problemOf, Unsatisfiable as NoneSatisfies}
-use Rattle.formula.specs.Reply.{Reply, refused, satisfiable, unsatisfiable, unknown, parsed, written, opened, accepted, sound, unlessKept}
+use Rattle.formula.specs.Reply.{Reply, refused, satisfiable, unsatisfiable, unknown, parsed, written, opened, accepted, sound}
 use Rattle.formula.specs.ReplyLaws.{not-refused}
 use Rattle.traversal.specs.Answers.{LowerBound, Nearest, HandedBack, ClosedSlots, reported}
 use Rattle.traversal.specs.Walk.{Slot, walked}

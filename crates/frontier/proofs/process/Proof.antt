@@ -1,7 +1,7 @@
 -- `frontier::process` meets its contract: a law of SteppingLaws for each of its three answers. Assumes nothing.
-use mathlib.Core.Path.{_≡_, refl, _∙_}
+use mathlib.Core.Path.{refl}
 use native.Mathlib.Omega.{arith}
-use lib.ListN.{length, getD, set, length-set}
+use lib.ListN.{getD, length-set}
 use Rattle.points.specs.Contracts.{clauseOf}
 use Rattle.slices.specs.SliceLaws.{falsified-le}
 use Rattle.slices.specs.Slices.{clausesOf}
@@ -58,10 +58,6 @@ clause-at-requires c κs = search needs
 listed-requires : tie.Need-listed-requires
 listed-requires c κs = search needs
 
--- the store of the clause's number keeps the length
-stored : (c : tie.Else1) → let a = c .before .before .before .before .before .before .before .before .before .before .before .args in length (set (a .falsified .now) (a .at) (c .before .first-falsified .result)) ≡ length (a .falsified .now)
-stored c = simp length-set
-
 -- what is known when the flips are tried
 read : (c : tie.After-listed)
     → let a = c .before .before .before .before .before .before .before .before .before .before .before .before .before .args in
@@ -85,7 +81,7 @@ expand-requires c κs =
       record {
         few = ok .few;
         listed = ok .listed;
-        room = lends-still (start .pre .1) (record { points-length = refl; falsified-length = stored (c .before .before .before .before .before); depths-length = refl });
+        room = lends-still (start .pre .1) (record { points-length = refl; falsified-length = simp length-set; depths-length = refl });
         shallow = read-shallow _ _ _ _ ok (start .pre .2) a (start .pre .3);
       },
       read-below _ _ _ _ ok (start .pre .2) a (start .pre .3),
@@ -95,7 +91,7 @@ same-length-2 : tie.Need-same-length-2
 same-length-2 c = search needs
 
 same-length-3 : tie.Need-same-length-3
-same-length-3 c = c .before .before .before .before .before .before .before .expand .kept .1 .1 .1 .0 ∙ stored (c .before .before .before .before .before .before .before .before .before .before .before .before .before)
+same-length-3 c = simp length-set at (c .before .before .before .before .before .before .before .expand .kept .1 .1 .1 .0)
 
 same-length-4 : tie.Need-same-length-4
 same-length-4 c = search needs
@@ -116,7 +112,7 @@ same-length-5 : tie.Need-same-length-5
 same-length-5 c = search needs
 
 same-length-6 : tie.Need-same-length-6
-same-length-6 c = c .before .before .before .before .before .before .before .expand .kept .1 .1 .1 .0 ∙ stored (c .before .before .before .before .before .before .before .before .before .before .before .before .before)
+same-length-6 c = simp length-set at (c .before .before .before .before .before .before .before .expand .kept .1 .1 .1 .0)
 
 same-length-7 : tie.Need-same-length-7
 same-length-7 c = search needs
