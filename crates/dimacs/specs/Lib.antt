@@ -4,6 +4,9 @@ pub mod Text
 pub mod Input
 pub mod Reader
 pub mod Accepted
+pub mod Scans
+pub mod ScanLaws
+pub mod ClauseScans
 pub mod TextLaws
 pub mod StepLaws
 pub mod ClauseLaws

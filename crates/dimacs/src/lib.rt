@@ -1,6 +1,9 @@
 // The text format, DIMACS CNF, and the answer of its reader.
 use formula::Formula;
 
+pub mod clauses;
+pub mod words;
+
 // What the reader says of a text.
 pub enum Parse {
     Accepted,

@@ -62,6 +62,15 @@ pub fn carry(r: Point, s: Point, i: u32, v: u32) -> Point
     moved | r
 }
 
+// The set with the variable of bit v as well.
+pub fn with_variable(s: Point, v: u32) -> Point
+    requires { ⌜ v < 64 ⌝ }
+    ensures { λ r. ⌜ r ≡ bitOr s (2 ^ v) ⌝ }
+{
+    let mask: Point = 1 << v;
+    s | mask
+}
+
 // F1: the lowest variable of a set, as its bit, by trailing zeros; 64 for the empty set.
 pub fn next_variable(s: Point) -> u32
     ensures { λ r. ⌜ NextVariable s r ⌝ }
