@@ -6,6 +6,7 @@ pub mod Reader
 pub mod Accepted
 pub mod Scans
 pub mod ScanLaws
+pub mod ClauseScanLaws
 pub mod ClauseScans
 pub mod TextLaws
 pub mod StepLaws

@@ -5,12 +5,10 @@ use crate::words::Word;
 use crate::words::read_word;
 use crate::words::run_end;
 use points::Point;
-ghost use mathlib.Core.Path.{_≡_};
 ghost use Prim.Native.Nat.{_+_, _≤_};
 ghost use lib.ListN.{length};
-ghost use Rattle.dimacs.specs.Reader.{tokenStep};
 ghost use Rattle.dimacs.specs.Scans.{signed};
-ghost use Rattle.dimacs.specs.ClauseScans.{clausesFrom, takenOf, Room, Ready, Inside, Stepping, Scanning};
+ghost use Rattle.dimacs.specs.ClauseScans.{clausesFrom, Room, Taking, Ready, Inside, Stepping, Scanning};
 
 // How many clauses are closed, and the one begun.
 pub struct Begun {
@@ -43,7 +41,7 @@ fn take_number(
     negative: &mut [u64],
 ) -> Taken
     requires { ⌜ Room n (begun .closed) (now positive) (now negative) ⌝ }
-    ensures { λ r. ⌜ takenOf (now (positive .exit)) (now (negative .exit)) r ≡ tokenStep n (clausesFrom (now (positive .entry)) (now (negative .entry)) begun) place (signed negated value) ⌝ }
+    ensures { λ r. ⌜ Taking n place (now (positive .entry)) (now (negative .entry)) begun (signed negated value) r (now (positive .exit)) (now (negative .exit)) ⌝ }
 {
     let k = begun.closed;
     if value == 0 {
@@ -75,4 +73,75 @@ fn take_number(
         positive: wider,
         negative: begun.negative,
     })
+}
+
+// N3: "7 precedes 5 and 6 at a word". The word behind the blanks at the cursor.
+fn clause_word(
+    line: &[u8],
+    start: usize,
+    cursor: Cursor,
+    n: u32,
+    total: u32,
+    begun: Begun,
+    positive: &mut [u64],
+    negative: &mut [u64],
+) -> Stepped
+    requires { ⌜ Ready (record { variables = n; total = total }) (begun .closed) (now positive) (now negative) × Inside start (now line) × (cursor .at ≤ length (now line)) ⌝ }
+    ensures { λ r. ⌜ Stepping (record { variables = n; total = total }) start (now (line .entry)) (cursor .at) (now (positive .entry)) (now (negative .entry)) begun (now (positive .exit)) (now (negative .exit)) r ⌝ }
+{
+    let at = cursor.at;
+    let from = run_end(line, at, Class::Blank);
+    if line.len() <= from {
+        return Stepped::End;
+    }
+    let place = start + from;
+    let word = read_word(line, Cursor { at: from });
+    if total <= begun.closed {
+        return Stepped::Refused { code: 7, place };
+    }
+    let Word::Read {
+        negated,
+        value,
+        next,
+    } = word
+    else {
+        return Stepped::Refused { code: 5, place };
+    };
+    let taken = take_number(n, place, begun, negated, value, positive, negative);
+    match taken {
+        Taken::On(more) => Stepped::On { begun: more, next },
+        Taken::Refused { code, place } => Stepped::Refused { code, place },
+    }
+}
+
+// The words of a line. A byte of the line is visited at most three times: to skip it as a blank, or to find its word's end and to read it.
+pub fn clause_line(
+    line: &[u8],
+    start: usize,
+    n: u32,
+    total: u32,
+    begun: Begun,
+    positive: &mut [u64],
+    negative: &mut [u64],
+) -> Taken
+    requires { ⌜ Ready (record { variables = n; total = total }) (begun .closed) (now positive) (now negative) × Inside start (now line) ⌝ }
+    ensures { λ r. ⌜ Scanning (record { variables = n; total = total }) start (now (line .entry)) (clausesFrom (now (positive .entry)) (now (negative .entry)) begun) r (now (positive .exit)) (now (negative .exit)) ⌝ }
+{
+    let mut state = begun;
+    let mut cursor = Cursor { at: 0 };
+    loop {
+        let step = clause_word(line, start, cursor, n, total, state, positive, negative);
+        match step {
+            Stepped::End => {
+                return Taken::On(state);
+            }
+            Stepped::Refused { code, place } => {
+                return Taken::Refused { code, place };
+            }
+            Stepped::On { begun: more, next } => {
+                state = more;
+                cursor = next;
+            }
+        }
+    }
 }

@@ -1,77 +1,73 @@
+-- `dimacs::clauses::take_number` meets its contract: a zero closes the clause, a variable above n is refused, another one joins its set.
+-- Assumes nothing.
 use borrow.Author.Needs.{needs}
+use native.Mathlib.Omega.{arith}
+use Rattle.dimacs.specs.ClauseScanLaws.{number-closes, number-above, number-positive, number-negative}
 use Rattle.dimacs.proofs.clauses.take_number.Statement.{statement}
 use Rattle.dimacs.proofs.clauses.take_number.Tie as tie
-use Rattle.dimacs.proofs.clauses.take_number.Reads as reads
-use Rattle.dimacs.proofs.clauses.take_number.Lts as lts
-use Rattle.points.proofs.with_variable.Reads as with-variable-reads
-use Rattle.slices.proofs.put_point.Reads as put-point-reads
 
--- src/clauses.rt:50:18
 cast-at : tie.Need-cast-at
 cast-at c = search needs
 
--- src/clauses.rt:51:9
 put-point-requires : tie.Need-put-point-requires
 put-point-requires c κs = search needs
 
--- src/clauses.rt:52:9
 put-point-requires-2 : tie.Need-put-point-requires-2
 put-point-requires-2 c κs = search needs
 
--- src/clauses.rt:53:22
 add-closed : tie.Need-add-closed
 add-closed c = search needs
 
--- src/clauses.rt:54:9
 same-length : tie.Need-same-length
 same-length c = search needs
 
--- src/clauses.rt:54:9
 same-length-2 : tie.Need-same-length-2
 same-length-2 c = search needs
 
--- src/clauses.rt:54:9
 returns : tie.Need-returns
-returns c = ?
+returns c =
+    let start = c .before .before .before .before .before .before .before .before .before .before .before in
+    let a = start .args in
+    record {
+      step = number-closes (a .n) (a .place) (a .positive .now) (a .negative .now) (a .begun) (a .negated) (a .value) _ _
+    (c .before .before .before .before .before .before .before .before .if1 .taken) (start .pre .room-positive) (start .pre .room-negative)
+    (c .before .before .before .before .before .before .put-point .ensures) (c .before .before .put-point2 .ensures);
+      few = search needs;
+    }
 
--- src/clauses.rt:61:9
 returns-2 : tie.Need-returns-2
-returns-2 c = ?
+returns-2 c =
+    let a = c .before .before .before .before .args in
+    record { step = number-above (a .n) (a .place) (a .positive .now) (a .negative .now) (a .begun) (a .negated) (a .value) (c .before .if1 .left) (c .if2 .taken); few = search needs }
 
--- src/clauses.rt:63:13
 sub-v : tie.Need-sub-v
 sub-v c = search needs
 
--- src/clauses.rt:65:13
 with-variable-requires : tie.Need-with-variable-requires
 with-variable-requires c κs = search needs
 
--- src/clauses.rt:66:9
 returns-3 : tie.Need-returns-3
-returns-3 c = ?
+returns-3 c =
+    let a = c .before .before .before .before .before .before .args in
+    record {
+      step = number-negative (a .n) (a .place) (a .positive .now) (a .negative .now) (a .begun) (a .negated) (a .value) _ (c .before .if3 .taken)
+    (c .before .before .before .if1 .left) (c .before .before .if2 .left) (c .with-variable .ensures);
+      few = search needs;
+    }
 
--- src/clauses.rt:72:9
 with-variable-requires-2 : tie.Need-with-variable-requires-2
 with-variable-requires-2 c κs = search needs
 
--- src/clauses.rt:36:1
 returns-4 : tie.Need-returns-4
-returns-4 c = ?
+returns-4 c =
+    let a = c .before .before .before .before .before .before .args in
+    record {
+      step = number-positive (a .n) (a .place) (a .positive .now) (a .negative .now) (a .begun) (a .negated) (a .value) _ (c .before .if3 .left)
+    (c .before .before .before .if1 .left) (c .before .before .if2 .left) (c .with-variable2 .ensures);
+      few = search needs;
+    }
 
 pub take-number-spec : {M : Type 1} → statement M
 take-number-spec =
     tie.close
-    (tie.spec
-    cast-at
-    put-point-requires
-    put-point-requires-2
-    add-closed
-    same-length
-    same-length-2
-    returns
-    returns-2
-    sub-v
-    with-variable-requires
-    returns-3
-    with-variable-requires-2
-    returns-4)
+    (tie.spec cast-at put-point-requires put-point-requires-2 add-closed same-length same-length-2 returns returns-2 sub-v with-variable-requires returns-3 with-variable-requires-2 returns-4)
