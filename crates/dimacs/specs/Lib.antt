@@ -7,7 +7,9 @@ pub mod Accepted
 pub mod Scans
 pub mod ScanLaws
 pub mod ClauseScanLaws
+pub mod CommentScanLaws
 pub mod ClauseScans
+pub mod CommentScans
 pub mod TextLaws
 pub mod StepLaws
 pub mod ClauseLaws

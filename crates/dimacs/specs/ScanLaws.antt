@@ -20,7 +20,7 @@ use Rattle.dimacs.specs.TextLaws.{lines-last, lines-next, words-none, wo
 use Rattle.dimacs.specs.Scans.{belongs, Stretch, signed, WordAt}
 
 -- a list from i on is the element at i, and the list from i + 1 on
-here-on : (xs : List ℕ) (i : ℕ) → i < length xs → drop i xs ≡ getD xs i 0 ∷ drop (i + 1) xs
+pub here-on : (xs : List ℕ) (i : ℕ) → i < length xs → drop i xs ≡ getD xs i 0 ∷ drop (i + 1) xs
 here-on xs i h = drop-cons xs i 0 h ∙ ap (λ j. getD xs i 0 ∷ drop j xs) (sym (add-one i))
 
 -- ---- numbers

@@ -2,6 +2,7 @@
 use formula::Formula;
 
 pub mod clauses;
+pub mod comments;
 pub mod words;
 
 // What the reader says of a text.
