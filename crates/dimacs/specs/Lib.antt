@@ -8,8 +8,10 @@ pub mod Scans
 pub mod ScanLaws
 pub mod ClauseScanLaws
 pub mod CommentScanLaws
+pub mod LineScanLaws
 pub mod ClauseScans
 pub mod CommentScans
+pub mod LineScans
 pub mod TextLaws
 pub mod StepLaws
 pub mod ClauseLaws

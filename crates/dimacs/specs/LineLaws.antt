@@ -46,7 +46,7 @@ view l = by (isComment l) refl (isTargetLine l) refl (isPermutationLine l) refl
     by true c false t true q = view-permutation c t q
     by true c false t false q = view-remark c t q
 
-kind-is : (l : Line) {c t p : Bool} → isComment l ≡ c → isTargetLine l ≡ t → isPermutationLine l ≡ p → kindOf l ≡ kindBy c t p
+pub kind-is : (l : Line) {c t p : Bool} → isComment l ≡ c → isTargetLine l ≡ t → isPermutationLine l ≡ p → kindOf l ≡ kindBy c t p
 unfolding kindOf
 kind-is l c t p = rw (c, t, p)
 
@@ -148,7 +148,7 @@ line-parts z l s r e = by (view l)
         })
 
 -- a progress is its three parts
-three-same : {c d : Clauses} {t u : Option ℕ} {es fs : List Permutation} → c ≡ d → t ≡ u → es ≡ fs
+pub three-same : {c d : Clauses} {t u : Option ℕ} {es fs : List Permutation} → c ≡ d → t ≡ u → es ≡ fs
     → _≡_ {A = Progress} (record { clauses = c; target = t; permutations = es }) (record { clauses = d; target = u; permutations = fs })
 three-same p q r i = record { clauses = p i; target = q i; permutations = r i }
 

@@ -3,6 +3,7 @@ use formula::Formula;
 
 pub mod clauses;
 pub mod comments;
+pub mod lines;
 pub mod words;
 
 // What the reader says of a text.
