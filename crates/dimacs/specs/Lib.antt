@@ -9,9 +9,11 @@ pub mod ScanLaws
 pub mod ClauseScanLaws
 pub mod CommentScanLaws
 pub mod LineScanLaws
+pub mod ProblemScanLaws
 pub mod ClauseScans
 pub mod CommentScans
 pub mod LineScans
+pub mod ProblemScans
 pub mod TextLaws
 pub mod StepLaws
 pub mod ClauseLaws

@@ -71,7 +71,7 @@ value-small i v h k = let z : 10 ^ i ≤ 10 ^ 3 = pow-le-pow-right (omega arith)
 
 -- ---- heads
 
-same-lengths : (xs ys : List ℕ) → sameBytes xs ys ≡ true → length xs ≡ length ys
+pub same-lengths : (xs ys : List ℕ) → sameBytes xs ys ≡ true → length xs ≡ length ys
 unfolding sameBytes
 same-lengths [] [] e = refl
 same-lengths [] (y ∷ ys) e = absurd (true≢false (sym e))

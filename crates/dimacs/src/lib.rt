@@ -4,6 +4,7 @@ use formula::Formula;
 pub mod clauses;
 pub mod comments;
 pub mod lines;
+pub mod problem;
 pub mod words;
 
 // What the reader says of a text.
