@@ -8,12 +8,12 @@ pub mod Scans
 pub mod ScanLaws
 pub mod ClauseScanLaws
 pub mod CommentScanLaws
-pub mod LineScanLaws
 pub mod ProblemScanLaws
+pub mod LineScanLaws
 pub mod ClauseScans
 pub mod CommentScans
-pub mod LineScans
 pub mod ProblemScans
+pub mod LineScans
 pub mod TextLaws
 pub mod StepLaws
 pub mod ClauseLaws

@@ -13,19 +13,24 @@ use lib.Seq.{drop-drop, take-take, take-nil, take-add}
 use borrow.Author.Tests.{lt-ltb, le-ltb}
 use Rattle.images.specs.LoopLaws.{length-permutations, part-ends}
 use Rattle.permutations.specs.Permutations.{Permutation, permutationsIn}
+use Rattle.slices.specs.Slices.{clausesOf}
 use Rattle.dimacs.specs.declared.clauses.Begun.{Begun}
 use Rattle.dimacs.specs.declared.clauses.Taken.{Taken}
 use Rattle.dimacs.specs.declared.clauses.Taken.the-variants.{On as Further, Refused as Stopped}
+use Rattle.dimacs.specs.declared.words.Class.the-variants.{Line as LineBytes}
 use Rattle.dimacs.specs.declared.lines.State.{State}
 use Rattle.dimacs.specs.declared.lines.Advanced.{Advanced}
 use Rattle.dimacs.specs.declared.lines.Advanced.the-variants.{On, Refused}
-use Rattle.dimacs.specs.Text.{Line, piece, words, begins, isComment, isTargetLine, isPermutationLine}
-use Rattle.dimacs.specs.Reader.{Step, goes, refuses, andThen, walk, Sizes, Progress, wordStep, Kind, kindBy, kindOf, handled, targetIn, targetKept, targetStep, permutationIn, permutationKept, permutationStep, lineStep}
+use Rattle.dimacs.specs.Text.{maxText, piece, words, begins, isComment, isTargetLine, isPermutationLine}
+use Rattle.dimacs.specs.Reader.{Step, goes, refuses, andThen, walk, Sizes, begin, wordStep, kindBy, kindOf, handled, targetIn, targetKept, targetStep, permutationIn, permutationKept, permutationStep, lineStep}
 use Rattle.dimacs.specs.Input.{imagesOf}
-use Rattle.dimacs.specs.ScanLaws.{part-end}
+use Rattle.dimacs.specs.ScanLaws.{part-end, run-length}
 use Rattle.dimacs.specs.CommentScans.{Permuting}
-use Rattle.dimacs.specs.LineScans.{targetOf, progressFrom, advancedOf, Table, TargetTaken, PermutationTaken, WordsTaken, Standing, Stands, Advancing}
-use Rattle.dimacs.specs.ClauseScans.{clausesFrom, takenOf, Few, Ready, Scanning}
+use Rattle.dimacs.specs.LineScans.{targetOf, progressFrom, advancedOf, Table, TargetTaken, PermutationTaken, WordsTaken, Standing, Stands, Advancing, nothingSaid, LinesRead, Passing}
+use Rattle.dimacs.specs.ClauseScans.{clausesFrom, takenOf, Few, Ready, Inside, Scanning}
+use Rattle.dimacs.specs.Scans.{belongs, Stretch}
+use Rattle.dimacs.specs.ProblemScans.{linesBehind}
+use Rattle.dimacs.specs.ProblemScanLaws.{behind-none, behind-some, lines-from}
 use Rattle.dimacs.specs.LineLaws.{kind-is, three-same}
 use Rattle.dimacs.specs.TextLaws.{begins-split}
 
@@ -232,3 +237,64 @@ module _ (z : Sizes) (start : ℕ) (line : List ℕ) (s : State) (p q table : Li
       → Advancing z start line s p q table (On s) p q table
   unfolding kindBy handled
   line-remark c e f = record { step = sym (kind-step c e f); stands = st }
+
+-- ---- the lines one after the other
+
+module _ (z : Sizes) (text : List ℕ) (end : ℕ) (p₀ q₀ table₀ : List ℕ) where
+  pub passing-begins : (s : State) → s ≡ nothingSaid → Standing z nothingSaid p₀ q₀ table₀ → length text ≤ maxText → end ≤ length text
+      → Passing z text end p₀ q₀ table₀ p₀ q₀ table₀ s end
+  unfolding clausesOf permutationsIn
+  passing-begins s e st size within =
+      subst (λ t. Passing z text end p₀ q₀ table₀ p₀ q₀ table₀ t end) (sym e)
+      (record { standing = st; size = size; within = within; left = refl; size-positive = refl; size-negative = refl; size-table = refl })
+
+  module _ (p q table : List ℕ) (s : State) (last : ℕ) (a : Passing z text end p₀ q₀ table₀ p q table s last) where
+    pub passing-ends : length text ≤ last → LinesRead z text end (On s) p q table
+    unfolding walk
+    passing-ends h =
+        record {
+          step = sym (a .left ∙ ap (walk (lineStep z) (progressFrom (z .variables) p q table s)) (behind-none text last h));
+          stands = a .standing;
+        }
+
+    module _ (inside : last < length text) (stop : ℕ) (line : Stretch (belongs LineBytes) text (last + 1) stop) (r : Advanced) (p₁ q₁ table₁ : List ℕ)
+        (k : Advancing z (last + 1) (take (stop - (last + 1)) (drop (last + 1) text)) s p q table r p₁ q₁ table₁) where
+      -- the line's step comes first
+      stepped : walk (lineStep z) begin (linesBehind text end)
+          ≡ andThen (advancedOf (z .variables) p₁ q₁ table₁ r) (λ t. walk (lineStep z) t (linesBehind text stop))
+      unfolding walk
+      stepped =
+          a .left ∙ ap (walk (lineStep z) (progressFrom (z .variables) p q table s)) (behind-some text last inside ∙ lines-from text (last + 1) stop line)
+          ∙ ap (λ m. andThen m (λ t. walk (lineStep z) t (linesBehind text stop))) (sym (k .step))
+
+      pub passing-stops : (code place : ℕ) → r ≡ Refused code place → LinesRead z text end r p₁ q₁ table₁
+      unfolding andThen
+      passing-stops code place e =
+          record {
+            step =
+                ap (advancedOf (z .variables) p₁ q₁ table₁) e
+                ∙ sym (stepped ∙ ap (λ t. andThen (advancedOf (z .variables) p₁ q₁ table₁ t) (λ t. walk (lineStep z) t (linesBehind text stop))) e);
+            stands = k .stands;
+          }
+
+      pub passing-goes-on : (t : State) → r ≡ On t → length p₁ ≡ length p → length q₁ ≡ length q → length table₁ ≡ length table
+          → Passing z text end p₀ q₀ table₀ p₁ q₁ table₁ t stop
+      unfolding andThen
+      passing-goes-on t e lp lq lt =
+          record {
+            standing = subst (λ x. Stands z x p₁ q₁ table₁) e (k .stands);
+            size = a .size;
+            within = line .within;
+            left = stepped ∙ ap (λ t. andThen (advancedOf (z .variables) p₁ q₁ table₁ t) (λ t. walk (lineStep z) t (linesBehind text stop))) e;
+            size-positive = lp ∙ a .size-positive;
+            size-negative = lq ∙ a .size-negative;
+            size-table = lt ∙ a .size-table;
+          }
+
+    -- the line lies within the text
+    pub passing-inside : (stop : ℕ) → Stretch (belongs LineBytes) text (last + 1) stop → Inside (last + 1) (take (stop - (last + 1)) (drop (last + 1) text))
+    passing-inside stop line =
+        let o = line .ordered in
+        let w = line .within in
+        let b = a .size in
+        omega (arith, run-length (belongs LineBytes) text (last + 1) stop line)

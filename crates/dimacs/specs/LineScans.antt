@@ -1,10 +1,9 @@
 -- How what the lines have said lies in the code's numbers, slices and table, and what the functions on lines promise. Assumes nothing.
-use mathlib.Core.Bool.{Bool, cond}
+use mathlib.Core.Bool.{Bool, false, cond}
 use mathlib.Core.List.{List, []}
 use mathlib.Core.Option.{Option, some, none}
 use mathlib.Core.Path.{_≡_}
 use Prim.Native.Nat.{ℕ, _+_, _-_, _*_, _≤_, _<_}
-use lib.Dec.{ltb}
 use lib.ListN.{length, drop, replicate}
 use Rattle.permutations.specs.Permutations.{Permutation, permutationsIn}
 use Rattle.dimacs.specs.declared.clauses.Begun.{Begun}
@@ -13,6 +12,7 @@ use Rattle.dimacs.specs.declared.lines.Advanced.{Advanced}
 use Rattle.dimacs.specs.declared.lines.Advanced.the-variants.{On, Refused}
 use Rattle.dimacs.specs.Text.{Line, piece, lines, words, maxText}
 use Rattle.dimacs.specs.Reader.{Step, goes, refuses, walk, Sizes, Progress, begin, wordStep, targetStep, permutationStep, lineStep}
+use Rattle.dimacs.specs.ProblemScans.{linesBehind}
 use Rattle.dimacs.specs.ClauseScans.{clausesFrom, Ready}
 
 -- the target so far
@@ -68,3 +68,24 @@ Stands z (Refused code place) p q table = 0 ≤ 0
 pub record Advancing (z : Sizes) (start : ℕ) (line : List ℕ) (s : State) (p q table : List ℕ) (r : Advanced) (p₁ q₁ table₁ : List ℕ) : Type 0 where
   pub step : advancedOf (z .variables) p₁ q₁ table₁ r ≡ lineStep z (progressFrom (z .variables) p q table s) (piece start line)
   pub stands : Stands z r p₁ q₁ table₁
+
+-- ---- the lines one after the other
+
+-- nothing said yet
+abbrev pub nothingSaid : State
+nothingSaid = record { begun = record { closed = 0; positive = 0; negative = 0 }; targeted = false; target = 0; permutations = 0 }
+
+-- what the lines behind one that ends at a place lead to
+pub record LinesRead (z : Sizes) (text : List ℕ) (end : ℕ) (r : Advanced) (p q table : List ℕ) : Type 0 where
+  pub step : advancedOf (z .variables) p q table r ≡ walk (lineStep z) begin (linesBehind text end)
+  pub stands : Stands z r p q table
+
+-- the loop over the lines: what is left of the walk, with what was said so far, is the whole walk
+pub record Passing (z : Sizes) (text : List ℕ) (end : ℕ) (p₀ q₀ table₀ p q table : List ℕ) (s : State) (last : ℕ) : Type 0 where
+  pub standing : Standing z s p q table
+  pub size : length text ≤ maxText
+  pub within : last ≤ length text
+  pub left : walk (lineStep z) begin (linesBehind text end) ≡ walk (lineStep z) (progressFrom (z .variables) p q table s) (linesBehind text last)
+  pub size-positive : length p ≡ length p₀
+  pub size-negative : length q ≡ length q₀
+  pub size-table : length table ≡ length table₀

@@ -10,9 +10,11 @@ use crate::words::begins;
 use crate::words::run_end;
 use formula::Formula;
 use points::Point;
+ghost use mathlib.Core.Path.{_≡_};
 ghost use Prim.Native.Nat.{_≤_};
 ghost use lib.ListN.{length};
-ghost use Rattle.dimacs.specs.LineScans.{TargetTaken, PermutationTaken, WordsTaken, Table, Standing, Advancing};
+ghost use Rattle.dimacs.specs.LineScans.{TargetTaken, PermutationTaken, WordsTaken, Table, nothingSaid, Standing, Advancing, LinesRead};
+ghost use Rattle.dimacs.specs.Text.{maxText};
 ghost use Rattle.dimacs.specs.ClauseScans.{Ready, Inside};
 
 // What the lines have said so far, beside the slices of the clauses and the table of the images.
@@ -144,6 +146,62 @@ fn read_line(
     let permuting = begins(line, b"c exch ");
     if permuting {
         return permutation_line(line, start, n, state, table);
+    }
+    Advanced::On(state)
+}
+
+// What the lines have said before the first of them.
+fn begin() -> State
+    ensures { λ r. ⌜ r ≡ nothingSaid ⌝ }
+{
+    let begun = Begun {
+        closed: 0,
+        positive: 0,
+        negative: 0,
+    };
+    State {
+        begun,
+        targeted: false,
+        target: 0,
+        permutations: 0,
+    }
+}
+
+// N3: "then the first fault in text order": the lines behind the one that ends at `end`. A byte of the text is visited once to find its line's
+// end, at most fifteen times as part of a head, and at most three times more, so the work is linear in the text. Refusals 1, 3 and 4 and the
+// lent arrays see to what it requires.
+pub fn read_lines(
+    text: &[u8],
+    end: usize,
+    n: u32,
+    total: u32,
+    positive: &mut [u64],
+    negative: &mut [u64],
+    table: &mut [u8],
+) -> Advanced
+    requires { ⌜ Standing (record { variables = n; total = total }) nothingSaid (now positive) (now negative) (now table) × (length (now text) ≤ maxText) × (end ≤ length (now text)) ⌝ }
+    ensures { λ r. ⌜ LinesRead (record { variables = n; total = total }) (now (text .entry)) end r (now (positive .exit)) (now (negative .exit)) (now (table .exit)) ⌝ }
+{
+    let mut state = begin();
+    let mut last = end;
+    while last < text.len() {
+        let start = last + 1;
+        let stop = run_end(text, start, Class::Line);
+        let step = read_line(
+            &text[start..stop],
+            start,
+            n,
+            total,
+            state,
+            positive,
+            negative,
+            table,
+        );
+        let Advanced::On(more) = step else {
+            return step;
+        };
+        state = more;
+        last = stop;
     }
     Advanced::On(state)
 }
