@@ -10,10 +10,12 @@ pub mod ClauseScanLaws
 pub mod CommentScanLaws
 pub mod ProblemScanLaws
 pub mod LineScanLaws
+pub mod AnswerLaws
 pub mod ClauseScans
 pub mod CommentScans
 pub mod ProblemScans
 pub mod LineScans
+pub mod Answers
 pub mod TextLaws
 pub mod StepLaws
 pub mod ClauseLaws

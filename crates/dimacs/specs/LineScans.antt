@@ -1,7 +1,7 @@
 -- How what the lines have said lies in the code's numbers, slices and table, and what the functions on lines promise. Assumes nothing.
 use mathlib.Core.Bool.{Bool, false, cond}
 use mathlib.Core.List.{List, []}
-use mathlib.Core.Option.{Option, some, none}
+use mathlib.Core.Option.{Option, some, none, Option·getD}
 use mathlib.Core.Path.{_≡_}
 use Prim.Native.Nat.{ℕ, _+_, _-_, _*_, _≤_, _<_}
 use lib.ListN.{length, drop, replicate}
@@ -18,6 +18,10 @@ use Rattle.dimacs.specs.ClauseScans.{clausesFrom, Ready}
 -- the target so far
 abbrev pub targetOf : State → Option ℕ
 targetOf s = cond (s .targeted) (some (s .target)) none
+
+-- a target, or 0 where there is none
+abbrev pub wantedOr0 : Bool → ℕ → ℕ
+wantedOr0 targeted x = Option·getD (cond targeted (some x) none) 0
 
 -- what the lines have said
 abbrev pub progressFrom : ℕ → List ℕ → List ℕ → List ℕ → State → Progress

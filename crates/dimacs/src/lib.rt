@@ -1,11 +1,22 @@
 // The text format, DIMACS CNF, and the answer of its reader.
+use crate::answer::read_sized;
+use crate::answer::refused;
+use crate::problem::Found;
+use crate::problem::Sizing;
+use crate::problem::find_problem;
+use crate::problem::read_problem;
 use formula::Formula;
+ghost use Rattle.dimacs.specs.Reader.{Read};
 
+mod answer;
 pub mod clauses;
 pub mod comments;
 pub mod lines;
 pub mod problem;
 pub mod words;
+
+// S7: "The text is at most 1,048,576 bytes."
+const MAX_TEXT: usize = 1048576;
 
 // What the reader says of a text.
 pub enum Parse {
@@ -17,4 +28,24 @@ pub enum Parse {
 pub struct Parsed {
     pub formula: Formula,
     pub answer: Parse,
+}
+
+// D2.1: "A sheet is read as DIMACS CNF, as document 01 fixes it." The work is linear in the text: a byte before the problem line is visited at
+// most three times, one of that line at most six times, one behind it at most nineteen times (`read_lines`).
+pub fn read(text: &[u8], positive: &mut [u64], negative: &mut [u64]) -> Parsed
+    ensures { λ r. ⌜ Read (now (text .entry)) (now (positive .entry)) (now (negative .entry)) r (now (positive .exit)) (now (negative .exit)) ⌝ }
+{
+    let size = text.len();
+    if MAX_TEXT < size {
+        return refused(1, MAX_TEXT);
+    }
+    let found = find_problem(text);
+    let Found::Line { start, stop } = found else {
+        return refused(2, size);
+    };
+    let sizing = read_problem(&text[start..stop]);
+    let Sizing::Sizes { variables, total } = sizing else {
+        return refused(2, start);
+    };
+    read_sized(text, start, stop, variables, total, positive, negative)
 }

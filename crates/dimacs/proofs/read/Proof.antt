@@ -1,0 +1,102 @@
+-- `dimacs::read` meets its contract: the size of the text, the problem line, its sizes, then the lines. Assumes nothing.
+use mathlib.Core.Path.{sym, ap, _∙_}
+use borrow.Author.Needs.{needs}
+use Rattle.dimacs.specs.AnswerLaws.{answers-refused, answers-same, answers-read, text-long, text-absent, text-malformed, text-sized, problem-place}
+use Rattle.dimacs.specs.declared.words.Class.the-variants.{Line}
+use Rattle.dimacs.specs.Scans.{belongs, Stretch}
+use Rattle.dimacs.specs.ProblemScans.{sizingOf}
+use Rattle.dimacs.proofs.read.Statement.{statement}
+use Rattle.dimacs.proofs.read.Tie as tie
+
+refused-requires : tie.Need-refused-requires
+refused-requires c κs = search needs
+
+returns : tie.Need-returns
+returns c = let s = c .before .before .before .before .before in answers-read (s .args .text .now) _ _ _ _ _ (answers-refused _ _ _ _ _ _ (text-long (s .args .text .now) _ _ (c .before .if1 .taken)) (c .refused .ensures))
+
+find-problem-requires : tie.Need-find-problem-requires
+find-problem-requires c κs = search needs
+
+enum-known-found : tie.Need-enum-known-found
+enum-known-found c = search needs
+
+enum-told : tie.Need-enum-told
+enum-told c = search needs
+
+refused-requires-2 : tie.Need-refused-requires-2
+refused-requires-2 c κs = search needs
+
+returns-2 : tie.Need-returns-2
+returns-2 c = let s = c .before .before .before .before .before .before .before .before in answers-read (s .args .text .now) _ _ _ _ _ (answers-refused _ _ _ _ _ _ (text-absent (s .args .text .now) _ _ (c .before .before .before .before .if1 .left) (c .before .before .before .find-problem .result) (c .before .before .before .find-problem .ensures) (c .before .enum-told .given .1)) (c .refused2 .ensures))
+
+-- the problem line lies within the text
+placed : (c : tie.After-found) → Stretch (belongs Line) (c .before .before .before .before .before .before .before .args .text .now) (c .found .given .0 .0) (c .found .given .0 .1 .0)
+placed c = problem-place (c .before .before .before .before .before .before .before .args .text .now) 0 0 (c .before .before .before .if1 .left) (c .before .before .find-problem .result) (c .before .before .find-problem .ensures) _ _ (c .found .given .1)
+
+sub-read-problem : tie.Need-sub-read-problem
+sub-read-problem c = placed (c .before) .ordered
+
+part-read-problem-start : tie.Need-part-read-problem-start
+part-read-problem-start c = placed (c .before) .ordered
+
+part-read-problem-end : tie.Need-part-read-problem-end
+part-read-problem-end c = placed (c .before) .within
+
+read-problem-requires : tie.Need-read-problem-requires
+read-problem-requires c κs = search needs
+
+enum-known-sizing : tie.Need-enum-known-sizing
+enum-known-sizing c = search needs
+
+enum-told-2 : tie.Need-enum-told-2
+enum-told-2 c = search needs
+
+refused-requires-3 : tie.Need-refused-requires-3
+refused-requires-3 c κs = search needs
+
+returns-3 : tie.Need-returns-3
+returns-3 c = 
+    let s = c .before .before .before .before .before .before .before .before .before .before .before .before .before in
+    answers-read (s .args .text .now) _ _ _ _ _
+    (answers-refused _ _ _ _ _ _ (text-malformed (s .args .text .now) _ _ (c .before .before .before .before .before .before .before .before .before .if1 .left) (c .before .before .before .before .before .before .before .before .find-problem .result) (c .before .before .before .before .before .before .before .before .find-problem .ensures) _ _ (c .before .before .before .before .before .before .found .given .1)
+    (sym (ap sizingOf (c .before .enum-told2 .given .1)) ∙ c .before .before .before .read-problem .ensures)) (c .refused3 .ensures))
+
+read-sized-requires : tie.Need-read-sized-requires
+read-sized-requires c κs = (c .before .before .before .before .before .before .before .before .before .before .before .if1 .left, placed (c .before .before .before .before .before .before .before .before) .within)
+
+same-length : tie.Need-same-length
+same-length c = search needs
+
+same-length-2 : tie.Need-same-length-2
+same-length-2 c = search needs
+
+returns-4 : tie.Need-returns-4
+returns-4 c = 
+    let s = c .before .before .before .before .before .before .before .before .before .before .before .before .before .before .before .before .before .before .before .before in
+    answers-read (s .args .text .now) _ _ _ _ _
+    (answers-same (text-sized (s .args .text .now) _ _ (c .before .before .before .before .before .before .before .before .before .before .before .before .before .before .before .before .if1 .left) (c .before .before .before .before .before .before .before .before .before .before .before .before .before .before .before .find-problem .result) (c .before .before .before .before .before .before .before .before .before .before .before .before .before .before .before .find-problem .ensures) _ _ (c .before .before .before .before .before .before .before .before .before .before .before .before .before .found .given .1) _
+    (sym (ap sizingOf (c .before .before .before .before .before .before .before .before .sizing .given .1)) ∙ c .before .before .before .before .before .before .before .before .before .before .read-problem .ensures)) (c .before .before .before .before .read-sized .ensures))
+
+pub read-spec : {M : Type 1} → statement M
+read-spec =
+    tie.close
+    (tie.spec
+    refused-requires
+    returns
+    find-problem-requires
+    enum-known-found
+    enum-told
+    refused-requires-2
+    returns-2
+    sub-read-problem
+    part-read-problem-start
+    part-read-problem-end
+    read-problem-requires
+    enum-known-sizing
+    enum-told-2
+    refused-requires-3
+    returns-3
+    read-sized-requires
+    same-length
+    same-length-2
+    returns-4)
