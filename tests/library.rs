@@ -1,4 +1,5 @@
 // The exported functions, as crates/exports declares them, behind safe functions. A slice is a pointer and a length.
+#![allow(dead_code)] // a program uses some of them
 
 // A formula with its clauses.
 pub struct Sheet {
@@ -32,6 +33,21 @@ extern "C" {
         reply: *mut u64,
         reply_len: usize,
     ) -> u32;
+
+    fn jugbowo_read(
+        text: *const u8,
+        text_len: usize,
+        positive: *mut u64,
+        positive_len: usize,
+        negative: *mut u64,
+        negative_len: usize,
+        numbers: *mut u64,
+        numbers_len: usize,
+        images: *mut u8,
+        images_len: usize,
+        reply: *mut u64,
+        reply_len: usize,
+    ) -> u32;
 }
 
 // Searches over three lent slices; four words of `reply` take the answer, and the result is 1, or 0 where they have no place.
@@ -54,6 +70,27 @@ pub fn search(s: &Sheet, points: &mut [u64], falsified: &mut [u32], depths: &mut
             falsified.len(),
             depths.as_mut_ptr(),
             depths.len(),
+            reply.as_mut_ptr(),
+            reply.len(),
+        )
+    }
+}
+
+// Reads a text into two lent clause slices; `numbers`, `images` and `reply` take the formula and the answer, and the result is 1, or 0 where
+// one of the three has no place.
+pub fn read(text: &[u8], positive: &mut [u64], negative: &mut [u64], numbers: &mut [u64], images: &mut [u8], reply: &mut [u64]) -> u32 {
+    unsafe {
+        jugbowo_read(
+            text.as_ptr(),
+            text.len(),
+            positive.as_mut_ptr(),
+            positive.len(),
+            negative.as_mut_ptr(),
+            negative.len(),
+            numbers.as_mut_ptr(),
+            numbers.len(),
+            images.as_mut_ptr(),
+            images.len(),
             reply.as_mut_ptr(),
             reply.len(),
         )

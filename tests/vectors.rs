@@ -22,6 +22,10 @@ impl<'a> Vector<'a> {
         self.words(key).iter().map(|w| w.parse().expect("a number")).collect()
     }
 
+    fn bytes(&self, key: &str) -> Vec<u8> {
+        self.words(key).iter().flat_map(|w| run(w)).collect()
+    }
+
     // Before the call place i of every lent slice holds fill + i.
     fn filled(&self, len: usize) -> Vec<u64> {
         let fill = self.numbers("fill")[0];
@@ -29,21 +33,25 @@ impl<'a> Vector<'a> {
     }
 
     fn sheet(&self) -> Sheet {
-        let words = self.words("sheet");
-        let number = |i: usize| words[i].parse::<u64>().expect("a number");
-        let mut images = vec![0u8; 1024];
-        let told: Vec<u8> = words[4..].iter().flat_map(|w| run(w)).collect();
-        images[..told.len()].copy_from_slice(&told);
+        let (numbers, images) = formula(self.words("sheet"));
         Sheet {
-            variables: number(0) as u32,
-            clauses: number(1) as u32,
-            target: number(2),
-            permutations: number(3) as u32,
+            variables: numbers[0] as u32,
+            clauses: numbers[1] as u32,
+            target: numbers[2],
+            permutations: numbers[3] as u32,
             images,
             positive: self.numbers("yes"),
             negative: self.numbers("no"),
         }
     }
+}
+
+// A formula's four numbers and its 1,024 bytes of images.
+fn formula(words: &[&str]) -> (Vec<u64>, Vec<u8>) {
+    let numbers = words[..4].iter().map(|w| w.parse().expect("a number")).collect();
+    let mut images: Vec<u8> = words[4..].iter().flat_map(|w| run(w)).collect();
+    images.resize(1024, 0);
+    (numbers, images)
 }
 
 // One run of bytes: H:hex:times or U:first:count.
@@ -85,19 +93,37 @@ impl Differences {
     }
 }
 
-// The words of a reply: 0 refused, 1 satisfiable, 2 unsatisfiable, 3 unknown, each with its numbers.
+// The words of a reply: 0 refused, 1 satisfiable, 2 unsatisfiable, 3 unknown, 4 read, each with its numbers.
 fn reply_words(answer: &[&str]) -> Vec<u64> {
-    let kind = match answer[0] {
-        "refused" => 0,
-        "met" => 1,
-        "unmet" => 2,
-        "room" => 3,
-        other => panic!("no reply of the search: {other}"),
+    let (kind, carried) = match answer[0] {
+        "refused" => (0, &answer[1..]),
+        "met" => (1, &answer[1..]),
+        "unmet" => (2, &answer[1..]),
+        "room" => (3, &answer[1..]),
+        "read" => (4, &answer[..0]),
+        other => panic!("no reply: {other}"),
     };
     let mut words = vec![kind];
-    words.extend(answer[1..].iter().map(|w| w.parse::<u64>().expect("a number")));
+    words.extend(carried.iter().map(|w| w.parse::<u64>().expect("a number")));
     words.resize(4, 0);
     words
+}
+
+fn reader(v: &Vector, d: &mut Differences) {
+    let lent = v.numbers("lent");
+    let mut positive = v.filled(lent[0] as usize);
+    let mut negative = v.filled(lent[1] as usize);
+    let before = (positive.clone(), negative.clone());
+    let (mut numbers, mut images, mut reply) = (vec![7u64; 5], vec![7u8; 1025], vec![7u64; 5]);
+    let told = library::read(&v.bytes("bytes"), &mut positive, &mut negative, &mut numbers, &mut images, &mut reply);
+    let answer = v.words("answer");
+    let wanted = if answer[0] == "read" { formula(&answer[1..]) } else { (vec![0; 4], vec![0; 1024]) };
+    d.compare("told", told, 1);
+    d.compare("reply", reply, over(reply_words(answer), &[7; 5]));
+    d.compare("numbers", numbers, over(wanted.0, &[7; 5]));
+    d.compare("images", images, over(wanted.1, &[7; 1025]));
+    d.compare("positive", positive, over(v.numbers("after-yes"), &before.0));
+    d.compare("negative", negative, over(v.numbers("after-no"), &before.1));
 }
 
 fn builder(v: &Vector, d: &mut Differences) {
@@ -134,7 +160,7 @@ fn vectors(text: &str) -> Vec<Vector<'_>> {
 fn main() {
     let path = std::env::args().nth(1).expect("a file of vectors");
     let text = std::fs::read_to_string(path).expect("the vectors");
-    let kinds: [(&str, fn(&Vector, &mut Differences)); 1] = [("builder", builder)];
+    let kinds: [(&str, fn(&Vector, &mut Differences)); 2] = [("reader", reader), ("builder", builder)];
     let all = vectors(&text);
     let (mut passed, mut failed) = (0, 0);
     for (kind, test) in kinds {

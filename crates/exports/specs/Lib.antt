@@ -3,3 +3,5 @@ pub mod Words
 pub mod RoomLaws
 pub mod Builder
 pub mod BuilderLaws
+pub mod Reader
+pub mod ReaderLaws

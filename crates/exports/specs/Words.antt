@@ -33,3 +33,7 @@ formulaFrom variables clauses target permutations bytes =
 -- whether a slice has room for an answer's four words
 abbrev pub hasRoom : List ℕ → Bool
 hasRoom reply = leb 4 (length reply)
+
+-- and its numbers
+abbrev pub numbersOf : Formula → List ℕ
+numbersOf f = f .variables ∷ f .clauses ∷ f .target ∷ f .permutations ∷ []
