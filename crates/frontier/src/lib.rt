@@ -13,7 +13,7 @@ ghost use Rattle.traversal.specs.Walk.{slot};
 ghost use Rattle.expansion.specs.Memory.{memory, Lends};
 ghost use Rattle.frontier.specs.Stepping.{answerOf, framed, Searchable, Begun, Midway, Steps, Answers, Ended};
 
-// What a search comes to.
+// What a search comes to; `search::Outcome` adds the refusals.
 pub enum Answer {
     Satisfiable {
         point: Point,
@@ -84,8 +84,8 @@ fn process(
     })
 }
 
-// W4, W9: processes the slots one after the other until one gives the answer or none is left. At most `room` steps. `start` has stored the
-// target.
+// W4, W9: processes the slots one after the other until one gives the answer or none is left. At most `room` steps. `start` sees to
+// what it requires: it has stored the target.
 fn explore(
     g: Frame,
     images: &[u8],
@@ -130,7 +130,7 @@ fn explore(
     Answer::Unsatisfiable { filled: slots }
 }
 
-// W3: stores the target in the first slot and searches from there. `search` has tested that there is a slot.
+// W3: stores the target in the first slot and searches from there. `search::search` sees to what it requires, by refusals 10 to 13.
 pub fn start(
     g: Frame,
     images: &[u8],
