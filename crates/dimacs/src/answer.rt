@@ -103,9 +103,7 @@ fn finish(
     ensures { λ r. ⌜ Answers (andThen (advancedOf n (now (p .entry)) (now (q .entry)) table done) (atEnd size (record { variables = n; total = total }))) (now (positive .entry)) (now (negative .entry)) r (now (positive .exit)) (now (negative .exit)) ⌝ }
 {
     match done {
-        Advanced::On(state) => {
-            accept(size, n, total, state, p, q, table, positive, negative)
-        }
+        Advanced::On(state) => { accept(size, n, total, state, p, q, table, positive, negative) }
         Advanced::Refused { code, place } => refused(code, place),
     }
 }

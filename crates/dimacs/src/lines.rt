@@ -59,13 +59,7 @@ fn target_line(line: &[u8], start: usize, n: u32, state: State) -> Advanced
 }
 
 // R9: "exchange line malformed or seventeenth | 9 | line's first byte". The line has the head; refusal 3 sees to n.
-fn permutation_line(
-    line: &[u8],
-    start: usize,
-    n: u32,
-    state: State,
-    table: &mut [u8],
-) -> Advanced
+fn permutation_line(line: &[u8], start: usize, n: u32, state: State, table: &mut [u8]) -> Advanced
     requires { ⌜ (n ≤ 64) × (7 ≤ length (now line)) × Table n (state .permutations) (now table) ⌝ }
     ensures { λ r. ⌜ PermutationTaken n start (now (line .entry)) state (now (table .entry)) (now (table .exit)) r ⌝ }
 {

@@ -55,7 +55,7 @@ refused-requires-3 : tie.Need-refused-requires-3
 refused-requires-3 c κs = search needs
 
 returns-3 : tie.Need-returns-3
-returns-3 c = 
+returns-3 c =
     let s = c .before .before .before .before .before .before .before .before .before .before .before .before .before in
     answers-read (s .args .text .now) _ _ _ _ _
     (answers-refused _ _ _ _ _ _ (text-malformed (s .args .text .now) _ _ (c .before .before .before .before .before .before .before .before .before .if1 .left) (c .before .before .before .before .before .before .before .before .find-problem .result) (c .before .before .before .before .before .before .before .before .find-problem .ensures) _ _ (c .before .before .before .before .before .before .found .given .1)
@@ -71,7 +71,7 @@ same-length-2 : tie.Need-same-length-2
 same-length-2 c = search needs
 
 returns-4 : tie.Need-returns-4
-returns-4 c = 
+returns-4 c =
     let s = c .before .before .before .before .before .before .before .before .before .before .before .before .before .before .before .before .before .before .before .before in
     answers-read (s .args .text .now) _ _ _ _ _
     (answers-same (text-sized (s .args .text .now) _ _ (c .before .before .before .before .before .before .before .before .before .before .before .before .before .before .before .before .if1 .left) (c .before .before .before .before .before .before .before .before .before .before .before .before .before .before .before .find-problem .result) (c .before .before .before .before .before .before .before .before .before .before .before .before .before .before .before .find-problem .ensures) _ _ (c .before .before .before .before .before .before .before .before .before .before .before .before .before .found .given .1) _

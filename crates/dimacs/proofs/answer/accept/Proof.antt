@@ -26,7 +26,7 @@ same-length-2 : tie.Need-same-length-2
 same-length-2 c = search needs
 
 returns-2 : tie.Need-returns-2
-returns-2 c = 
+returns-2 c =
     let s = c .before .before .before .before .before .before .before .before .before .before .before .before .before .before .before .before in
     answers-accepted (s .args .size) _ (s .args .state) (s .args .p .now) (s .args .q .now) (s .args .table) (s .pre .0) (c .before .before .before .before .before .before .before .before .before .if1 .left) _ _ _ _ _
     (c .before .before .before .before .before .before .before .before .wanted .ensures) (c .before .before .before .before .before .before .copy .ensures) (c .before .before .copy2 .ensures)

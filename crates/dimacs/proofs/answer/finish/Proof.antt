@@ -10,7 +10,7 @@ enum-known-done : tie.Need-enum-known-done
 enum-known-done c = search needs
 
 accept-requires : tie.Need-accept-requires
-accept-requires c κs = 
+accept-requires c κs =
     let s = c .before .before .before .before .before .before .before .before .before in
     (subst (λ d. Stands (record { variables = s .args .n; total = s .args .total }) d (s .args .p .now) (s .args .q .now) (s .args .table)) (c .before .before .before .done .given .1) (s .pre .0), s .pre .1)
 
@@ -30,7 +30,7 @@ returns : tie.Need-returns
 returns c = let s = c .before .before .before .before .before .before .before .before .before .before .before .before .before .before in finish-on _ _ (s .args .size) (s .args .p .now) (s .args .q .now) (s .args .table) (s .args .done) _ _ _ (c .before .before .before .before .before .before .before .before .done .given .1) _ _ _ (c .before .before .before .before .accept .ensures)
 
 returns-2 : tie.Need-returns-2
-returns-2 c = 
+returns-2 c =
     let s = c .before .before .before .before .before .before .before .before in
     answers-refused _ _ _ _ _ _ (finish-refused _ _ (s .args .size) (s .args .p .now) (s .args .q .now) (s .args .table) (s .args .done) (s .args .positive .now) (s .args .negative .now) _ _ (c .before .before .done2 .given .1)) (c .refused .ensures)
 

@@ -36,7 +36,7 @@ same-length-2 : tie.Need-same-length-2
 same-length-2 c = c .before .before .before .before .finish .kept .1 .1 .1 .1 .1 .1 .1 .1 .0
 
 returns : tie.Need-returns
-returns c = 
+returns c =
     let s = c .before .before .before .before .before .before .before .before .before .before .before .before .before .before .before .before .before .before .before in
     answers-same (ap (λ m. andThen m (atEnd (length (s .args .text .now)) (record { variables = s .args .n; total = s .args .total }))) (sym (c .before .before .before .before .before .before .before .before .before .before .before .before .read-lines .ensures .step))) (c .before .before .before .before .finish .ensures)
 

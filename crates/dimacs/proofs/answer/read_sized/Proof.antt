@@ -61,7 +61,7 @@ same-length-5 : tie.Need-same-length-5
 same-length-5 c = search needs
 
 returns-6 : tie.Need-returns-6
-returns-6 c = 
+returns-6 c =
     answers-same (room-both _ _ _ _ _ _ (c .before .before .before .before .before .before .before .before .before .before .before .before .before .before .before .if1 .left) (c .before .before .before .before .before .before .before .before .before .before .before .before .before .before .if2 .left) (c .before .before .before .before .before .before .before .before .before .before .before .before .before .if3 .left) (le-trans (c .before .before .before .before .before .before .before .before .before .before .if4 .left) (le-of-eq (c .before .before .before .before .before .before .before .before .before .before .before .point-count .ensures)))
     (le-trans (c .before .before .before .before .before .before .before .if5 .left) (le-of-eq (c .before .before .before .before .before .before .before .before .point-count2 .ensures)))) (c .before .before .before .before .read-clauses .ensures)
 

@@ -30,8 +30,8 @@ returns c =
     let a = start .args in
     record {
       step = number-closes (a .n) (a .place) (a .positive .now) (a .negative .now) (a .begun) (a .negated) (a .value) _ _
-    (c .before .before .before .before .before .before .before .before .if1 .taken) (start .pre .room-positive) (start .pre .room-negative)
-    (c .before .before .before .before .before .before .put-point .ensures) (c .before .before .put-point2 .ensures);
+          (c .before .before .before .before .before .before .before .before .if1 .taken) (start .pre .room-positive) (start .pre .room-negative)
+          (c .before .before .before .before .before .before .put-point .ensures) (c .before .before .put-point2 .ensures);
       few = search needs;
     }
 
@@ -51,7 +51,7 @@ returns-3 c =
     let a = c .before .before .before .before .before .before .args in
     record {
       step = number-negative (a .n) (a .place) (a .positive .now) (a .negative .now) (a .begun) (a .negated) (a .value) _ (c .before .if3 .taken)
-    (c .before .before .before .if1 .left) (c .before .before .if2 .left) (c .with-variable .ensures);
+          (c .before .before .before .if1 .left) (c .before .before .if2 .left) (c .with-variable .ensures);
       few = search needs;
     }
 
@@ -63,7 +63,7 @@ returns-4 c =
     let a = c .before .before .before .before .before .before .args in
     record {
       step = number-positive (a .n) (a .place) (a .positive .now) (a .negative .now) (a .begun) (a .negated) (a .value) _ (c .before .if3 .left)
-    (c .before .before .before .if1 .left) (c .before .before .if2 .left) (c .with-variable2 .ensures);
+          (c .before .before .before .if1 .left) (c .before .before .if2 .left) (c .with-variable2 .ensures);
       few = search needs;
     }
 

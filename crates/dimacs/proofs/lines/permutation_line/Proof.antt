@@ -47,7 +47,7 @@ same-length-2 : tie.Need-same-length-2
 same-length-2 c = search needs
 
 returns-3 : tie.Need-returns-3
-returns-3 c = 
+returns-3 c =
     let s = c .before .before .before .before .before .before .before .before .before .before in
     let w = permutation-good _ _ (s .args .line .now) (s .args .state .permutations) (s .args .table .now) _ (c .before .before .before .before .read-permutation .result) (c .before .before .before .before .read-permutation .ensures) (c .before .before .before .before .before .before .before .if1 .left)
     (not-false _ (c .before .if2 .left)) (s .pre .0) (s .pre .2) (c .before .before .before .before .read-permutation .kept .1 .1 .0) in

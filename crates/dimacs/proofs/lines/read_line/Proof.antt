@@ -24,7 +24,7 @@ same-length-2 c = search needs
 
 returns : tie.Need-returns
 unfolding isComment isTargetLine isPermutationLine
-returns c = 
+returns c =
     let s = c .before .before .before .before .before .before .before .before .before .before .before .before .before .before in
     line-words _ (s .args .start) (s .args .line .now) (s .args .state) _ _ _ (s .pre .0) (c .before .before .before .before .word-line .result) _ _ (sym (c .before .before .before .before .before .before .before .before .begins .ensures) ∙ not-true _ (c .before .before .before .before .before .before .before .if1 .taken)) (c .before .before .before .before .word-line .ensures)
 
@@ -39,7 +39,7 @@ target-line-requires c κs = (c .before .before .before .before .before .before 
 
 returns-2 : tie.Need-returns-2
 unfolding isComment isTargetLine isPermutationLine
-returns-2 c = 
+returns-2 c =
     let s = c .before .before .before .before .before .before .before .before .before .before .before in
     line-target _ (s .args .start) (s .args .line .now) (s .args .state) _ _ _ (s .pre .0) (c .target-line .result) (sym (c .before .before .before .before .before .begins .ensures) ∙ not-false _ (c .before .before .before .before .if1 .left))
     (sym (c .before .before .begins2 .ensures) ∙ c .before .if2 .taken) (c .target-line .ensures)
@@ -58,14 +58,14 @@ same-length-3 c = search needs
 
 returns-3 : tie.Need-returns-3
 unfolding isComment isTargetLine isPermutationLine
-returns-3 c = 
+returns-3 c =
     let s = c .before .before .before .before .before .before .before .before .before .before .before .before .before .before .before .before .before in
     line-permutation _ (s .args .start) (s .args .line .now) (s .args .state) _ _ _ (s .pre .0) (c .before .before .permutation-line .result) _ (sym (c .before .before .before .before .before .before .before .before .before .before .before .begins .ensures) ∙ not-false _ (c .before .before .before .before .before .before .before .before .before .before .if1 .left))
     (sym (c .before .before .before .before .before .before .before .before .begins2 .ensures) ∙ c .before .before .before .before .before .before .before .if2 .left) (sym (c .before .before .before .before .before .begins3 .ensures) ∙ c .before .before .before .before .if3 .taken) (c .before .before .permutation-line .ensures)
 
 returns-4 : tie.Need-returns-4
 unfolding isComment isTargetLine isPermutationLine
-returns-4 c = 
+returns-4 c =
     let s = c .before .before .before .before .before .before .before .before .before .before .before .before .before in
     line-remark _ (s .args .start) (s .args .line .now) (s .args .state) _ _ _ (s .pre .0) (sym (c .before .before .before .before .before .before .before .begins .ensures) ∙ not-false _ (c .before .before .before .before .before .before .if1 .left))
     (sym (c .before .before .before .before .begins2 .ensures) ∙ c .before .before .before .if2 .left) (sym (c .before .begins3 .ensures) ∙ c .if3 .left)

@@ -21,7 +21,7 @@ same-length-2 : tie.Need-same-length-2
 same-length-2 c = search needs
 
 returns : tie.Need-returns
-returns c = 
+returns c =
     let s = c .before .before .before .before .before .before .before .before .before .before .before .before .before .before in
     let w = words-taken _ (s .args .start) (s .args .line .now) (s .args .state) _ _ (c .before .before .before .before .before .before .before .clause-line .result) _ _ (c .before .before .before .before .before .before .before .clause-line .ensures) _ (c .before .taken .given .1) (s .pre .0)
     (c .before .before .before .before .before .before .before .clause-line .kept .1 .1 .1 .1 .1 .0) (c .before .before .before .before .before .before .before .clause-line .kept .1 .1 .1 .1 .1 .1 .0) in
@@ -34,7 +34,7 @@ same-length-4 : tie.Need-same-length-4
 same-length-4 c = search needs
 
 returns-2 : tie.Need-returns-2
-returns-2 c = 
+returns-2 c =
     let s = c .before .before .before .before .before .before .before .before .before .before .before .before .before .before in
     words-refused _ (s .args .start) (s .args .line .now) (s .args .state) _ _ (c .before .before .before .before .before .before .before .clause-line .result) _ _ (c .before .before .before .before .before .before .before .clause-line .ensures) _ _ (c .before .taken2 .given .1)
 
