@@ -1,13 +1,12 @@
 -- Laws of the reader's answer: the copy into the lent slices, the formula, and refusals. Assumes nothing.
-use mathlib.Core.Bool.{Bool, true, false, cond, _&&_}
+use mathlib.Core.Bool.{cond}
 use mathlib.Core.List.{List, [], _∷_, _++_}
 use mathlib.Core.Option.{Option, some, none}
 use mathlib.Core.Path.{_≡_, refl, sym, ap, ap₂, _∙_, subst}
-use Prim.Native.Nat.{ℕ, zero, suc, _+_, _-_, _*_, _≤_, _<_, zero-le}
+use Prim.Native.Nat.{ℕ, _+_, _-_, _*_, _≤_, _<_, zero-le}
 use native.Mathlib.Nat.{zero-add, zero-mul, mul-le-mul-right, le-trans, le-of-eq}
 use native.Mathlib.Numerals.{add-one}
 use native.Mathlib.Omega.{arith}
-use lib.Dec.{eqb, leb}
 use lib.ListN.{length, getD, take, drop, set, replicate, take-append-drop, length-replicate}
 use lib.Seq.{paste, paste-zero, paste-suc, length-paste, length-take-le}
 use borrow.Author.Tests.{eq-eqb, ne-eqb, le-leb, lt-leb}
@@ -15,7 +14,6 @@ use Rattle.math.specs.Lists.{over}
 use Rattle.slices.specs.Slices.{clausesOf}
 use Rattle.images.specs.LoopLaws.{length-permutations}
 use Rattle.permutations.specs.Permutations.{permutationsIn}
-use Rattle.formula.specs.Problem.{emptyFormula}
 use Rattle.dimacs.specs.declared.Parse.the-variants.{Accepted}
 use Rattle.dimacs.specs.declared.Parsed.{Parsed}
 use Rattle.dimacs.specs.declared.lines.Advanced.{Advanced}

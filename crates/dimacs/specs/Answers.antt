@@ -1,5 +1,4 @@
 -- What the functions that make the reader's answer promise. Assumes nothing.
-use mathlib.Core.Bool.{Bool, cond}
 use mathlib.Core.List.{List}
 use mathlib.Core.Path.{_≡_}
 use Prim.Native.Nat.{ℕ, _≤_}

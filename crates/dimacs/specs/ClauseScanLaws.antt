@@ -1,5 +1,5 @@
 -- Laws of reading clause words into numbers and slices: what one number does, and what a word does to the walk. Assumes nothing.
-use mathlib.Core.Bool.{Bool, true, false, cond}
+use mathlib.Core.Bool.{Bool, true, false}
 use mathlib.Core.List.{List, [], _∷_, _++_}
 use mathlib.Core.Path.{_≡_, refl, sym, ap, ap₂, _∙_, subst}
 use Prim.Native.Nat.{ℕ, zero, suc, _+_, _-_, _^_, _≤_, _<_, min, zero-le}
@@ -7,11 +7,9 @@ use native.Mathlib.Nat.{le-of-lt, min-eq-left, le-refl, add-zero}
 use native.Mathlib.Numerals.{add-one}
 use native.Mathlib.Omega.{arith}
 use lib.Bits.{bitOr}
-use lib.Dec.{leb, ltb}
 use lib.ListN.{length, getD, take, drop, set}
 use lib.Seq.{take-suc-set, length-take-le}
 use borrow.Author.Tests.{le-leb, lt-leb, lt-ltb, le-ltb}
-use Rattle.points.specs.Points.{Clause}
 use Rattle.slices.specs.SliceLaws.{length-clauses}
 use Rattle.slices.specs.Slices.{clausesOf}
 use Rattle.dimacs.specs.declared.clauses.Begun.{Begun}
@@ -23,8 +21,8 @@ use Rattle.dimacs.specs.declared.words.Class.the-variants.{Blank}
 use Rattle.dimacs.specs.declared.words.Cursor.{Cursor}
 use Rattle.dimacs.specs.declared.words.Word.{Word as WordAnswer}
 use Rattle.dimacs.specs.declared.words.Word.the-variants.{Read, Malformed}
-use Rattle.dimacs.specs.Text.{isBlank, piece, words, tokenIn, Token, malformed}
-use Rattle.dimacs.specs.Reader.{Step, goes, refuses, andThen, walk, Sizes, Clauses, tokenStep, wordStep}
+use Rattle.dimacs.specs.Text.{isBlank, piece, words, Token, malformed}
+use Rattle.dimacs.specs.Reader.{goes, refuses, andThen, walk, Sizes, Clauses, tokenStep, wordStep}
 use Rattle.dimacs.specs.Scans.{belongs, Stretch, signed, WordAt, WordRead}
 use Rattle.dimacs.specs.ClauseScans.{clausesFrom, takenOf, Few, Taking, Ready, Inside, Stepping, Scanning, Along}
 use Rattle.dimacs.specs.ScanLaws.{words-skip, words-end}

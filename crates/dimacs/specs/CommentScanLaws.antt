@@ -1,6 +1,6 @@
 -- Laws of reading a target line and a permutation line by position. Assumes nothing.
-use mathlib.Core.Bool.{Bool, true, false, not, cond, _&&_, _||_, true≢false}
-use mathlib.Core.List.{List, [], _∷_, _++_, map, append-assoc, append-nil, List·Memᴰ·head, List·Memᴰ·tail}
+use mathlib.Core.Bool.{Bool, true, false, cond, _&&_, _||_, true≢false}
+use mathlib.Core.List.{List, [], _∷_, _++_, append-nil, List·Memᴰ·head, List·Memᴰ·tail}
 use mathlib.Core.Logic.{_⊎_, inl, inr, ⊎-elim}
 use mathlib.Core.Option.{Option, some, none}
 use mathlib.Core.Path.{_≡_, refl, sym, ap, ap₂, _∙_, subst}
@@ -24,7 +24,7 @@ use Rattle.dimacs.specs.declared.words.Word.{Word as WordAnswer}
 use Rattle.dimacs.specs.declared.words.Word.the-variants.{Read, Malformed as no-word}
 use Rattle.dimacs.specs.declared.comments.Image.{Image}
 use Rattle.dimacs.specs.declared.comments.Image.the-variants.{End, Variable, Malformed as Other}
-use Rattle.dimacs.specs.Text.{isBlank, isDigit, allBlank, words, spelled, decimal, isNumber, numberIn, tokenIn, unsigned, negated, literal, close, malformed, pos, neg, Token}
+use Rattle.dimacs.specs.Text.{isBlank, isDigit, allBlank, words, spelled, decimal, isNumber, numberIn, tokenIn, unsigned, negated, literal, malformed, neg, Token}
 use Rattle.dimacs.specs.Reader.{isBinary, binary, targetIn, beginsWord, bothNumbers, numbersIn, permuting, permutationIn}
 use Rattle.dimacs.specs.Scans.{belongs, Stretch, signed, WordAt, WordRead}
 use Rattle.dimacs.specs.ScanLaws.{here-on, part-end, run-all, words-skip, words-end}

@@ -6,7 +6,6 @@ use mathlib.Core.Path.{_≡_}
 use Prim.Native.Nat.{ℕ, _+_, _≤_, _<_}
 use lib.ListN.{length, take, drop}
 use Rattle.math.specs.Lists.{all}
-use Rattle.permutations.specs.Permutations.{Permutation}
 use Rattle.dimacs.specs.declared.comments.Wanted.{Wanted}
 use Rattle.dimacs.specs.declared.comments.Wanted.the-variants.{Target, Malformed}
 use Rattle.dimacs.specs.declared.comments.Image.{Image}

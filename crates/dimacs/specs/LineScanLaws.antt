@@ -1,13 +1,12 @@
 -- Laws of the lines behind the problem line, as the code goes along them. Assumes nothing.
-use mathlib.Core.Bool.{Bool, true, false, cond, true≢false}
+use mathlib.Core.Bool.{Bool, true, false, cond}
 use mathlib.Core.List.{List, [], _∷_, _++_}
 use mathlib.Core.Option.{Option, some, none}
-use mathlib.Core.Path.{_≡_, refl, sym, ap, ap₂, _∙_, subst}
+use mathlib.Core.Path.{_≡_, refl, sym, ap, _∙_, subst}
 use Prim.Native.Nat.{ℕ, zero, suc, _+_, _-_, _*_, _≤_, _<_, zero-le}
 use native.Mathlib.Nat.{zero-mul, suc-mul, add-comm, zero-add, suc-add}
 use native.Mathlib.Numerals.{add-one}
 use native.Mathlib.Omega.{arith}
-use lib.Dec.{ltb}
 use lib.ListN.{length, take, drop, replicate, length-append}
 use lib.Seq.{drop-drop, take-take, take-nil, take-add}
 use borrow.Author.Tests.{lt-ltb, le-ltb}
@@ -22,7 +21,7 @@ use Rattle.dimacs.specs.declared.lines.State.{State}
 use Rattle.dimacs.specs.declared.lines.Advanced.{Advanced}
 use Rattle.dimacs.specs.declared.lines.Advanced.the-variants.{On, Refused}
 use Rattle.dimacs.specs.Text.{maxText, piece, words, begins, isComment, isTargetLine, isPermutationLine}
-use Rattle.dimacs.specs.Reader.{Step, goes, refuses, andThen, walk, Sizes, begin, wordStep, kindBy, kindOf, handled, targetIn, targetKept, targetStep, permutationIn, permutationKept, permutationStep, lineStep}
+use Rattle.dimacs.specs.Reader.{goes, refuses, andThen, walk, Sizes, begin, wordStep, kindBy, handled, targetIn, targetKept, targetStep, permutationIn, permutationKept, permutationStep, lineStep}
 use Rattle.dimacs.specs.Input.{imagesOf}
 use Rattle.dimacs.specs.ScanLaws.{part-end, run-length}
 use Rattle.dimacs.specs.CommentScans.{Permuting}

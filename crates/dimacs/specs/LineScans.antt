@@ -1,16 +1,15 @@
 -- How what the lines have said lies in the code's numbers, slices and table, and what the functions on lines promise. Assumes nothing.
 use mathlib.Core.Bool.{Bool, false, cond}
-use mathlib.Core.List.{List, []}
+use mathlib.Core.List.{List}
 use mathlib.Core.Option.{Option, some, none, Option·getD}
 use mathlib.Core.Path.{_≡_}
-use Prim.Native.Nat.{ℕ, _+_, _-_, _*_, _≤_, _<_}
+use Prim.Native.Nat.{ℕ, _-_, _*_, _≤_}
 use lib.ListN.{length, drop, replicate}
-use Rattle.permutations.specs.Permutations.{Permutation, permutationsIn}
-use Rattle.dimacs.specs.declared.clauses.Begun.{Begun}
+use Rattle.permutations.specs.Permutations.{permutationsIn}
 use Rattle.dimacs.specs.declared.lines.State.{State}
 use Rattle.dimacs.specs.declared.lines.Advanced.{Advanced}
 use Rattle.dimacs.specs.declared.lines.Advanced.the-variants.{On, Refused}
-use Rattle.dimacs.specs.Text.{Line, piece, lines, words, maxText}
+use Rattle.dimacs.specs.Text.{piece, words, maxText}
 use Rattle.dimacs.specs.Reader.{Step, goes, refuses, walk, Sizes, Progress, begin, wordStep, targetStep, permutationStep, lineStep}
 use Rattle.dimacs.specs.ProblemScans.{linesBehind}
 use Rattle.dimacs.specs.ClauseScans.{clausesFrom, Ready}

@@ -1,32 +1,30 @@
 -- Laws of looking for the problem line and reading it by position. Assumes nothing.
-use mathlib.Core.Bool.{Bool, true, false, not, cond, _&&_, _||_, true≢false}
+use mathlib.Core.Bool.{Bool, true, false, cond, _&&_}
 use mathlib.Core.List.{List, [], _∷_, nil≢cons}
 use mathlib.Core.Logic.{_⊎_, inl, inr, ⊎-elim}
 use mathlib.Core.Option.{Option, some, none}
-use mathlib.Core.Path.{_≡_, refl, sym, ap, ap₂, _∙_, subst}
-use Prim.Native.Nat.{ℕ, zero, suc, _+_, _-_, _≤_, _<_, zero-le}
-use native.Mathlib.Nat.{le-of-eq, sub-self}
+use mathlib.Core.Path.{_≡_, refl, sym, ap, ap₂, _∙_}
+use Prim.Native.Nat.{ℕ, suc, _+_, _-_, _≤_, _<_}
+use native.Mathlib.Nat.{le-of-eq}
 use native.Mathlib.Decide.{decLt}
 use native.Mathlib.Omega.{arith}
-use lib.Dec.{eqb, ltb}
-use lib.ListN.{length, getD, take, drop, length-take, length-drop, drop-of-length-le}
-use lib.Seq.{take-length, take-all}
+use lib.Dec.{eqb}
+use lib.ListN.{length, getD, take, drop}
+use lib.Seq.{take-all}
 use borrow.Author.Tests.{le-leb, lt-ltb, le-ltb, eqb-true, eq-eqb, ne-eqb}
-use Rattle.math.specs.ListLaws.{and-split, not-true-false, not-all, getD-in, same-tests}
-use Rattle.math.specs.Lists.{_∈_, all, select}
+use Rattle.math.specs.ListLaws.{not-true-false, not-all, getD-in, same-tests}
+use Rattle.math.specs.Lists.{all, select}
 use Rattle.math.specs.SplitLaws.{select-cons, map-nil}
 use Rattle.dimacs.specs.declared.words.Class.the-variants.{Blank, Word as WordBytes, Line as LineBytes}
 use Rattle.dimacs.specs.declared.words.Cursor.{Cursor}
-use Rattle.dimacs.specs.declared.problem.Matched.{Matched}
 use Rattle.dimacs.specs.declared.problem.Matched.the-variants.{Behind, Other}
-use Rattle.dimacs.specs.declared.problem.Sized.{Sized}
 use Rattle.dimacs.specs.declared.problem.Sized.the-variants.{Number, Other as NoNumber}
-use Rattle.dimacs.specs.Text.{isBlank, allBlank, Piece, Word, Line, piece, joined, pieces, lines, holdsBytes, words, spelled, sameBytes, begins, isComment, problemWord, formatWord, numberIn, tokenIn, isNumber}
+use Rattle.dimacs.specs.Text.{isBlank, allBlank, Piece, Word, piece, joined, pieces, lines, holdsBytes, words, spelled, sameBytes, begins, isComment, problemWord, formatWord, numberIn, tokenIn, isNumber}
 use Rattle.dimacs.specs.Reader.{Sizes, sizesIn, problemWords, problemIn, isSkipped, fromProblem}
 use Rattle.dimacs.specs.StepLaws.{not-some}
-use Rattle.dimacs.specs.TextLaws.{same-bytes, words-bytes}
-use Rattle.dimacs.specs.Scans.{belongs, Stretch, WordAt}
-use Rattle.dimacs.specs.ScanLaws.{here-on, part-end, run-all, words-skip, words-end, word-at, line-here, line-last, same-lengths}
+use Rattle.dimacs.specs.TextLaws.{same-bytes}
+use Rattle.dimacs.specs.Scans.{belongs, Stretch}
+use Rattle.dimacs.specs.ScanLaws.{here-on, run-all, words-skip, words-end, word-at, line-here, line-last, same-lengths}
 use Rattle.dimacs.specs.ClauseScanLaws.{blanks-stop}
 use Rattle.dimacs.specs.ProblemScans.{spelledFrom, WordMatched, NumberMatched, linesBehind}
 

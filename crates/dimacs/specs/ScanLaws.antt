@@ -1,16 +1,16 @@
 -- Laws of the loops over bytes: runs by position, digits, heads, and the words of a line from a place on. Assumes nothing.
 use mathlib.Core.Bool.{Bool, true, false, not, cond, _&&_, true≢false}
-use mathlib.Core.List.{List, [], _∷_, _++_}
+use mathlib.Core.List.{List, [], _∷_}
 use mathlib.Core.Option.{Option, some, none}
-use mathlib.Core.Path.{_≡_, refl, sym, ap, _∙_, subst}
+use mathlib.Core.Path.{_≡_, refl, sym, ap, _∙_}
 use Prim.Native.Nat.{ℕ, zero, suc, _+_, _-_, _*_, _^_, _≤_, _<_}
-use native.Mathlib.Nat.{pow-suc, pow-le-pow-right, le-of-eq, add-sub-cancel-left, add-suc, le-trans}
+use native.Mathlib.Nat.{pow-suc, pow-le-pow-right, le-of-eq}
 use native.Mathlib.Numerals.{add-one}
 use native.Mathlib.Decide.{decLt}
 use native.Mathlib.Omega.{arith}
 use lib.Dec.{eqb, leb}
 use lib.ListN.{length, getD, take, drop, length-take, length-drop, drop-of-length-le}
-use lib.Seq.{drop-cons, getD-take, getD-drop, take-all, length-take-le, drop-length, drop-drop}
+use lib.Seq.{drop-cons, getD-take, getD-drop, take-all, length-take-le, drop-drop}
 use borrow.Author.Tests.{le-leb, lt-leb, not-false, leb-true, ne-eqb, eq-eqb}
 use Rattle.math.specs.ListLaws.{and-split, all-of, in-getD}
 use Rattle.math.specs.Lists.{all}

@@ -1,6 +1,6 @@
 -- `points::with_variable` meets its contract: below 64 the shifted 1 is 2 ^ v. Assumes nothing.
 use mathlib.Core.Path.{ap, _∙_}
-use Prim.Native.Nat.{ℕ, _^_}
+use Prim.Native.Nat.{_^_}
 use native.Mathlib.Nat.{one-mul}
 use lib.Bits.{bitOr}
 use lib.Pow.{shl-exact}

@@ -2,7 +2,6 @@
 -- paths alone, since a search would write the arrays out. Assumes nothing.
 use mathlib.Core.Path.{refl, sym, ap}
 use lib.ListN.{length}
-use borrow.Author.Needs.{needs}
 use Rattle.dimacs.specs.AnswerLaws.{arrays-stand, answers-same}
 use Rattle.dimacs.specs.Reader.{andThen, atEnd}
 use Rattle.dimacs.proofs.answer.read_clauses.Statement.{statement}

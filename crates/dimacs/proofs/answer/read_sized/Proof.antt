@@ -1,5 +1,5 @@
 -- `dimacs::answer::read_sized` meets its contract: the limits, the room, then the lines. Assumes nothing.
-use mathlib.Core.Path.{sym, _∙_}
+use mathlib.Core.Path.{sym}
 use native.Mathlib.Nat.{le-of-eq, le-trans, lt-of-le-of-lt}
 use borrow.Author.Needs.{needs}
 use Rattle.dimacs.specs.AnswerLaws.{answers-refused, answers-same, sizes-low, sizes-high, sizes-many, room-first, room-second, room-both}

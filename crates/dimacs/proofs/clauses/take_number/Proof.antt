@@ -1,7 +1,6 @@
 -- `dimacs::clauses::take_number` meets its contract: a zero closes the clause, a variable above n is refused, another one joins its set.
 -- Assumes nothing.
 use borrow.Author.Needs.{needs}
-use native.Mathlib.Omega.{arith}
 use Rattle.dimacs.specs.ClauseScanLaws.{number-closes, number-above, number-positive, number-negative}
 use Rattle.dimacs.proofs.clauses.take_number.Statement.{statement}
 use Rattle.dimacs.proofs.clauses.take_number.Tie as tie

@@ -1,5 +1,5 @@
 -- `dimacs::lines::permutation_line` meets its contract: a seventeenth line, a malformed one, a permutation behind those before. Assumes nothing.
-use mathlib.Core.Path.{refl, sym, _∙_}
+use mathlib.Core.Path.{refl, sym}
 use Prim.Native.Nat.{_+_, _*_, _≤_}
 use native.Mathlib.Nat.{le-trans, le-of-eq}
 use native.Mathlib.Omega.{arith}

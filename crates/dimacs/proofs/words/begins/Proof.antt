@@ -1,6 +1,6 @@
 -- `dimacs::words::begins` meets its contract: the comparison is, at index i, that of the bytes from i on. Assumes nothing.
 use mathlib.Core.Path.{_≡_, sym, _∙_}
-use Prim.Native.Nat.{_≤_, _-_, zero-le}
+use Prim.Native.Nat.{_≤_, _-_}
 use native.Mathlib.Omega.{arith}
 use lib.ListN.{length}
 use borrow.Author.Needs.{needs}

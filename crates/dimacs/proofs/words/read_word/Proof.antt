@@ -1,5 +1,5 @@
 -- `dimacs::words::read_word` meets its contract: the word goes from the cursor up to the next blank. Assumes nothing.
-use mathlib.Core.Path.{_≡_, sym, ap, _∙_}
+use mathlib.Core.Path.{sym, ap, _∙_}
 use borrow.Author.Needs.{needs}
 use Rattle.dimacs.specs.Scans.{tokenOf}
 use Rattle.dimacs.specs.ScanLaws.{word-at}
