@@ -23,4 +23,5 @@ pub mod CommentLaws
 pub mod LineLaws
 pub mod ReaderLaws
 pub mod InputLaws
+pub mod Handed
 pub mod Example
