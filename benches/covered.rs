@@ -1,14 +1,31 @@
 // What a look-up of 'covered' costs as the slots grow, when it finds nothing and so compares with all of them: the search over PH(7, 6), which
 // fills every slot lent, without permutations and with 16, in one run. The 16 are the identity, so that both searches fill the same slots. Of
 // each number of slots it times the look-ups made while the last eighth of them is filled: a search with fewer slots is the beginning of the
-// same search, so these are the difference of two, each the fastest of some runs.
+// same search, so these are the difference of two, each the fastest of some runs, by the processor's time (Linux).
 #[path = "../tests/library.rs"]
 mod library;
 #[path = "../tests/sheets.rs"]
 #[allow(dead_code)] // of what a search leaves, the benchmark reads the reply and the clause numbers
 mod sheets;
 use library::Sheet;
-use std::time::Instant;
+
+#[repr(C)]
+struct Timespec {
+    seconds: i64,
+    nanoseconds: i64,
+}
+
+extern "C" {
+    fn clock_gettime(clock: i32, time: *mut Timespec) -> i32;
+}
+
+// The seconds that a processor has spent on this program so far; other programs do not count.
+fn spent() -> f64 {
+    const PROCESS_CPUTIME: i32 = 2;
+    let mut t = Timespec { seconds: 0, nanoseconds: 0 };
+    assert_eq!(unsafe { clock_gettime(PROCESS_CPUTIME, &mut t) }, 0);
+    t.seconds as f64 + t.nanoseconds as f64 * 1e-9
+}
 
 const HOLES: usize = 6;
 const VARIABLES: usize = HOLES * (HOLES + 1);
@@ -19,9 +36,9 @@ fn measured(s: &Sheet, slots: usize, runs: usize) -> (f64, f64) {
     let mut least = f64::MAX;
     let mut lookups = 0;
     for _ in 0..runs {
-        let begun = Instant::now();
+        let begun = spent();
         let found = sheets::search(s, slots);
-        least = least.min(begun.elapsed().as_secs_f64());
+        least = least.min(spent() - begun);
         assert_eq!(found.reply[2], slots as u64, "all slots are filled");
         let numbers = found.numbers.iter().filter(|&&c| c > 0).map(|&c| c as usize - 1);
         lookups = numbers.map(|c| (s.positive[c] | s.negative[c]).count_ones()).sum();
