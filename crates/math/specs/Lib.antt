@@ -10,3 +10,4 @@ pub mod SetLaws
 pub mod CountLaws
 pub mod QueueLaws
 pub mod OverLaws
+pub mod SpliceLaws

@@ -6,7 +6,7 @@ use mathlib.Core.Logic.{_⊎_, inl, inr, ⊎-elim}
 use mathlib.Core.Path.{_≡_, refl, sym, ap, ap₂, _∙_, subst}
 use Prim.Native.Nat.{ℕ, zero, suc, _+_, _≤_, _<_, zero-le, suc-le-suc}
 use native.Mathlib.Decide.{ℕ-discrete}
-use native.Mathlib.Nat.{le-of-suc-le-suc, not-suc-le-zero, zero-add, add-assoc, le-trans, not-suc-le-self}
+use native.Mathlib.Nat.{le-of-suc-le-suc, not-suc-le-zero, zero-add, add-zero, suc-add, add-suc, add-assoc, le-trans, not-suc-le-self}
 use native.Mathlib.Omega.{arith}
 use lib.ListN.{length, getD}
 use lib.Dec.{eqb}
@@ -277,6 +277,13 @@ pub distinct-range : (a k : ℕ) → Distinct (range a k)
 unfolding range
 distinct-range a zero = distinct-nil
 distinct-range a (suc k) = distinct-cons (λ m. let w = range-out (suc a) k a m in omega arith) (distinct-range (suc a) k)
+
+-- the number at an index
+pub getD-range : (a k i d : ℕ) → i < k → getD (range a k) i d ≡ a + i
+unfolding range
+getD-range a zero i d h = absurd (not-suc-le-zero h)
+getD-range a (suc k) zero d h = sym (add-zero a)
+getD-range a (suc k) (suc i) d h = getD-range (suc a) k i d (le-of-suc-le-suc h) ∙ suc-add a i ∙ sym (add-suc a i)
 
 -- the numbers from a + 1 on are one more than those from a on
 pub range-suc : (a k : ℕ) → range (suc a) k ≡ map suc (range a k)

@@ -4,7 +4,7 @@ use mathlib.Core.Bool.{Bool, true, false, cond, _&&_, _||_}
 use mathlib.Core.List.{List, [], _∷_, _++_, List·Memᴰ}
 use Prim.Native.Nat.{ℕ, zero, suc, _+_}
 use lib.Dec.{eqb}
-use lib.ListN.{length, drop}
+use lib.ListN.{length, take, drop}
 
 -- the number of the first failure in a list, from whether its head passes and the number in its tail
 abbrev pub failingAt : Bool → ℕ → ℕ
@@ -46,6 +46,10 @@ module _ {A : Type 0} where
   -- new contents in front of what was there
   unfoldable pub over : List A → List A → List A
   over new old = new ++ drop (length new) old
+
+  -- new contents in the place of as many elements, from index i on
+  unfoldable pub spliced : ℕ → List A → List A → List A
+  spliced i new old = take i old ++ new ++ drop (i + length new) old
 
   -- no element stands twice
   pub data Distinct : List A → Type 0 where

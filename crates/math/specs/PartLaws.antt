@@ -2,13 +2,14 @@
 -- lists. Assumes nothing.
 use mathlib.Core.Bool.{Bool, true, false, cond}
 use mathlib.Core.List.{List, [], _∷_, _++_, append-assoc, append-nil, List·Memᴰ·head, List·Memᴰ·tail, List·Memᴰ·not-nil}
+use mathlib.Core.Option.{some, none}
 use mathlib.Core.Path.{_≡_, refl, sym, ap, _∙_, subst}
 use Prim.Native.Nat.{ℕ, zero, suc, _+_, _≤_, _<_, suc-le-suc, zero-le}
 use native.Mathlib.Nat.{not-suc-le-zero, le-of-suc-le-suc, zero-add}
 use native.Mathlib.Decide.{ℕ-discrete}
 use native.Mathlib.Omega.{arith}
 use lib.Dec.{eqb}
-use lib.ListN.{length, getD, take, drop, length-append, length-drop}
+use lib.ListN.{length, getD, getElem?, take, drop, length-append, length-drop}
 use lib.Seq.{take-at, drop-at}
 use borrow.Author.Tests.{eq-eqb, ne-eqb}
 use Rattle.math.specs.ListLaws.{here, getD-in, in-getD, count-pos, count-none, range-out, range-in}
@@ -40,6 +41,18 @@ module _ {A : Type 0} where
 
   pub part-last : (a b : List A) (i j : ℕ) → length a ≡ i → length b ≡ j → take j (drop i (a ++ b)) ≡ b
   part-last a b i j p q = ap (λ l. take j (drop i l)) (sym (append-nil (a ++ b))) ∙ part-middle a b [] i j p q
+
+  -- ---- the element of an index, or none
+
+  pub index-some : (xs : List A) (i : ℕ) (d : A) → i < length xs → getElem? xs i ≡ some (getD xs i d)
+  index-some [] i d h = absurd (not-suc-le-zero h)
+  index-some (x ∷ xs) zero d h = refl
+  index-some (x ∷ xs) (suc i) d h = index-some xs i d (le-of-suc-le-suc h)
+
+  pub index-none : (xs : List A) (i : ℕ) → length xs ≤ i → getElem? xs i ≡ none
+  index-none [] i h = refl
+  index-none (x ∷ xs) zero h = absurd (not-suc-le-zero h)
+  index-none (x ∷ xs) (suc i) h = index-none xs i (le-of-suc-le-suc h)
 
   -- ---- new contents in front of what was there
 

@@ -8,7 +8,8 @@ use native.Mathlib.Nat.{lt-of-lt-of-le, le-trans, le-of-eq, min-le-left, add-zer
 use native.Mathlib.Numerals.{add-one}
 use lib.ListN.{length, getD, take, drop, length-take, drop-of-length-le}
 use lib.Seq.{drop-cons, getD-take}
-use Rattle.math.specs.Lists.{any, all, firstFailing, failingAt}
+use Rattle.math.specs.ListLaws.{length-range, getD-range}
+use Rattle.math.specs.Lists.{any, all, firstFailing, failingAt, below}
 
 -- the number of the first failure in a list, from its number k in the part from i on
 unfoldable pub onFrom : ℕ → ℕ → ℕ
@@ -72,6 +73,26 @@ module _ {A : Type 0} (t : A → Bool) (xs : List A) (d : A) where
       by : (k : ℕ) → onFrom i (failingAt true k) ≡ onFrom (i + 1) k
       by zero = refl
       by (suc k) = ap suc (add-suc i k ∙ sym (suc-add i k) ∙ ap (λ j. j + k) (sym (add-one i)))
+
+-- ---- a test of every index below k
+
+module _ (t : ℕ → Bool) (k : ℕ) where
+  -- the index at i is i
+  tested-at : (i : ℕ) → i < k → t (getD (below k) i 0) ≡ t i
+  tested-at i h = ap t (getD-range 0 k i 0 h ∙ zero-add i)
+
+  inside : (i : ℕ) → i < k → i < length (below k)
+  inside i h = lt-of-lt-of-le h (le-of-eq (sym (length-range 0 k)))
+
+  pub below-ends : (i : ℕ) → k ≤ i → onFrom i (firstFailing t (drop i (below k))) ≡ 0
+  below-ends i h = failing-ends t (below k) 0 i (le-trans (le-of-eq (length-range 0 k)) h)
+
+  pub below-stops : (i : ℕ) → i < k → t i ≡ false → onFrom i (firstFailing t (drop i (below k))) ≡ i + 1
+  below-stops i h e = failing-stops t (below k) 0 i (inside i h) (tested-at i h ∙ e)
+
+  pub below-goes-on : (i : ℕ) → i < k → t i ≡ true
+      → onFrom i (firstFailing t (drop i (below k))) ≡ onFrom (i + 1) (firstFailing t (drop (i + 1) (below k)))
+  below-goes-on i h e = failing-goes-on t (below k) 0 i (inside i h) (tested-at i h ∙ e)
 
 -- an element of the first k of a list is that of the list
 pub getD-prefix : {A : Type 0} (l : List A) (k i : ℕ) (d : A) → i < length (take k l) → getD (take k l) i d ≡ getD l i d

@@ -3,13 +3,12 @@ use expansion::Frame;
 use formula::Checked;
 use formula::Formula;
 use formula::refusals::problem_refusal;
+use formula::room::room;
 use frontier::Answer;
 use points::Point;
-use slices::least;
-use slices::point_count;
 ghost use mathlib.Core.Path.{_≡_};
 ghost use Rattle.frontier.specs.Stepping.{answerOf};
-ghost use Rattle.search.specs.Builder.{replyOf, lentBy, Searched};
+ghost use Rattle.search.specs.Builder.{replyOf, Searched};
 
 // A slot's depth: how many flips lie between the target and its point.
 pub type Depth = expansion::Depth;
@@ -55,17 +54,6 @@ fn as_outcome(a: Answer) -> Outcome
             filled: filled,
         },
     }
-}
-
-// The slots that three lent slices give: the shortest length, and at most 65,536.
-fn room(points: &[u64], falsified: &[u32], depths: &[Depth]) -> usize
-    ensures { λ r. ⌜ r ≡ lentBy (now (points .entry)) (now (falsified .entry)) (now (depths .entry)) ⌝ }
-{
-    let most = Formula::MAX_SLOTS as usize;
-    let held = point_count(points);
-    let beside = least(falsified.len(), depths.len());
-    let shortest = least(held, beside);
-    least(most, shortest)
 }
 
 // D2.2: searches from the formula's target, with the slots in the three lent slices; refusals 10 to 13 leave all three as they were.

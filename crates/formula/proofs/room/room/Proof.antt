@@ -1,10 +1,10 @@
--- `search::room` meets its contract. Assumes nothing.
+-- `formula::room::room` meets its contract. Assumes nothing.
 use mathlib.Core.Path.{ap, ap₂, _∙_}
 use Prim.Native.Nat.{min}
 use Rattle.formula.specs.Limits.{capacity}
 use borrow.Author.Needs.{needs}
-use Rattle.search.proofs.room.Statement.{statement}
-use Rattle.search.proofs.room.Tie as tie
+use Rattle.formula.proofs.room.room.Statement.{statement}
+use Rattle.formula.proofs.room.room.Tie as tie
 
 cast-most : tie.Need-cast-most
 cast-most c = search needs
