@@ -24,8 +24,13 @@ module _ {A : Type 0} where
   pub length-spliced : (i : ℕ) (new old : List A) → i + length new ≤ length old → length (spliced i new old) ≡ length old
   unfolding spliced
   length-spliced i new old h =
-      omega (arith, length-append (take i old ++ new) (drop (i + length new) old), length-append (take i old) new,
-      length-take-le i old (let z : i ≤ length old = omega arith in z), length-drop (i + length new) old)
+      omega (
+        arith,
+        length-append (take i old ++ new) (drop (i + length new) old),
+        length-append (take i old) new,
+        length-take-le i old (let z : i ≤ length old = omega arith in z),
+        length-drop (i + length new) old,
+      )
 
   -- storing one element
   pub spliced-one : (i : ℕ) (a : A) (old : List A) → i < length old → set old i a ≡ spliced i (a ∷ []) old

@@ -1,0 +1,63 @@
+-- `transport::first_bad_point` meets its contract: the number over all is, at index i, that over the indices from i on. Assumes nothing.
+use mathlib.Core.Path.{_≡_, sym, _∙_}
+use Prim.Native.Nat.{_-_}
+use lib.ListN.{drop}
+use borrow.Author.Needs.{needs}
+use borrow.Author.Tests.{not-true, not-false}
+use Rattle.math.specs.Lists.{firstFailing, below}
+use Rattle.math.specs.ScanLaws.{onFrom, failing-begins, below-ends, below-stops, below-goes-on}
+use Rattle.certificate.specs.Rows.{pointPasses}
+use Rattle.transport.proofs.first_bad_point.Statement.{statement}
+use Rattle.transport.proofs.first_bad_point.Tie as tie
+
+abbrev Inv-loop : tie.InvT-loop
+Inv-loop points n count i₀ i =
+    firstFailing (pointPasses n points) (below count) ≡ onFrom i (firstFailing (pointPasses n points) (drop i (below count)))
+
+abbrev μ-loop : tie.MeasureT-loop
+μ-loop points n count i₀ i = count - i
+
+loop-holds : tie.Need-loop-holds Inv-loop μ-loop
+loop-holds c = failing-begins _ _ 0
+
+point-passes-requires : tie.Need-point-passes-requires Inv-loop μ-loop
+point-passes-requires c κs = search needs
+
+add-result : tie.Need-add-result Inv-loop μ-loop
+add-result c = search needs
+
+returns : tie.Need-returns Inv-loop μ-loop
+returns c =
+    let l = c .before .before .before .loop in
+    sym (l .inv ∙ below-stops _ _ (l .i) (c .before .before .loop-test .taken) (sym (c .before .point-passes .ensures) ∙ not-true _ (c .if1 .taken)))
+
+add-i : tie.Need-add-i Inv-loop μ-loop
+add-i c = search needs
+
+loop-less : tie.Need-loop-less Inv-loop μ-loop
+loop-less c = search needs
+
+loop-again : tie.Need-loop-again Inv-loop μ-loop
+loop-again c =
+    let l = c .before .before .before .loop in
+    l .inv ∙ below-goes-on _ _ (l .i) (c .before .before .loop-test .taken) (sym (c .before .point-passes .ensures) ∙ not-false _ (c .if1 .left))
+
+returns-2 : tie.Need-returns-2 Inv-loop μ-loop
+returns-2 c =
+    let l = c .before .loop in
+    sym (l .inv ∙ below-ends _ _ (l .i) (c .loop-test .left))
+
+pub first-bad-point-spec : {M : Type 1} → statement M
+first-bad-point-spec =
+    tie.close
+    (tie.spec
+    Inv-loop
+    μ-loop
+    loop-holds
+    point-passes-requires
+    add-result
+    returns
+    add-i
+    loop-less
+    loop-again
+    returns-2)

@@ -1,0 +1,140 @@
+// Refusals 16 and 17, which the writer and the checker share: whether each point is new and has the number of a clause that it falsifies.
+// Document 002 calls the map from points to such clauses a transport function.
+use formula::Checked;
+use points::Point;
+use slices::clause_at;
+use slices::clause_count;
+use slices::contains;
+use slices::point_at;
+ghost use mathlib.Core.Path.{_≡_};
+ghost use lib.ListN.{getD};
+ghost use Rattle.math.specs.Lists.{firstFailing, below};
+ghost use Rattle.points.specs.Points.{numbered};
+ghost use Rattle.slices.specs.Slices.{pointsOf, clausesOf};
+ghost use Rattle.formula.specs.Refusals.{faultOf};
+ghost use Rattle.certificate.specs.Rows.{pointPasses, pointsFault, clauseNumbered, falsifies, numberPasses, numbersFault};
+
+// The clause number at index i, 0 past the end.
+pub fn number_at(numbers: &[u32], i: usize) -> u32
+    ensures { λ r. ⌜ r ≡ getD (now (numbers .entry)) i 0 ⌝ }
+{
+    if i < numbers.len() { numbers[i] } else { 0 }
+}
+
+// Whether the point at index i has no bit at n or above and equals none of the i before it, with each of which it is compared.
+fn point_passes(points: &[u64], n: u32, i: usize) -> bool
+    ensures { λ r. ⌜ r ≡ pointPasses n (pointsOf (now (points .entry))) i ⌝ }
+{
+    let x = point_at(points, i);
+    let small = points::below(x, n);
+    if small {
+        let repeated = contains(points, i, x);
+        return !repeated;
+    }
+    false
+}
+
+// The number, from 1, of the first of `count` points that fails; 0 if all pass. Each is compared with all before it: at most count²/2
+// comparisons.
+fn first_bad_point(points: &[u64], n: u32, count: usize) -> usize
+    ensures { λ r. ⌜ r ≡ firstFailing (pointPasses n (pointsOf (now (points .entry)))) (below count) ⌝ }
+{
+    let mut i = 0;
+    while i < count {
+        let fine = point_passes(points, n, i);
+        if !fine {
+            return i + 1;
+        }
+        i += 1;
+    }
+    0
+}
+
+// Refusal 16, of the first `count` points, of which at most `limit` are allowed.
+pub fn points_refusal(points: &[u64], n: u32, count: usize, limit: usize) -> Checked
+    ensures { λ r. ⌜ faultOf r ≡ pointsFault limit n count (pointsOf (now (points .entry))) ⌝ }
+{
+    if count < 1 {
+        return Checked::Refused { code: 16, place: 0 };
+    }
+    if limit < count {
+        return Checked::Refused { code: 16, place: 0 };
+    }
+    let k = first_bad_point(points, n, count);
+    if k == 0 {
+        Checked::Passed
+    } else {
+        Checked::Refused { code: 16, place: k }
+    }
+}
+
+// Whether some clause has the number k, and the point falsifies it.
+fn falsifies(positive: &[u64], negative: &[u64], k: u32, x: Point) -> bool
+    ensures { λ r. ⌜ r ≡ falsifies (clauseNumbered (numbered (clausesOf (now (positive .entry)) (now (negative .entry)))) k) x ⌝ }
+{
+    if k < 1 {
+        return false;
+    }
+    let place = k as usize - 1;
+    let end = clause_count(positive, negative);
+    if end <= place {
+        return false;
+    }
+    let c = clause_at(positive, negative, place);
+    let met = points::satisfies(c, x);
+    !met
+}
+
+// Whether the point at index i falsifies the clause that the number at index i names.
+fn number_passes(
+    positive: &[u64],
+    negative: &[u64],
+    points: &[u64],
+    numbers: &[u32],
+    i: usize,
+) -> bool
+    ensures { λ r. ⌜ r ≡ numberPasses (numbered (clausesOf (now (positive .entry)) (now (negative .entry)))) (pointsOf (now (points .entry))) (now (numbers .entry)) i ⌝ }
+{
+    let k = number_at(numbers, i);
+    let x = point_at(points, i);
+    falsifies(positive, negative, k, x)
+}
+
+// The number, from 1, of the first of `count` points that does not falsify its clause; 0 if all do. One step a point.
+fn first_bad_number(
+    positive: &[u64],
+    negative: &[u64],
+    points: &[u64],
+    numbers: &[u32],
+    count: usize,
+) -> usize
+    ensures { λ r. ⌜ r ≡ firstFailing (numberPasses (numbered (clausesOf (now (positive .entry)) (now (negative .entry)))) (pointsOf (now (points .entry))) (now (numbers .entry))) (below count) ⌝ }
+{
+    let mut i = 0;
+    while i < count {
+        let fine = number_passes(positive, negative, points, numbers, i);
+        if !fine {
+            return i + 1;
+        }
+        i += 1;
+    }
+    0
+}
+
+// Refusal 17, of the first `count` points and numbers.
+pub fn numbers_refusal(
+    positive: &[u64],
+    negative: &[u64],
+    points: &[u64],
+    numbers: &[u32],
+    count: usize,
+) -> Checked
+    ensures { λ r. ⌜ faultOf r ≡ numbersFault (numbered (clausesOf (now (positive .entry)) (now (negative .entry)))) count (pointsOf (now (points .entry))) (now (numbers .entry)) ⌝ }
+{
+    let k = first_bad_number(positive, negative, points, numbers, count);
+    if k == 0 {
+        Checked::Passed
+    } else {
+        Checked::Refused { code: 17, place: k }
+    }
+}
