@@ -1,18 +1,21 @@
 -- Laws of numbers as bytes and of entries that stand without gaps: what is put out reads back. Assumes nothing.
 use mathlib.Core.List.{List, [], _∷_, _++_, append-assoc, append-nil}
 use mathlib.Core.Option.{some, none}
-use mathlib.Core.Path.{_≡_, refl, sym, ap, ap₂, _∙_}
+use mathlib.Core.Path.{_≡_, refl, sym, ap, ap₂, _∙_, subst}
 use mathlib.Core.List.{List·Memᴰ·tail}
 use Prim.Native.Nat.{ℕ, zero, suc, _+_, _*_, _/_, _^_, _≤_, _<_}
 use native.Mathlib.Nat.{pow-succ', zero-mul, suc-mul, add-comm, not-suc-le-zero, le-of-suc-le-suc}
+use native.Mathlib.Numerals.{add-one}
 use native.Mathlib.Omega.{arith}
 use lib.Arith.{lt-one}
-use lib.ListN.{length, getElem?, take, drop, length-append}
-use lib.Seq.{take-at, drop-at, drop-drop}
+use lib.ListN.{length, getD, getElem?, set, take, drop, length-append}
+use lib.Seq.{take-at, drop-at, drop-drop, drop-cons}
 use Rattle.math.specs.ListLaws.{here}
-use Rattle.math.specs.Lists.{_∈_}
+use Rattle.math.specs.Lists.{_∈_, over}
+use Rattle.math.specs.OverLaws.{over-snoc}
+use Rattle.math.specs.PartLaws.{index-some}
 use Rattle.permutations.specs.Permutations.{permutationsIn}
-use Rattle.certificate.specs.Bytes.{bytesOf, numberFrom, joined, entries}
+use Rattle.certificate.specs.Bytes.{bytesOf, numberFrom, joined, entries, numbersIn}
 
 -- ---- one number
 
@@ -29,6 +32,11 @@ numberFrom-bytesOf (suc w) x h =
     let p : 256 ^ suc w ≡ 256 * 256 ^ w = pow-succ' 256 w in
     let ih : numberFrom (bytesOf w (x / 256)) ≡ x / 256 = numberFrom-bytesOf w (x / 256) (omega arith) in
     omega arith
+
+-- the number from index i on is the byte there, and 256 times the number behind it
+pub number-next : (bytes : List ℕ) (i : ℕ) → i < length bytes → numberFrom (drop i bytes) ≡ getD bytes i 0 + 256 * numberFrom (drop (suc i) bytes)
+unfolding numberFrom
+number-next bytes i h = ap numberFrom (drop-cons bytes i 0 h)
 
 -- ---- entries
 
@@ -77,6 +85,29 @@ module _ {A : Type 0} (read : List ℕ → A) (w : ℕ) where
   entries-outside zero bytes i h = refl
   entries-outside (suc k) bytes zero h = absurd (not-suc-le-zero h)
   entries-outside (suc k) bytes (suc i) h = entries-outside k (drop w bytes) i (le-of-suc-le-suc h)
+
+  -- one entry more is the one that stands behind the others
+  pub entries-snoc : (k : ℕ) (bytes : List ℕ) → entries read w (suc k) bytes ≡ entries read w k bytes ++ read (take w (drop (k * w) bytes)) ∷ []
+  unfolding entries
+  entries-snoc zero bytes = ap (λ (j : ℕ). read (take w (drop j bytes)) ∷ []) (sym (zero-mul w))
+  entries-snoc (suc k) bytes =
+      ap (λ l. read (take w bytes) ∷ l) (entries-snoc k (drop w bytes)
+      ∙ ap (λ l. entries read w k (drop w bytes) ++ read (take w l) ∷ []) (drop-drop (k * w) w bytes ∙ ap (λ (j : ℕ). drop j bytes) (add-comm w (k * w) ∙ sym (suc-mul k w))))
+
+-- the number of an index
+pub number-of : (w k : ℕ) (bytes : List ℕ) (i : ℕ) → i < k → getD (numbersIn w k bytes) i 0 ≡ numberFrom (take w (drop (i * w) bytes))
+number-of w k bytes i h =
+    let inside : getElem? (numbersIn w k bytes) i ≡ some (getD (numbersIn w k bytes) i 0) = index-some (numbersIn w k bytes) i 0 (subst (λ (j : ℕ). i < j) (sym (length-entries numberFrom w k bytes)) h) in
+    let there : getElem? (numbersIn w k bytes) i ≡ some (numberFrom (take w (drop (i * w) bytes))) = entries-at numberFrom w k bytes i h in
+    cc
+
+-- copying the numbers of a body one by one: after i come i + 1
+pub into-next : (w i : ℕ) (body old : List ℕ) (x : ℕ) → x ≡ numberFrom (take w (drop (i * w) body)) → i < length old
+    → set (over (numbersIn w i body) old) i x ≡ over (numbersIn w (i + 1) body) old
+into-next w i body old x e room =
+    over-snoc i (numbersIn w i body) old x (length-entries numberFrom w i body) room
+    ∙ ap (λ (y : ℕ). over (numbersIn w i body ++ y ∷ []) old) e
+    ∙ ap (λ l. over l old) (sym (entries-snoc numberFrom w i body) ∙ ap (λ (k : ℕ). numbersIn w k body) (sym (add-one i)))
 
 -- permutations are entries too
 pub permutations-entries : (n k : ℕ) (bytes : List ℕ) → permutationsIn n k bytes ≡ entries (λ bs. record { images = bs }) n k bytes

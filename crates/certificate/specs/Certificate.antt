@@ -98,15 +98,16 @@ pub record WellFormed (file : List ℕ) : Type 0 where
   pub countsAgree : contentsOf file .points ≡ contentsOf file .numbers
   pub lengthExact : length file ≡ contentsOf file .numbersAt + contentsOf file .numbers * numberWidth
 
--- the same, computed
-unfoldable pub wellFormed : List ℕ → Bool
-unfolding contentsOf
-wellFormed file =
-    let c = contentsOf file in
-    leb contentsLength (length file) && eqb (c .permutationsAt) contentsLength
-    && eqb (c .pointsAt) (contentsLength + c .permutations * permutationWidth (c .variables))
+-- the same, computed: first of contents and a file's length, then of a file
+unfoldable pub fitting : FileContents → ℕ → Bool
+fitting c size =
+    eqb (c .permutationsAt) contentsLength && eqb (c .pointsAt) (contentsLength + c .permutations * permutationWidth (c .variables))
     && eqb (c .numbersAt) (c .pointsAt + c .points * pointWidth) && eqb (c .points) (c .numbers)
-    && eqb (length file) (c .numbersAt + c .numbers * numberWidth)
+    && eqb size (c .numbersAt + c .numbers * numberWidth)
+
+unfoldable pub wellFormed : List ℕ → Bool
+unfolding contentsOf fitting
+wellFormed file = leb contentsLength (length file) && fitting (contentsOf file) (length file)
 
 -- C8: "Each body is handed on as its own part of the file."
 unfoldable pub permutationsBody : List ℕ → List ℕ

@@ -1,48 +1,92 @@
 -- Laws of the certificate: its length, that the test of a file says what is meant, and that what is put out is well formed and reads back.
 -- Assumes nothing.
-use mathlib.Core.Bool.{true}
+use mathlib.Core.Bool.{Bool, true, false, _&&_}
 use mathlib.Core.List.{List, _++_, append-assoc}
 use mathlib.Core.Path.{_≡_, refl, sym, ap, ap₂, _∙_}
-use Prim.Native.Nat.{ℕ, _+_, _*_, _^_, _<_}
+use Prim.Native.Nat.{ℕ, _+_, _*_, _^_, _≤_, _<_}
 use native.Mathlib.Omega.{arith}
 use lib.Dec.{lit<}
 use lib.ListN.{length, take, drop, length-append}
-use borrow.Author.Tests.{eqb-true, eq-eqb, leb-true, le-leb}
-use Rattle.math.specs.ListLaws.{and-split, and-join}
+use borrow.Author.Tests.{eqb-true, eq-eqb, leb-true, le-leb, lt-leb}
+use Rattle.math.specs.ListLaws.{and-split, and-join, not-true-false}
 use Rattle.math.specs.Lists.{_∈_}
 use Rattle.math.specs.PartLaws.{each-nil, each-cons, part-middle, part-last}
 use Rattle.permutations.specs.Permutations.{Permutation, permutationsIn}
 use Rattle.certificate.specs.Bytes.{bytesOf, numberFrom, joined, numbersIn, fieldWidth, permutationWidth, pointWidth, numberWidth}
 use Rattle.certificate.specs.BytesLaws.{length-bytesOf, numberFrom-bytesOf, length-joined, entries-joined, entries-all, permutations-entries}
-use Rattle.certificate.specs.Certificate.{FileContents, contentsLength, fieldsOf, fromFields, layout, certificateLength, encode, Encodable, contentsOf, WellFormed, wellFormed, filePermutations, filePoints, fileNumbers}
+use Rattle.certificate.specs.Certificate.{FileContents, contentsLength, fieldsOf, fromFields, layout, certificateLength, encode, Encodable, contentsOf, WellFormed, fitting, wellFormed, filePermutations, filePoints, fileNumbers}
 
 -- ---- the test of a file
+
+-- what fitting contents say
+pub record Fitting (c : FileContents) (size : ℕ) : Type 0 where
+  pub permutationsFirst : c .permutationsAt ≡ contentsLength
+  pub pointsNext : c .pointsAt ≡ contentsLength + c .permutations * permutationWidth (c .variables)
+  pub numbersLast : c .numbersAt ≡ c .pointsAt + c .points * pointWidth
+  pub countsAgree : c .points ≡ c .numbers
+  pub lengthExact : size ≡ c .numbersAt + c .numbers * numberWidth
+
+module _ (c : FileContents) (size : ℕ) where
+  pub fitting-sound : fitting c size ≡ true → Fitting c size
+  unfolding fitting
+  fitting-sound h =
+      let e = and-split _ _ h in
+      let d = and-split _ _ (e .0) in
+      let b = and-split _ _ (d .0) in
+      let a = and-split _ _ (b .0) in
+      record {
+        permutationsFirst = eqb-true _ _ (a .0);
+        pointsNext = eqb-true _ _ (a .1);
+        numbersLast = eqb-true _ _ (b .1);
+        countsAgree = eqb-true _ _ (d .1);
+        lengthExact = eqb-true _ _ (e .1);
+      }
+
+  pub fitting-complete : Fitting c size → fitting c size ≡ true
+  unfolding fitting
+  fitting-complete w =
+      let b = and-join _ _ (eq-eqb _ _ (w .permutationsFirst)) (eq-eqb _ _ (w .pointsNext)) in
+      let d = and-join _ _ b (eq-eqb _ _ (w .numbersLast)) in
+      let e = and-join _ _ d (eq-eqb _ _ (w .countsAgree)) in
+      and-join _ _ e (eq-eqb _ _ (w .lengthExact))
+
+  pub not-fitting : (Fitting c size → ⊥) → fitting c size ≡ false
+  not-fitting h = not-true-false (fitting c size) (λ e. h (fitting-sound e))
 
 pub wellFormed-sound : (file : List ℕ) → wellFormed file ≡ true → WellFormed file
 unfolding wellFormed
 wellFormed-sound file h =
-    let e = and-split _ _ h in
-    let d = and-split _ _ (e .0) in
-    let c = and-split _ _ (d .0) in
-    let b = and-split _ _ (c .0) in
-    let a = and-split _ _ (b .0) in
+    let a = and-split _ _ h in
+    let w = fitting-sound (contentsOf file) (length file) (a .1) in
     record {
       long = leb-true _ _ (a .0);
-      permutationsFirst = eqb-true _ _ (a .1);
-      pointsNext = eqb-true _ _ (b .1);
-      numbersLast = eqb-true _ _ (c .1);
-      countsAgree = eqb-true _ _ (d .1);
-      lengthExact = eqb-true _ _ (e .1);
+      permutationsFirst = w .permutationsFirst;
+      pointsNext = w .pointsNext;
+      numbersLast = w .numbersLast;
+      countsAgree = w .countsAgree;
+      lengthExact = w .lengthExact;
     }
 
 pub wellFormed-complete : (file : List ℕ) → WellFormed file → wellFormed file ≡ true
 unfolding wellFormed
 wellFormed-complete file w =
-    let a = and-join _ _ (le-leb _ _ (w .long)) (eq-eqb _ _ (w .permutationsFirst)) in
-    let b = and-join _ _ a (eq-eqb _ _ (w .pointsNext)) in
-    let c = and-join _ _ b (eq-eqb _ _ (w .numbersLast)) in
-    let d = and-join _ _ c (eq-eqb _ _ (w .countsAgree)) in
-    and-join _ _ d (eq-eqb _ _ (w .lengthExact))
+    and-join _ _ (le-leb _ _ (w .long)) (fitting-complete (contentsOf file) (length file)
+    (record {
+      permutationsFirst = w .permutationsFirst;
+      pointsNext = w .pointsNext;
+      numbersLast = w .numbersLast;
+      countsAgree = w .countsAgree;
+      lengthExact = w .lengthExact;
+    }))
+
+-- a file shorter than its contents is none; of a longer one its contents and its length decide
+pub short-file : (file : List ℕ) → length file < contentsLength → wellFormed file ≡ false
+unfolding wellFormed
+short-file file h = ap (λ (b : Bool). b && fitting (contentsOf file) (length file)) (lt-leb contentsLength (length file) h)
+
+pub long-file : (file : List ℕ) → contentsLength ≤ length file → wellFormed file ≡ fitting (contentsOf file) (length file)
+unfolding wellFormed
+long-file file h = ap (λ (b : Bool). b && fitting (contentsOf file) (length file)) (le-leb contentsLength (length file) h)
 
 -- ---- what is put out: the contents and three bodies, joined
 

@@ -1,16 +1,22 @@
--- Laws of the body readers: where an entry lies, and that the entries of a well-formed file's bodies are its reading. Assumes nothing.
+-- Laws of the readers: where an entry lies, what is answered to a file, and that the entries of a well-formed file's bodies are its reading. Assumes nothing.
+use mathlib.Core.Bool.{Bool, true, false, cond}
 use mathlib.Core.List.{List}
 use mathlib.Core.Option.{some, none}
 use mathlib.Core.Path.{_≡_, sym, ap, _∙_}
 use Prim.Native.Nat.{ℕ, _+_, _*_, _/_, _≤_, _<_}
 use native.Mathlib.Nat.{mul-div-cancel, zero-lt-suc}
 use native.Mathlib.Omega.{arith}
-use lib.ListN.{length, getElem?, take, drop, length-drop}
-use lib.Seq.{length-take-le}
+use lib.ListN.{length, getD, getElem?, take, drop, length-take, length-drop}
+use lib.Seq.{length-take-le, getD-take, getD-drop}
+use Rattle.math.specs.PartLaws.{index-some, index-none}
 use Rattle.permutations.specs.Permutations.{Permutation}
+use Rattle.formula.specs.Reply.{sound, fault, opened, unless}
 use Rattle.certificate.specs.Bytes.{numberFrom, numbersIn, permutationWidth, pointWidth, numberWidth}
 use Rattle.certificate.specs.BytesLaws.{entries-at, entries-outside, permutations-entries}
-use Rattle.certificate.specs.Certificate.{contentsOf, WellFormed, permutationsBody, pointsBody, numbersBody, filePermutations, filePoints, fileNumbers, numberAt, imageAt}
+use Rattle.certificate.specs.Certificate.{contentsOf, WellFormed, wellFormed, permutationsBody, pointsBody, numbersBody, filePermutations, filePoints, fileNumbers, numberAt, imageAt}
+use Rattle.certificate.specs.Reader.{replyOf, contentsIn, handedOut, openedReply, openedContents, OpenedAs}
+use Rattle.certificate.specs.declared.Contents.{Contents}
+use Rattle.certificate.specs.declared.Opened.the-variants.{File, Refused}
 
 -- ---- where a number of a body lies
 
@@ -21,6 +27,43 @@ number-inside w body i h = entries-at numberFrom w (length body / w) body i h
 pub number-outside : (w : ℕ) (body : List ℕ) (i : ℕ) → length body / w ≤ i → numberAt w body i ≡ none
 unfolding numberAt
 number-outside w body i h = entries-outside numberFrom w (length body / w) body i h
+
+-- ---- where an image of a body lies
+
+module _ (n : ℕ) (body : List ℕ) (j i : ℕ) where
+  pub image-inside : i < n → j * n + i < length body → imageAt n body j i ≡ some (getD body (j * n + i) 0)
+  unfolding imageAt
+  image-inside h lt =
+      let here : i < length (take n (drop (j * n) body)) = omega (arith, length-take n (drop (j * n) body), length-drop (j * n) body) in
+      index-some (take n (drop (j * n) body)) i 0 here ∙ ap some (getD-take n (drop (j * n) body) i 0 h ∙ getD-drop (j * n) body i 0)
+
+  outside : length (take n (drop (j * n) body)) ≤ i → imageAt n body j i ≡ none
+  unfolding imageAt
+  outside le = index-none (take n (drop (j * n) body)) i le
+
+  pub image-of-none : n ≤ i → imageAt n body j i ≡ none
+  image-of-none h = outside (omega (arith, length-take n (drop (j * n) body)))
+
+  pub image-behind : length body ≤ j * n + i → imageAt n body j i ≡ none
+  image-behind h = outside (omega (arith, length-take n (drop (j * n) body), length-drop (j * n) body))
+
+-- ---- the reply
+
+pub opens : (file : List ℕ) (c : Contents) → wellFormed file ≡ true → contentsIn c ≡ contentsOf file → OpenedAs file (File c)
+unfolding openedReply openedContents handedOut replyOf
+opens file c h e =
+    record {
+      reply = ap (λ (b : Bool). unless (cond b sound (fault 14 (length file))) opened) (sym h);
+      contents = ap some e ∙ ap (λ (b : Bool). cond b (some (contentsOf file)) none) (sym h);
+    }
+
+pub refuses : (file : List ℕ) → wellFormed file ≡ false → OpenedAs file (Refused 14 (length file))
+unfolding openedReply openedContents handedOut replyOf
+refuses file h =
+    record {
+      reply = ap (λ (b : Bool). unless (cond b sound (fault 14 (length file))) opened) (sym h);
+      contents = ap (λ (b : Bool). cond b (some (contentsOf file)) none) (sym h);
+    }
 
 -- ---- the bodies of a well-formed file
 

@@ -1,4 +1,12 @@
-// The certificate (01: 'Certificate'): what its writer, its reader and the readers of its three bodies answer.
+// The certificate (01: 'Certificate'): what its writer, its reader and the readers of its three bodies answer, and the reader itself.
+use crate::bodies::field;
+ghost use mathlib.Core.Path.{_≡_};
+ghost use Prim.Native.Nat.{_≤_};
+ghost use lib.ListN.{length};
+ghost use Rattle.certificate.specs.Certificate.{contentsOf, fitting};
+ghost use Rattle.certificate.specs.Reader.{contentsIn, OpenedAs};
+
+pub mod bodies;
 
 // The writer: the certificate's length in bytes, or a refusal.
 pub enum Written {
@@ -28,4 +36,81 @@ pub enum Opened {
 pub enum Entry {
     Value(u64),
     Outside,
+}
+
+// How many bytes the contents take.
+pub const CONTENTS: usize = 32;
+
+// The contents that stand in a file's first 32 bytes; `read` sees to it that there are so many.
+fn contents_from(file: &[u8]) -> Contents
+    requires { ⌜ 32 ≤ length (now file) ⌝ }
+    ensures { λ r. ⌜ contentsIn r ≡ contentsOf (now (file .entry)) ⌝ }
+{
+    Contents {
+        variables: field(file, 0),
+        clauses: field(file, 1),
+        permutations: field(file, 2),
+        permutations_at: field(file, 3),
+        points: field(file, 4),
+        points_at: field(file, 5),
+        numbers: field(file, 6),
+        numbers_at: field(file, 7),
+    }
+}
+
+// C4: whether the contents fit a file of `size` bytes, which `read` found to be 32 at least. Each body is compared with what is left of the
+// file behind the one before it, so that no sum leaves the file and none wraps.
+fn in_order(c: Contents, size: usize) -> bool
+    requires { ⌜ 32 ≤ size ⌝ }
+    ensures { λ r. ⌜ r ≡ fitting (contentsIn c) size ⌝ }
+{
+    let first = c.permutations_at as usize;
+    let second = c.points_at as usize;
+    let third = c.numbers_at as usize;
+    if first != CONTENTS {
+        return false;
+    }
+    if c.points != c.numbers {
+        return false;
+    }
+    let left = size - CONTENTS;
+    let images = (c.permutations as usize) * (c.variables as usize);
+    if left < images {
+        return false;
+    }
+    if second != CONTENTS + images {
+        return false;
+    }
+    let behind = left - images;
+    let points = (c.points as usize) * 8;
+    if behind < points {
+        return false;
+    }
+    if third != second + points {
+        return false;
+    }
+    let numbers = (c.numbers as usize) * 4;
+    behind - points == numbers
+}
+
+// D2.4: reads a file's contents without checking what its bodies hold; refusal 14 has the file's length as its place.
+pub fn read(file: &[u8]) -> Opened
+    ensures { λ r. ⌜ OpenedAs (now (file .entry)) r ⌝ }
+{
+    let size = file.len();
+    if size < CONTENTS {
+        return Opened::Refused {
+            code: 14,
+            place: size,
+        };
+    }
+    let c = contents_from(file);
+    if in_order(c, size) {
+        Opened::File(c)
+    } else {
+        Opened::Refused {
+            code: 14,
+            place: size,
+        }
+    }
 }

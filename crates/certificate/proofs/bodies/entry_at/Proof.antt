@@ -1,0 +1,37 @@
+-- `certificate::bodies::entry_at` meets its contract: the body holds as many numbers as its width goes into its length. Assumes nothing.
+use mathlib.Core.Path.{sym, ap, _∙_}
+use mathlib.Core.Option.{some}
+use Prim.Native.Nat.{suc, _*_, _≤_}
+use native.Mathlib.Nat.{le-div-iff-mul-le, suc-mul}
+use native.Mathlib.Omega.{arith}
+use lib.ListN.{length}
+use borrow.Author.Needs.{needs}
+use Rattle.certificate.specs.Reader.{valueOf}
+use Rattle.certificate.specs.ReaderLaws.{number-inside, number-outside}
+use Rattle.certificate.proofs.bodies.entry_at.Statement.{statement}
+use Rattle.certificate.proofs.bodies.entry_at.Tie as tie
+
+div-held : tie.Need-div-held
+div-held c = search needs
+
+entry-requires : tie.Need-entry-requires
+entry-requires c κs =
+    let start = c .before .before in
+    let a = start .args in
+    let whole : suc (a .i) * a .width ≤ length (a .body .now) = le-div-iff-mul-le {k = a .width} (start .pre .0) .0 (c .if1 .taken) in
+    (start .pre .1, omega (arith, whole, suc-mul (a .i) (a .width)))
+
+returns : tie.Need-returns
+unfolding valueOf
+returns c =
+    let a = c .before .before .before .args in
+    ap some (c .entry .ensures .0) ∙ sym (number-inside (a .width) (a .body .now) (a .i) (c .before .if1 .taken))
+
+returns-2 : tie.Need-returns-2
+unfolding valueOf
+returns-2 c =
+    let a = c .before .before .args in
+    sym (number-outside (a .width) (a .body .now) (a .i) (c .if1 .left))
+
+pub entry-at-spec : {M : Type 1} → statement M
+entry-at-spec = tie.close (tie.spec div-held entry-requires returns returns-2)

@@ -1,0 +1,119 @@
+// Numbers in bytes: the fields of the contents and, F4, one function for each body, which takes that part of the file.
+use crate::Entry;
+use points::Point;
+use slices::put_point;
+ghost use mathlib.Core.Path.{_≡_};
+ghost use Prim.Native.Nat.{_+_, _*_, _^_, _≤_, _<_};
+ghost use lib.ListN.{length, getD, take, drop};
+ghost use Rattle.math.specs.Lists.{over};
+ghost use Rattle.slices.specs.Slices.{pointsOf};
+ghost use Rattle.certificate.specs.Bytes.{numberFrom, numbersIn, pointWidth, numberWidth, fieldWidth};
+ghost use Rattle.certificate.specs.Certificate.{numberAt};
+ghost use Rattle.certificate.specs.Reader.{valueOf, ImageRead, PointRead, NumberRead};
+
+// The number that at most eight bytes stand for, low byte first. One step a byte. Its callers hand in parts of 4 or 8 bytes.
+fn number_from(bytes: &[u8]) -> u64
+    requires { ⌜ length (now bytes) ≤ 8 ⌝ }
+    ensures { λ r. ⌜ (r ≡ numberFrom (now (bytes .entry))) × (r < 256 ^ length (now (bytes .entry))) ⌝ }
+{
+    let mut r: u64 = 0;
+    let mut i = bytes.len();
+    while 0 < i {
+        i -= 1;
+        let byte = bytes[i] as u64;
+        let higher = r * 256;
+        r = higher + byte;
+    }
+    r
+}
+
+// The number of index i of those that stand in the bytes, `width` bytes each. Its callers see to it that it lies there whole.
+fn entry(bytes: &[u8], width: usize, i: usize) -> u64
+    requires { ⌜ (width ≤ 8) × (i * width + width ≤ length (now bytes)) ⌝ }
+    ensures { λ r. ⌜ (r ≡ numberFrom (take width (drop (i * width) (now (bytes .entry))))) × (r < 256 ^ width) ⌝ }
+{
+    let start = i * width;
+    let end = start + width;
+    number_from(&bytes[start..end])
+}
+
+// C1: the 32-bit number of index i of the contents; `read` sees to it that all eight are there.
+pub fn field(file: &[u8], i: usize) -> u32
+    requires { ⌜ (i < 8) × (32 ≤ length (now file)) ⌝ }
+    ensures { λ r. ⌜ r ≡ getD (numbersIn fieldWidth 8 (now (file .entry))) i 0 ⌝ }
+{
+    let x = entry(file, 4, i);
+    x as u32
+}
+
+// The number of index i of those that a body holds whole, 1 to 8 bytes each.
+fn entry_at(body: &[u8], width: usize, i: usize) -> Entry
+    requires { ⌜ (1 ≤ width) × (width ≤ 8) ⌝ }
+    ensures { λ r. ⌜ valueOf r ≡ numberAt width (now (body .entry)) i ⌝ }
+{
+    let held = body.len() / width;
+    if i < held {
+        let x = entry(body, width, i);
+        Entry::Value(x)
+    } else {
+        Entry::Outside
+    }
+}
+
+// F4: the point of index i of the body of points.
+pub fn point_at(body: &[u8], i: usize) -> Entry
+    ensures { λ r. ⌜ PointRead (now (body .entry)) i r ⌝ }
+{
+    entry_at(body, 8, i)
+}
+
+// F4: the clause number of index i of the body of clause numbers.
+pub fn number_at(body: &[u8], i: usize) -> Entry
+    ensures { λ r. ⌜ NumberRead (now (body .entry)) i r ⌝ }
+{
+    entry_at(body, 4, i)
+}
+
+// F4: where the permutation of index j of the body of permutations sends variable i + 1.
+pub fn image_at(body: &[u8], n: usize, j: usize, i: usize) -> Entry
+    ensures { λ r. ⌜ ImageRead n (now (body .entry)) j i r ⌝ }
+{
+    if n <= i {
+        return Entry::Outside;
+    }
+    if body.len() <= i {
+        return Entry::Outside;
+    }
+    let last = body.len() - i - 1;
+    if last / n < j {
+        return Entry::Outside;
+    }
+    let at = j * n + i;
+    Entry::Value(body[at] as u64)
+}
+
+// Copies the first `count` points of a body into a slice of points. Eight steps a point. Its callers see to the room.
+pub fn points_into(to: &mut [u64], body: &[u8], count: usize)
+    requires { ⌜ (count ≤ length (pointsOf (now to))) × (count * pointWidth ≤ length (now body)) ⌝ }
+    ensures { λ _. ⌜ pointsOf (now (to .exit)) ≡ over (numbersIn pointWidth count (now (body .entry))) (pointsOf (now (to .entry))) ⌝ }
+{
+    let mut i = 0;
+    while i < count {
+        let x = entry(body, 8, i);
+        put_point(to, i, x);
+        i += 1;
+    }
+}
+
+// Copies the first `count` clause numbers of a body into a slice. Four steps a number. Its callers see to the room.
+pub fn numbers_into(to: &mut [u32], body: &[u8], count: usize)
+    requires { ⌜ (count ≤ length (now to)) × (count * numberWidth ≤ length (now body)) ⌝ }
+    ensures { λ _. ⌜ now (to .exit) ≡ over (numbersIn numberWidth count (now (body .entry))) (now (to .entry)) ⌝ }
+{
+    let mut i = 0;
+    while i < count {
+        let x = entry(body, 4, i);
+        to[i] = x as u32;
+        i += 1;
+    }
+}
