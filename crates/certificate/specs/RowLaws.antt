@@ -6,15 +6,16 @@ use mathlib.Core.Path.{_≡_, refl, sym, ap, ap₂, _∙_, subst}
 use Prim.Native.Nat.{ℕ, suc, _+_, _^_, _≤_, _<_}
 use native.Mathlib.Nat.{le-refl, le-trans, le-step}
 use native.Mathlib.Omega.{arith}
-use lib.Dec.{ltb, eqb}
+use lib.Dec.{leb, ltb, eqb}
 use lib.ListN.{length, getD, take}
 use lib.Seq.{getD-take, take-take}
 use borrow.Author.Tests.{ltb-true, lt-ltb, eqb-true, eqb-false, not-true}
 use Rattle.math.specs.ListLaws.{and-split, and-join, here, has-in, in-has, not-true-false, getD-in, in-getD}
 use Rattle.math.specs.Lists.{_∈_, has, Distinct}
-use Rattle.math.specs.PartLaws.{distinct-by-index, distinct-earlier}
+use Rattle.math.specs.PartLaws.{distinct-by-index, distinct-earlier, same-failing-below}
 use Rattle.points.specs.Points.{Clause, Numbered, satisfies, numberedFrom}
-use Rattle.certificate.specs.Rows.{pointPasses, clauseNumbered, falsifies, numberPasses}
+use Rattle.formula.specs.Reply.{fault, faultAt}
+use Rattle.certificate.specs.Rows.{pointPasses, pointsFault, clauseNumbered, falsifies, numberPasses, numbersFault}
 
 not-of-false : (b : Bool) → b ≡ false → not b ≡ true
 not-of-false b e = rw e
@@ -50,6 +51,12 @@ module _ (n : ℕ) (points : List ℕ) where
   unfolding pointPasses
   point-passes-take count i lt =
       ap₂ (λ (x : ℕ) (l : List ℕ). ltb x (2 ^ n) && not (has x l)) (getD-take count points i 0 lt) (take-take i count points (le-trans (le-step (le-refl i)) lt))
+
+  -- so the row looks at the first `count` points alone
+  pub points-fault-take : (limit count : ℕ) → pointsFault limit n count (take count points) ≡ pointsFault limit n count points
+  unfolding pointsFault
+  points-fault-take limit count =
+      ap (λ (k : ℕ). cond (leb 1 count && leb count limit) (faultAt 16 k) (fault 16 0)) (same-failing-below (pointPasses n (take count points)) (pointPasses n points) count (point-passes-take count))
 
 -- ---- the clause of a number
 
@@ -119,3 +126,10 @@ module _ (cs : List Numbered) (points numbers : List ℕ) where
       → numberPasses cs points numbers i ≡ true
   unfolding numberPasses
   number-passes i c e f = ap (λ o. falsifies o (getD points i 0)) e ∙ not-of-false (satisfies c (getD points i 0)) f
+
+  -- the row looks at the first `count` points and numbers alone
+  pub numbers-fault-take : (count : ℕ) → numbersFault cs count (take count points) (take count numbers) ≡ numbersFault cs count points numbers
+  unfolding numbersFault numberPasses
+  numbers-fault-take count =
+      ap (faultAt 17) (same-failing-below (numberPasses cs (take count points) (take count numbers)) (numberPasses cs points numbers) count (λ i lt.
+      ap₂ (λ (k x : ℕ). falsifies (clauseNumbered cs k) x) (getD-take count numbers i 0 lt) (getD-take count points i 0 lt)))

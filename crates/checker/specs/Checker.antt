@@ -1,22 +1,19 @@
 -- Document 01, 'Checker': the checker's reply, with its refusals in their order. Assumes nothing.
 use mathlib.Core.Bool.{Bool, cond, _&&_}
-use mathlib.Core.List.{List, [], _∷_, map}
-use mathlib.Core.Option.{Option, some, none}
+use mathlib.Core.List.{List, [], _∷_}
 use mathlib.Core.Path.{_≡_}
 use Prim.Native.Nat.{ℕ}
 use lib.Dec.{eqb}
-use lib.ListN.{length, getD}
-use Rattle.math.specs.Bits.{bit, flip}
-use Rattle.math.specs.Lists.{all, firstFailing, range, below}
-use Rattle.points.specs.Points.{Clause, Numbered, variables}
-use Rattle.permutations.specs.Permutations.{Permutation, covered}
+use lib.ListN.{length}
+use Rattle.points.specs.Points.{variables}
 use Rattle.formula.specs.declared.Formula.{Formula}
 use Rattle.formula.specs.Limits.{maxSlots}
 use Rattle.formula.specs.Problem.{Problem, problemOf}
 use Rattle.formula.specs.Refusals.{clausesFault, permutationFault, symmetryFault}
-use Rattle.formula.specs.Reply.{Reply, refused, accepted, Fault, sound, fault, faultAt, first, unless}
+use Rattle.formula.specs.Reply.{Reply, refused, accepted, Fault, sound, fault, first, unless}
 use Rattle.certificate.specs.Certificate.{contentsOf, WellFormed, filePermutations, filePoints, fileNumbers}
-use Rattle.certificate.specs.Rows.{fileFault, pointsFault, clauseNumbered, numbersFault}
+use Rattle.certificate.specs.Rows.{fileFault, pointsFault, numbersFault}
+use Rattle.flips.specs.Flips.{flipsFault}
 use Rattle.stable.specs.Stable.{Stable}
 use Rattle.checker.specs.declared.Verdict.{Verdict}
 use Rattle.checker.specs.declared.Verdict.the-variants.{Accepted, Refused}
@@ -35,24 +32,6 @@ sameSizes pb file = let c = contentsOf file in eqb (c .variables) (pb .variables
 unfoldable pub sizesFault : Problem → List ℕ → Fault
 unfolding sameSizes
 sizesFault pb file = cond (sameSizes pb file) sound (fault 15 0)
-
--- "each point got by flipping a name of that rule": the flips of a point, of which there are none without a clause
-unfoldable pub flipsOf : ℕ → Option Clause → ℕ → List ℕ
-unfolding variables bit flip
-flipsOf n none x = []
-flipsOf n (some c) x = map (flip x) (variables n c)
-
--- the point of index i passes if all its flips are covered
-unfoldable pub flipsPass : ℕ → List Numbered → List Permutation → List ℕ → List ℕ → ℕ → Bool
-unfolding all covered flipsOf clauseNumbered
-flipsPass n clauses permutations points numbers i =
-    all (covered permutations points) (flipsOf n (clauseNumbered clauses (getD numbers i 0)) (getD points i 0))
-
--- R18: "a flip uncovered | 18 | point's number"
-unfoldable pub flipsFault : ℕ → List Numbered → List Permutation → List ℕ → List ℕ → Fault
-unfolding firstFailing range flipsPass faultAt
-flipsFault n clauses permutations points numbers =
-    faultAt 18 (firstFailing (flipsPass n clauses permutations points numbers) (below (length points)))
 
 -- N6: "Checker: 10 (no wish), 14, 15, 11, 12, 16, 17, 18; 14 measures the bodies by the n in the contents."
 -- K2: "It uses the certificate's exchanges, not the sheet's."

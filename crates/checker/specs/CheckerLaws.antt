@@ -27,7 +27,8 @@ use Rattle.certificate.specs.CertificateLaws.{wellFormed-sound, wellFormed-comp
 use Rattle.formula.specs.ReplyLaws.{first-none, first-split, first-join, tested, test-passed, each-passed, passes-each, below-passed, passes-below, not-refused, accepted-not-refused, unless-sound}
 use Rattle.certificate.specs.RowLaws.{points-passed, points-pass, clause-found, OwnNumbers, clause-of, numbered-own, number-passed, number-passes}
 use Rattle.certificate.specs.Rows.{fileFault, pointPasses, pointsFault, clauseNumbered, numberPasses, numbersFault}
-use Rattle.checker.specs.Checker.{sameSizes, sizesFault, flipsOf, flipsPass, flipsFault, checkFault, checkReply, Accepts}
+use Rattle.flips.specs.Flips.{flipsOf, flipsPass, flipsFault}
+use Rattle.checker.specs.Checker.{sameSizes, sizesFault, checkFault, checkReply, Accepts}
 use Rattle.stable.specs.Stable.{Transported, Stable}
 
 -- ---- the rows 11, 12, 16, 17 and 18, which look at lists alone

@@ -1,37 +1,21 @@
 -- Laws of the loop over the variables of a set: it begins, goes on with the next variable, stops where there is no room, and ends; each
 -- turn leaves one variable less. Assumes nothing.
-use mathlib.Core.Bool.{Bool, true, false, true≢false}
+use mathlib.Core.Bool.{Bool, true, false}
 use mathlib.Core.List.{List, [], _∷_}
 use mathlib.Core.Path.{_≡_, sym, ap, _∙_, subst}
 use Prim.Native.Nat.{ℕ, suc, _≤_, _<_, _^_}
-use native.Mathlib.Decide.{ℕ-discrete}
 use native.Mathlib.Nat.{le-of-eq}
-use native.Mathlib.Omega.{arith}
 use lib.ListN.{length}
-use Rattle.math.specs.BitLaws.{bit-above, flip-lt}
-use Rattle.math.specs.Bits.{flip, members, Lowest}
-use Rattle.math.specs.SetLaws.{members-next, members-none}
+use Rattle.math.specs.BitLaws.{flip-lt}
+use Rattle.math.specs.Bits.{flip, members}
+use Rattle.math.specs.SetLaws.{members-next}
 use Rattle.points.specs.Contracts.{NextVariable}
+use Rattle.points.specs.NextLaws.{next-lowest, next-none}
 use Rattle.permutations.specs.Permutations.{Permutation}
 use Rattle.formula.specs.Limits.{maxVariables}
 use Rattle.expansion.specs.Filling.{Advances, Tries, Trying}
 use Rattle.expansion.specs.FillingLaws.{lengths-refl, lengths-trans, advances-begins, advances-on, advances-stuck}
 use Rattle.expansion.specs.Memory.{Memory, SameLengths}
-
--- ---- the next variable of a set of n
-
-module _ (n left v : ℕ) (few : n ≤ maxVariables) (next : NextVariable left v) where
-  -- one below n is the lowest
-  pub next-lowest : v < n → Lowest left v
-  next-lowest lt = next .lowest (λ e. let z : v ≡ 64 = next .empty e in omega arith)
-
-  -- and where there is none below n, there is none
-  pub next-none : left < 2 ^ n → n ≤ v → members n left ≡ []
-  next-none within ge = by (ℕ-discrete left 0)
-    where
-      by : Dec (left ≡ 0) → members n left ≡ []
-      by (yes e) = ap (members n) e ∙ members-none n
-      by (no ne) = absurd (true≢false (sym (next .lowest ne .member) ∙ bit-above n left v within ge))
 
 module _ (es : List Permutation) (capacity x d n listed k₀ : ℕ) (m₀ : Memory) (few : n ≤ maxVariables) where
   pub trying-begins : (v : ℕ) → listed < 2 ^ n → NextVariable listed v → Trying es capacity x d n listed k₀ m₀ listed v k₀ m₀

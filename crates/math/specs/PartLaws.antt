@@ -3,7 +3,7 @@
 use mathlib.Core.Bool.{Bool, true, false, cond}
 use mathlib.Core.List.{List, [], _∷_, _++_, append-assoc, append-nil, List·Memᴰ·head, List·Memᴰ·tail, List·Memᴰ·not-nil}
 use mathlib.Core.Option.{some, none}
-use mathlib.Core.Path.{_≡_, refl, sym, ap, _∙_, subst}
+use mathlib.Core.Path.{_≡_, refl, sym, ap, ap₂, _∙_, subst}
 use Prim.Native.Nat.{ℕ, zero, suc, _+_, _≤_, _<_, suc-le-suc, zero-le}
 use native.Mathlib.Nat.{not-suc-le-zero, le-of-suc-le-suc, zero-add}
 use native.Mathlib.Decide.{ℕ-discrete}
@@ -144,3 +144,12 @@ none-failing-below t k h i lt = none-failing t (below k) h i (range-in 0 k i zer
 
 pub all-passing-below : (t : ℕ → Bool) (k : ℕ) → ((i : ℕ) → i < k → t i ≡ true) → firstFailing t (below k) ≡ 0
 all-passing-below t k h = all-passing t (below k) (λ i m. h i (rw zero-add at (range-out 0 k i m .1)))
+
+-- tests that agree on every index below k fail first at the same
+pub same-failing-below : (t u : ℕ → Bool) (k : ℕ) → ((i : ℕ) → i < k → t i ≡ u i) → firstFailing t (below k) ≡ firstFailing u (below k)
+unfolding firstFailing
+same-failing-below t u k h = same (below k) (λ i m. h i (rw zero-add at (range-out 0 k i m .1)))
+  where
+    same : (xs : List ℕ) → ((i : ℕ) → i ∈ xs → t i ≡ u i) → firstFailing t xs ≡ firstFailing u xs
+    same [] g = refl
+    same (x ∷ xs) g = ap₂ failingAt (g x (here x xs)) (same xs (λ i m. g i (List·Memᴰ·tail m)))

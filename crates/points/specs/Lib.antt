@@ -2,3 +2,4 @@
 pub mod Points
 pub mod Contracts
 pub mod PointLaws
+pub mod NextLaws

@@ -1,0 +1,38 @@
+-- What the functions on flips cite beside the definition of row 18. Assumes nothing.
+use mathlib.Core.Bool.{Bool}
+use mathlib.Core.List.{List, map}
+use mathlib.Core.Option.{Option, some, none}
+use mathlib.Core.Path.{_≡_}
+use Prim.Native.Nat.{ℕ, _≤_, _<_, _^_}
+use lib.ListN.{length}
+use Rattle.math.specs.Bits.{flip, members}
+use Rattle.math.specs.Lists.{all}
+use Rattle.points.specs.Contracts.{NextVariable}
+use Rattle.points.specs.Points.{Clause, listed, numbered}
+use Rattle.slices.specs.Slices.{pointsOf, clausesOf}
+use Rattle.theory.specs.Notions.{ClausesBelow}
+use Rattle.images.specs.Contracts.{Listed}
+use Rattle.formula.specs.Limits.{maxVariables}
+
+-- the variables that a clause lists, as a set; none without a clause
+unfoldable pub listedBy : Option Clause → ℕ
+listedBy none = 0
+listedBy (some c) = listed c
+
+-- whether every flip of x by a variable of the set passes a test
+abbrev pub allFlips : (ℕ → Bool) → ℕ → ℕ → ℕ → Bool
+allFlips t n x s = all t (map (flip x) (members n s))
+
+-- what lets flips be looked up: the images hold `count` permutations of n variables, no clause lists a variable at n or above, and there are
+-- as many points as are to be tested
+pub record Testable (n count : ℕ) (images positive negative : List ℕ) (tested : ℕ) (points : List ℕ) : Type 0 where
+  pub few : n ≤ maxVariables
+  pub listed : Listed n count images
+  pub below : ClausesBelow n (numbered (clausesOf positive negative))
+  pub enough : tested ≤ length (pointsOf points)
+
+-- the loop over the variables of the set s: those of `left` are still to be tested, v the lowest of them, and they decide
+pub record Flipping (t : ℕ → Bool) (n x s left v : ℕ) : Type 0 where
+  pub within : left < 2 ^ n
+  pub next : NextVariable left v
+  pub decides : allFlips t n x s ≡ allFlips t n x left

@@ -1,0 +1,156 @@
+// Refusal 18: whether each flip of a point by a variable of its clause is covered by the points, modulo the listed permutations.
+use formula::Checked;
+use points::Point;
+use slices::clause_at;
+use slices::clause_count;
+use slices::point_at;
+use symmetry::cover::covered;
+use transport::number_at;
+ghost use mathlib.Core.Path.{_≡_};
+ghost use Prim.Native.Nat.{_≤_, _<_, _^_};
+ghost use lib.ListN.{take};
+ghost use Rattle.math.specs.Lists.{firstFailing, below};
+ghost use Rattle.points.specs.Points.{numbered};
+ghost use Rattle.slices.specs.Slices.{pointsOf, clausesOf};
+ghost use Rattle.images.specs.Contracts.{Listed};
+ghost use Rattle.permutations.specs.Permutations.{covered, permutationsIn};
+ghost use Rattle.formula.specs.Refusals.{faultOf};
+ghost use Rattle.certificate.specs.Rows.{clauseNumbered};
+ghost use Rattle.flips.specs.Flips.{flipsPass, flipsFault};
+ghost use Rattle.flips.specs.Loops.{listedBy, allFlips, Testable};
+
+// The set of the variables that the clause with the number k lists; the empty set where no clause has it.
+fn variables_of(positive: &[u64], negative: &[u64], k: u32) -> Point
+    ensures { λ r. ⌜ r ≡ listedBy (clauseNumbered (numbered (clausesOf (now (positive .entry)) (now (negative .entry)))) k) ⌝ }
+{
+    if k < 1 {
+        return 0;
+    }
+    let place = k as usize - 1;
+    let end = clause_count(positive, negative);
+    if end <= place {
+        return 0;
+    }
+    let c = clause_at(positive, negative, place);
+    points::listed(c)
+}
+
+// Whether each flip of x by a variable of the set is covered by the first `count` points, variables lowest first. At most n look-ups, each
+// of at most (permutations + 1) · count comparisons, and n steps for each image. `flips_pass` sees to what it requires.
+fn flips_covered(
+    points: &[u64],
+    count: usize,
+    images: &[u8],
+    n: u32,
+    permutations: u32,
+    x: Point,
+    listed: Point,
+) -> bool
+    requires { ⌜ (n ≤ 64) × Listed n permutations (now images) × (listed < 2 ^ n) ⌝ }
+    ensures { λ r. ⌜ r ≡ allFlips (covered (permutationsIn n permutations (now (images .entry))) (take count (pointsOf (now (points .entry))))) n x listed ⌝ }
+{
+    let size = n as usize;
+    let group = permutations as usize;
+    let mut left = listed;
+    let mut v = points::next_variable(left);
+    while v < n {
+        let y = points::flip(x, v);
+        let known = covered(points, count, images, size, group, y);
+        if !known {
+            return false;
+        }
+        left = points::flip(left, v);
+        v = points::next_variable(left);
+    }
+    true
+}
+
+// Whether the flips of the point at index i, by the clause that the number there names, are covered.
+fn flips_pass(
+    positive: &[u64],
+    negative: &[u64],
+    points: &[u64],
+    numbers: &[u32],
+    count: usize,
+    images: &[u8],
+    n: u32,
+    permutations: u32,
+    i: usize,
+) -> bool
+    requires { ⌜ Testable n permutations (now images) (now positive) (now negative) count (now points) × (i < count) ⌝ }
+    ensures { λ r. ⌜ r ≡ flipsPass n (numbered (clausesOf (now (positive .entry)) (now (negative .entry)))) (permutationsIn n permutations (now (images .entry)))
+        (take count (pointsOf (now (points .entry)))) (now (numbers .entry)) i ⌝ }
+{
+    let k = number_at(numbers, i);
+    let x = point_at(points, i);
+    let listed = variables_of(positive, negative, k);
+    flips_covered(points, count, images, n, permutations, x, listed)
+}
+
+// The number, from 1, of the first of `count` points with a flip that is not covered; 0 if there is none.
+fn first_uncovered(
+    positive: &[u64],
+    negative: &[u64],
+    points: &[u64],
+    numbers: &[u32],
+    count: usize,
+    images: &[u8],
+    n: u32,
+    permutations: u32,
+) -> usize
+    requires { ⌜ Testable n permutations (now images) (now positive) (now negative) count (now points) ⌝ }
+    ensures { λ r. ⌜ r ≡ firstFailing (flipsPass n (numbered (clausesOf (now (positive .entry)) (now (negative .entry)))) (permutationsIn n permutations (now (images .entry)))
+        (take count (pointsOf (now (points .entry)))) (now (numbers .entry))) (below count) ⌝ }
+{
+    let mut i = 0;
+    while i < count {
+        let fine = flips_pass(
+            positive,
+            negative,
+            points,
+            numbers,
+            count,
+            images,
+            n,
+            permutations,
+            i,
+        );
+        if !fine {
+            return i + 1;
+        }
+        i += 1;
+    }
+    0
+}
+
+// Refusal 18, of the first `count` points and numbers: at most count · n look-ups. Refusals 10, 11 and 16 see to what it requires.
+pub fn flips_refusal(
+    positive: &[u64],
+    negative: &[u64],
+    points: &[u64],
+    numbers: &[u32],
+    count: usize,
+    images: &[u8],
+    n: u32,
+    permutations: u32,
+) -> Checked
+    requires { ⌜ Testable n permutations (now images) (now positive) (now negative) count (now points) ⌝ }
+    ensures { λ r. ⌜ faultOf r ≡ flipsFault n (numbered (clausesOf (now (positive .entry)) (now (negative .entry)))) (permutationsIn n permutations (now (images .entry)))
+        (take count (pointsOf (now (points .entry)))) (now (numbers .entry)) ⌝ }
+{
+    let k = first_uncovered(
+        positive,
+        negative,
+        points,
+        numbers,
+        count,
+        images,
+        n,
+        permutations,
+    );
+    if k == 0 {
+        Checked::Passed
+    } else {
+        Checked::Refused { code: 18, place: k }
+    }
+}
