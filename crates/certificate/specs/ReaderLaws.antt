@@ -3,7 +3,7 @@ use mathlib.Core.Bool.{Bool, true, false, cond}
 use mathlib.Core.List.{List}
 use mathlib.Core.Option.{some, none}
 use mathlib.Core.Path.{_≡_, sym, ap, _∙_}
-use Prim.Native.Nat.{ℕ, _+_, _*_, _/_, _≤_, _<_}
+use Prim.Native.Nat.{ℕ, _+_, _-_, _*_, _/_, _≤_, _<_}
 use native.Mathlib.Nat.{mul-div-cancel, zero-lt-suc}
 use native.Mathlib.Omega.{arith}
 use lib.ListN.{length, getD, getElem?, take, drop, length-take, length-drop}
@@ -85,6 +85,26 @@ module _ (file : List ℕ) (formed : WellFormed file) where
   pub length-numbersBody : length (numbersBody file) ≡ contentsOf file .numbers * numberWidth
   unfolding numbersBody
   length-numbersBody = length-part (contentsOf file .numbersAt) (contentsOf file .numbers * numberWidth) file (omega (arith, formed .lengthExact))
+
+  -- C8: "Each body is handed on as its own part of the file.": from its offset to the next, the last to the file's end
+  pub permutations-part : take (contentsOf file .pointsAt - contentsOf file .permutationsAt) (drop (contentsOf file .permutationsAt) file) ≡ permutationsBody file
+  unfolding permutationsBody
+  permutations-part =
+      let size : contentsOf file .pointsAt - contentsOf file .permutationsAt ≡ contentsOf file .permutations * permutationWidth (contentsOf file .variables) =
+      omega (arith, formed .permutationsFirst, formed .pointsNext) in
+      ap (λ (k : ℕ). take k (drop (contentsOf file .permutationsAt) file)) size
+
+  pub points-part : take (contentsOf file .numbersAt - contentsOf file .pointsAt) (drop (contentsOf file .pointsAt) file) ≡ pointsBody file
+  unfolding pointsBody
+  points-part =
+      let size : contentsOf file .numbersAt - contentsOf file .pointsAt ≡ contentsOf file .points * pointWidth = omega (arith, formed .numbersLast) in
+      ap (λ (k : ℕ). take k (drop (contentsOf file .pointsAt) file)) size
+
+  pub numbers-part : take (length file - contentsOf file .numbersAt) (drop (contentsOf file .numbersAt) file) ≡ numbersBody file
+  unfolding numbersBody
+  numbers-part =
+      let size : length file - contentsOf file .numbersAt ≡ contentsOf file .numbers * numberWidth = omega (arith, formed .lengthExact) in
+      ap (λ (k : ℕ). take k (drop (contentsOf file .numbersAt) file)) size
 
   -- C5: "The reading of such a file is its lists of exchanges, points and rule numbers": entry by entry
   pub points-read : (i : ℕ) → numberAt pointWidth (pointsBody file) i ≡ getElem? (filePoints file) i

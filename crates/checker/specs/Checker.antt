@@ -8,7 +8,7 @@ use lib.ListN.{length}
 use Rattle.points.specs.Points.{variables}
 use Rattle.formula.specs.declared.Formula.{Formula}
 use Rattle.formula.specs.Limits.{maxSlots}
-use Rattle.formula.specs.Problem.{Problem, problemOf}
+use Rattle.formula.specs.Problem.{problemOf}
 use Rattle.formula.specs.Refusals.{clausesFault, permutationFault, symmetryFault}
 use Rattle.formula.specs.Reply.{Reply, refused, accepted, Fault, sound, fault, first, unless}
 use Rattle.certificate.specs.Certificate.{contentsOf, WellFormed, filePermutations, filePoints, fileNumbers}
@@ -23,15 +23,15 @@ unfoldable pub replyOf : Verdict → Reply
 replyOf Accepted = accepted
 replyOf (Refused code place) = refused code place
 
--- the file's n and m are those of the problem
-unfoldable pub sameSizes : Problem → List ℕ → Bool
+-- n and m are those in the file's contents
+unfoldable pub sameSizes : ℕ → ℕ → List ℕ → Bool
 unfolding contentsOf
-sameSizes pb file = let c = contentsOf file in eqb (c .variables) (pb .variables) && eqb (c .clauses) (pb .total)
+sameSizes n m file = let c = contentsOf file in eqb (c .variables) n && eqb (c .clauses) m
 
 -- R15: "n or m another sheet's | 15 | 0"
-unfoldable pub sizesFault : Problem → List ℕ → Fault
+unfoldable pub sizesFault : ℕ → ℕ → List ℕ → Fault
 unfolding sameSizes
-sizesFault pb file = cond (sameSizes pb file) sound (fault 15 0)
+sizesFault n m file = cond (sameSizes n m file) sound (fault 15 0)
 
 -- N6: "Checker: 10 (no wish), 14, 15, 11, 12, 16, 17, 18; 14 measures the bodies by the n in the contents."
 -- K2: "It uses the certificate's exchanges, not the sheet's."
@@ -44,7 +44,7 @@ checkFault f positive negative file =
     let points = filePoints file in
     let numbers = fileNumbers file in
     let row14 = fileFault file in
-    let row15 = sizesFault pb file in
+    let row15 = sizesFault n (pb .total) file in
     let row11 = permutationFault n permutations in
     let row12 = symmetryFault (pb .clauses) permutations in
     let row16 = pointsFault maxSlots n (length points) points in

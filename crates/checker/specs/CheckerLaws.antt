@@ -60,11 +60,12 @@ module _ (f : Formula) (positive negative file : List ℕ) where
   pub record CheckerPassed : Type 0 where
     pub row10 : clausesFault f positive negative ≡ sound
     pub row14 : fileFault file ≡ sound
-    pub row15 : sizesFault pb file ≡ sound
+    pub row15 : sizesFault (pb .variables) (pb .total) file ≡ sound
     pub rows : Lists
 
-  check-rows : checkFault f positive negative file
-      ≡ first (clausesFault f positive negative ∷ fileFault file ∷ sizesFault pb file ∷ permutationFault (pb .variables) (filePermutations file)
+  -- the checker's rows, in their order
+  pub check-rows : checkFault f positive negative file
+      ≡ first (clausesFault f positive negative ∷ fileFault file ∷ sizesFault (pb .variables) (pb .total) file ∷ permutationFault (pb .variables) (filePermutations file)
       ∷ symmetryFault (pb .clauses) (filePermutations file) ∷ pointsFault maxSlots (pb .variables) (length (filePoints file)) (filePoints file)
       ∷ numbersFault (pb .clauses) (length (filePoints file)) (filePoints file) (fileNumbers file)
       ∷ flipsFault (pb .variables) (pb .clauses) (filePermutations file) (filePoints file) (fileNumbers file) ∷ [])
@@ -179,7 +180,7 @@ module _ (f : Formula) (positive negative file : List ℕ) where
   accepts-sound h =
       let p = checker-passed f positive negative file (not-refused (checkFault f positive negative file) accepted accepted h accepted-not-refused) in
       let w = wellFormed-sound file (tested (wellFormed file) sound 14 (length file) (p .row14) .0) in
-      let sizes = and-split _ _ (tested (sameSizes problem file) sound 15 0 (p .row15) .0) in
+      let sizes = and-split _ _ (tested (sameSizes (problem .variables) (problem .total) file) sound 15 0 (p .row15) .0) in
       record {
         clausesSound = p .row10;
         inOrder = w;
@@ -196,6 +197,6 @@ module _ (f : Formula) (positive negative file : List ℕ) where
       (record {
         row10 = a .clausesSound;
         row14 = test-passed (wellFormed file) sound 14 (length file) (wellFormed-complete file (a .inOrder)) refl;
-        row15 = test-passed (sameSizes problem file) sound 15 0 (and-join _ _ (eq-eqb _ _ (a .sameVariables)) (eq-eqb _ _ (a .sameTotal))) refl;
+        row15 = test-passed (sameSizes (problem .variables) (problem .total) file) sound 15 0 (and-join _ _ (eq-eqb _ _ (a .sameVariables)) (eq-eqb _ _ (a .sameTotal))) refl;
         rows = rows-of-stable (problem .variables) (problem .clauses) (filePermutations file) (filePoints file) (fileNumbers file) (own-numbers f positive negative file) (a .stable);
       })) accepted

@@ -1,5 +1,97 @@
-// The checker (01: 'Checker'): what it answers for a formula and a certificate.
+// The checker (01: 'Checker'): whether a file is a certificate that no point satisfies the clauses.
+use crate::lists::decoded_refusal;
+use certificate::Contents;
+use certificate::Opened;
+use formula::Checked;
+use formula::Formula;
+use formula::refusals::clauses_refusal;
+use formula::refusals::permutations_refusal;
+use formula::refusals::symmetry_refusal;
+ghost use mathlib.Core.Path.{_≡_};
+ghost use Rattle.points.specs.Points.{numbered};
+ghost use Rattle.slices.specs.Slices.{clausesOf};
+ghost use Rattle.formula.specs.Refusals.{Fits, faultOf};
+ghost use Rattle.formula.specs.Reply.{accepted, unless};
+ghost use Rattle.certificate.specs.Certificate.{filePermutations, filePoints, fileNumbers};
+ghost use Rattle.checker.specs.Checker.{replyOf, CheckedAs};
+ghost use Rattle.checker.specs.Parts.{bodiesFault, fileRows, Readable};
+
+mod lists;
+
+// What the checker answers for a formula and a certificate.
 pub enum Verdict {
     Accepted,
     Refused { code: u32, place: usize },
+}
+
+// What a test that is the last says of the certificate.
+fn as_verdict(checked: Checked) -> Verdict
+    ensures { λ r. ⌜ replyOf r ≡ unless (faultOf checked) accepted ⌝ }
+{
+    match checked {
+        Checked::Passed => Verdict::Accepted,
+        Checked::Refused { code, place } => Verdict::Refused { code, place },
+    }
+}
+
+// F4: refusals 11, 12, 16, 17 and 18, each body handed on as its own part of the file. K2: the permutations are the file's. `file_refusal`
+// sees to what it requires.
+fn bodies_refusal(c: Contents, positive: &[u64], negative: &[u64], file: &[u8]) -> Checked
+    requires { ⌜ Readable c (now positive) (now negative) (now file) ⌝ }
+    ensures { λ r. ⌜ faultOf r ≡ bodiesFault (c .variables) (numbered (clausesOf (now (positive .entry)) (now (negative .entry))))
+        (filePermutations (now (file .entry))) (filePoints (now (file .entry))) (fileNumbers (now (file .entry))) ⌝ }
+{
+    let n = c.variables;
+    let group = c.permutations;
+    let first = c.permutations_at as usize;
+    let second = c.points_at as usize;
+    let third = c.numbers_at as usize;
+    let images = &file[first..second];
+    let eleven = permutations_refusal(images, n, group);
+    let Checked::Passed = eleven else {
+        return eleven;
+    };
+    let twelve = symmetry_refusal(images, n, group, positive, negative);
+    let Checked::Passed = twelve else {
+        return twelve;
+    };
+    if Formula::MAX_SLOTS < c.points {
+        return Checked::Refused { code: 16, place: 0 };
+    }
+    let count = c.points as usize;
+    let points = &file[second..third];
+    let numbers = &file[third..file.len()];
+    decoded_refusal(positive, negative, points, numbers, count, images, n, group)
+}
+
+// Refusals 14 and 15, then those of the bodies. Refusal 10 sees to what it requires.
+fn file_refusal(n: u32, clauses: u32, positive: &[u64], negative: &[u64], file: &[u8]) -> Checked
+    requires { ⌜ Fits n clauses (now positive) (now negative) ⌝ }
+    ensures { λ r. ⌜ faultOf r ≡ fileRows n clauses (now (positive .entry)) (now (negative .entry)) (now (file .entry)) ⌝ }
+{
+    let opened = certificate::read(file);
+    match opened {
+        Opened::Refused { code, place } => Checked::Refused { code, place },
+        Opened::File(c) => {
+            if c.variables != n {
+                return Checked::Refused { code: 15, place: 0 };
+            }
+            if c.clauses != clauses {
+                return Checked::Refused { code: 15, place: 0 };
+            }
+            bodies_refusal(c, positive, negative, file)
+        }
+    }
+}
+
+// D2.4: checks a file for the clauses of a formula, whose target and permutations it does not look at.
+pub fn check(f: Formula, positive: &[u64], negative: &[u64], file: &[u8]) -> Verdict
+    ensures { λ r. ⌜ CheckedAs f (now (positive .entry)) (now (negative .entry)) (now (file .entry)) r ⌝ }
+{
+    let ten = clauses_refusal(f, positive, negative);
+    let Checked::Passed = ten else {
+        return as_verdict(ten);
+    };
+    let rest = file_refusal(f.variables, f.clauses, positive, negative, file);
+    as_verdict(rest)
 }

@@ -1,7 +1,7 @@
 -- Laws of the refusals 10, 11 and 12: what is known once each has passed, and what passes. Assumes nothing.
 use mathlib.Core.Bool.{Bool, true, false, cond, _&&_}
 use mathlib.Core.List.{List, [], _∷_}
-use mathlib.Core.Path.{_≡_, refl, sym, ap, _∙_, subst}
+use mathlib.Core.Path.{_≡_, refl, sym, ap, subst}
 use Prim.Native.Nat.{ℕ, _*_, _^_, _≤_, _<_}
 use native.Mathlib.Nat.{le-trans, mul-le-mul, le-of-eq}
 use lib.Dec.{leb, ltb, eqb}
@@ -22,7 +22,7 @@ use Rattle.formula.specs.declared.Formula.{Formula}
 use Rattle.formula.specs.Limits.{maxVariables, maxClauses, maxPermutations}
 use Rattle.formula.specs.Refusals.{allBelow, Fits, fits, formulaFault, permutationFault, symmetryFault, problemFault}
 use Rattle.formula.specs.Reply.{Fault, sound, fault, faultAt}
-use Rattle.formula.specs.ReplyLaws.{fault-not-sound, faultAt-sound, first-skips, first-stops, first-last}
+use Rattle.formula.specs.ReplyLaws.{IsFault, fault-not-sound, faultAt-sound, answers-first, answers-rest, first-last}
 
 -- ---- 10
 
@@ -119,11 +119,6 @@ passes-listed n k bytes few room h =
 
 -- ---- 10, 11 and 12 in order
 
--- a fault that is one
-abbrev pub IsFault : Fault → Type 0
-IsFault sound = ⊥
-IsFault (fault code place) = Unit {0}
-
 module _ (f : Formula) (positive negative : List ℕ) where
   -- the permutations and the clauses that 11 and 12 look at
   abbrev perms : List Permutation
@@ -137,19 +132,16 @@ module _ (f : Formula) (positive negative : List ℕ) where
 
   pub stops-10 : (r : Fault) → r ≡ formulaFault f positive negative → IsFault r → r ≡ problemFault f positive negative
   unfolding problemFault
-  stops-10 sound e h = absurd h
-  stops-10 (fault code place) e h = sym (first-stops (formulaFault f positive negative) (eleven ∷ twelve ∷ []) code place (sym e))
+  stops-10 r e h = answers-first r (formulaFault f positive negative) (eleven ∷ twelve ∷ []) e h
 
   pub stops-11 : (r : Fault) → formulaFault f positive negative ≡ sound → r ≡ eleven → IsFault r → r ≡ problemFault f positive negative
   unfolding problemFault
-  stops-11 sound ten e h = absurd h
-  stops-11 (fault code place) ten e h =
-      sym (first-skips (formulaFault f positive negative) (eleven ∷ twelve ∷ []) ten ∙ first-stops eleven (twelve ∷ []) code place (sym e))
+  stops-11 r ten e h = answers-rest r (formulaFault f positive negative) (eleven ∷ twelve ∷ []) ten (answers-first r eleven (twelve ∷ []) e h)
 
   pub ends-12 : formulaFault f positive negative ≡ sound → eleven ≡ sound → twelve ≡ problemFault f positive negative
   unfolding problemFault
   ends-12 ten el =
-      sym (first-skips (formulaFault f positive negative) (eleven ∷ twelve ∷ []) ten ∙ first-skips eleven (twelve ∷ []) el ∙ first-last twelve)
+      answers-rest twelve (formulaFault f positive negative) (eleven ∷ twelve ∷ []) ten (answers-rest twelve eleven (twelve ∷ []) el (sym (first-last twelve)))
 
   -- what is known once 10 has passed
   pub formula-passes : formulaFault f positive negative ≡ sound → Fits (f .variables) (f .clauses) positive negative × (f .target < 2 ^ f .variables)

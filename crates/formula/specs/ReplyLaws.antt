@@ -2,12 +2,12 @@
 -- passed. Assumes nothing.
 use mathlib.Core.Bool.{Bool, true, false, cond, true≢false}
 use mathlib.Core.List.{List, [], _∷_}
-use mathlib.Core.Path.{_≡_, refl, sym, ap}
+use mathlib.Core.Path.{_≡_, refl, sym, ap, ap₂, _∙_}
 use Prim.Native.Nat.{ℕ, zero, suc, _<_}
 use native.Mathlib.Omega.{arith}
 use Rattle.math.specs.Lists.{_∈_, firstFailing, below}
 use Rattle.math.specs.PartLaws.{none-failing, none-failing-below, all-passing, all-passing-below}
-use Rattle.formula.specs.Reply.{Fault, sound, fault, faultAt, first, Reply, refused, accepted, written, unless}
+use Rattle.formula.specs.Reply.{Fault, sound, fault, faultAt, first, Reply, refused, accepted, written, opened, unless}
 
 -- whether the test found nothing
 abbrev isSound : Fault → Bool
@@ -30,6 +30,19 @@ pub first-last : (f : Fault) → first (f ∷ []) ≡ f
 unfolding first
 first-last sound = refl
 first-last (fault code place) = refl
+
+-- a fault that is one
+abbrev pub IsFault : Fault → Type 0
+IsFault sound = ⊥
+IsFault (fault code place) = Unit {0}
+
+-- a function that tests in order answers the first fault, or what the tests behind it answer
+pub answers-first : (r t : Fault) (ts : List Fault) → r ≡ t → IsFault r → r ≡ first (t ∷ ts)
+answers-first sound t ts e h = absurd h
+answers-first (fault code place) t ts e h = sym (first-stops t ts code place (sym e))
+
+pub answers-rest : (r t : Fault) (ts : List Fault) → t ≡ sound → r ≡ first ts → r ≡ first (t ∷ ts)
+answers-rest r t ts passed e = e ∙ sym (first-skips t ts passed)
 
 -- ---- a fault by number
 
@@ -105,3 +118,15 @@ accepted-not-refused code place e = let z : _≡_ {A = ℕ} 0 1 = cc in omega ar
 
 pub written-not-refused : (size code place : ℕ) → written size ≡ refused code place → ⊥
 written-not-refused size code place e = let z : _≡_ {A = ℕ} 0 1 = cc in omega arith
+
+pub opened-not-refused : (code place : ℕ) → opened ≡ refused code place → ⊥
+opened-not-refused code place e = let z : _≡_ {A = ℕ} 0 1 = cc in omega arith
+
+-- a refusal is the fault that was found
+pub refused-fault : (t : Fault) (r : Reply) → ((code place : ℕ) → r ≡ refused code place → ⊥) → (code place : ℕ) → refused code place ≡ unless t r → fault code place ≡ t
+unfolding unless
+refused-fault sound r ne code place e = absurd (ne code place (sym e))
+refused-fault (fault c p) r ne code place e =
+    let a : code ≡ c = cc in
+    let b : place ≡ p = cc in
+    ap₂ fault a b

@@ -1,0 +1,30 @@
+-- `checker::as_verdict` meets its contract: accepted where nothing was found, else the refusal that was. Assumes nothing.
+use mathlib.Core.Path.{_≡_, sym, ap}
+use borrow.Author.Needs.{needs}
+use Rattle.formula.specs.declared.Checked.{Checked}
+use Rattle.formula.specs.Refusals.{faultOf}
+use Rattle.formula.specs.Reply.{accepted, unless}
+use Rattle.checker.specs.Checker.{replyOf}
+use Rattle.checker.proofs.as_verdict.Statement.{statement}
+use Rattle.checker.proofs.as_verdict.Tie as tie
+
+enum-told : tie.Need-enum-told
+enum-told c = search needs
+
+enum-known-checked : tie.Need-enum-known-checked
+enum-known-checked c = search needs
+
+-- of equal tests the replies are equal
+told : {r s : Checked} → r ≡ s → unless (faultOf r) accepted ≡ unless (faultOf s) accepted
+told e = ap (λ (r : Checked). unless (faultOf r) accepted) e
+
+returns : tie.Need-returns
+unfolding replyOf unless
+returns c = sym (told (c .enum-told .given .1))
+
+returns-2 : tie.Need-returns-2
+unfolding replyOf unless
+returns-2 c = sym (told (c .before .checked .given .1))
+
+pub as-verdict-spec : {M : Type 1} → statement M
+as-verdict-spec = tie.close (tie.spec enum-told enum-known-checked returns returns-2)

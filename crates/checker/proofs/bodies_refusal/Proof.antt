@@ -1,0 +1,151 @@
+-- `checker::bodies_refusal` meets its contract: a law of PartLaws for each way out. Assumes nothing.
+use mathlib.Core.Path.{_≡_, sym, ap, _∙_, subst}
+use Prim.Native.Nat.{_-_}
+use native.Mathlib.Omega.{arith}
+use lib.ListN.{take, drop}
+use borrow.Author.Needs.{needs}
+use Rattle.points.specs.Points.{numbered}
+use Rattle.slices.specs.Slices.{clausesOf}
+use Rattle.permutations.specs.Permutations.{permutationsIn}
+use Rattle.formula.specs.RefusalLaws.{fits-below}
+use Rattle.formula.specs.Refusals.{permutationFault, symmetryFault, faultOf}
+use Rattle.formula.specs.Reply.{sound}
+use Rattle.formula.specs.ReplyLaws.{IsFault}
+use Rattle.checker.specs.PartLaws.{Laid, laid, images-listed, stops-11, stops-12, too-many-points, ends-decoded}
+use Rattle.checker.proofs.bodies_refusal.Statement.{statement}
+use Rattle.checker.proofs.bodies_refusal.Tie as tie
+
+cast-first : tie.Need-cast-first
+cast-first c = search needs
+
+cast-second : tie.Need-cast-second
+cast-second c = search needs
+
+cast-third : tie.Need-cast-third
+cast-third c = search needs
+
+-- where the parts lie
+lies : (s : tie.Start) → Laid (s .args .c) (s .args .positive .now) (s .args .negative .now) (s .args .file .now) (s .pre)
+lies s = laid (s .args .c) (s .args .positive .now) (s .args .negative .now) (s .args .file .now) (s .pre)
+
+sub-images : tie.Need-sub-images
+sub-images c = lies (c .before .before .before .before .before .before) .first-second
+
+part-images-start : tie.Need-part-images-start
+part-images-start c = lies (c .before .before .before .before .before .before) .first-second
+
+part-images-end : tie.Need-part-images-end
+part-images-end c = let l = lies (c .before .before .before .before .before .before) in omega (arith, l .second-third, l .third-end)
+
+permutations-refusal-requires : tie.Need-permutations-refusal-requires
+permutations-refusal-requires c κs = (c .before .before .before .before .before .before .before .pre .fitting .few-variables, λ _. lies (c .before .before .before .before .before .before .before) .images-long)
+
+enum-told : tie.Need-enum-told
+enum-told c = search needs
+
+enum-told-2 : tie.Need-enum-told-2
+enum-told-2 c = search needs
+
+returns : tie.Need-returns
+returns c =
+    let s = c .before .before .before .before .before .before .before .before .before .before in
+    stops-11 (s .args .c) (s .args .positive .now) (s .args .negative .now) (s .args .file .now) (s .pre) (faultOf (c .before .before .permutations-refusal .result)) (c .before .before .permutations-refusal .ensures)
+    (subst IsFault (sym (ap faultOf (c .enum-told2 .given .1))) tt)
+
+-- what follows is reached where refusal 11 found nothing
+eleven : (c : tie.After-enum-told) → permutationFault (c .before .before .before .before .before .before .before .before .before .before .args .c .variables) (permutationsIn (c .before .before .before .before .before .before .before .before .before .before .args .c .variables) (c .before .before .before .before .before .before .before .before .before .before .args .c .permutations) (take (c .before .before .before .before .before .before .before .before .before .before .args .c .«points_at» - c .before .before .before .before .before .before .before .before .before .before .args .c .«permutations_at») (drop (c .before .before .before .before .before .before .before .before .before .before .args .c .«permutations_at») (c .before .before .before .before .before .before .before .before .before .before .args .file .now)))) ≡ sound
+eleven c = sym (c .before .before .permutations-refusal .ensures) ∙ ap faultOf (c .enum-told .given .1)
+
+symmetry-refusal-requires : tie.Need-symmetry-refusal-requires
+symmetry-refusal-requires c κs =
+    let s = c .before .before .before .before .before .before .before .before .before .before in
+    images-listed (s .args .c) (s .args .positive .now) (s .args .negative .now) (s .args .file .now) (s .pre) (eleven c)
+
+enum-told-3 : tie.Need-enum-told-3
+enum-told-3 c = search needs
+
+enum-told-4 : tie.Need-enum-told-4
+enum-told-4 c = search needs
+
+returns-2 : tie.Need-returns-2
+returns-2 c =
+    let s = c .before .before .before .before .before .before .before .before .before .before .before .before .before in
+    stops-12 (s .args .c) (s .args .positive .now) (s .args .negative .now) (s .args .file .now) (s .pre) (eleven (c .before .before .before)) (faultOf (c .before .before .symmetry-refusal .result)) (c .before .before .symmetry-refusal .ensures)
+    (subst IsFault (sym (ap faultOf (c .enum-told4 .given .1))) tt)
+
+-- and what follows here where refusal 12 did not either
+twelve : (c : tie.After-enum-told3)
+    → symmetryFault (numbered (clausesOf (c .before .before .before .before .before .before .before .before .before .before .before .before .before .args .positive .now) (c .before .before .before .before .before .before .before .before .before .before .before .before .before .args .negative .now))) (permutationsIn (c .before .before .before .before .before .before .before .before .before .before .before .before .before .args .c .variables) (c .before .before .before .before .before .before .before .before .before .before .before .before .before .args .c .permutations) (take (c .before .before .before .before .before .before .before .before .before .before .before .before .before .args .c .«points_at» - c .before .before .before .before .before .before .before .before .before .before .before .before .before .args .c .«permutations_at») (drop (c .before .before .before .before .before .before .before .before .before .before .before .before .before .args .c .«permutations_at») (c .before .before .before .before .before .before .before .before .before .before .before .before .before .args .file .now)))) ≡ sound
+twelve c = sym (c .before .before .symmetry-refusal .ensures) ∙ ap faultOf (c .enum-told3 .given .1)
+
+returns-3 : tie.Need-returns-3
+returns-3 c =
+    let s = c .before .before .before .before .before .before .before .before .before .before .before .before .before .before .before in
+    too-many-points (s .args .c) (s .args .positive .now) (s .args .negative .now) (s .args .file .now) (s .pre) (eleven (c .before .before .before .before .before)) (twelve (c .before .before)) (c .if1 .taken)
+
+cast-count : tie.Need-cast-count
+cast-count c = search needs
+
+sub-points : tie.Need-sub-points
+sub-points c = lies (c .before .before .before .before .before .before .before .before .before .before .before .before .before .before .before .before) .second-third
+
+part-points-start : tie.Need-part-points-start
+part-points-start c = lies (c .before .before .before .before .before .before .before .before .before .before .before .before .before .before .before .before) .second-third
+
+part-points-end : tie.Need-part-points-end
+part-points-end c = lies (c .before .before .before .before .before .before .before .before .before .before .before .before .before .before .before .before) .third-end
+
+sub-numbers : tie.Need-sub-numbers
+sub-numbers c = lies (c .before .before .before .before .before .before .before .before .before .before .before .before .before .before .before .before .before) .third-end
+
+part-numbers-start : tie.Need-part-numbers-start
+part-numbers-start c = lies (c .before .before .before .before .before .before .before .before .before .before .before .before .before .before .before .before .before) .third-end
+
+part-numbers-end : tie.Need-part-numbers-end
+part-numbers-end c = search needs
+
+decoded-refusal-requires : tie.Need-decoded-refusal-requires
+decoded-refusal-requires c κs =
+    let s = c .before .before .before .before .before .before .before .before .before .before .before .before .before .before .before .before .before .before in
+    let l = lies s in (
+      s .pre .fitting .few-variables,
+      images-listed (s .args .c) (s .args .positive .now) (s .args .negative .now) (s .args .file .now) (s .pre) (eleven (c .before .before .before .before .before .before .before .before)),
+      fits-below (s .args .c .variables) (s .args .c .clauses) (s .args .positive .now) (s .args .negative .now) (s .pre .fitting),
+      c .before .before .before .if1 .left,
+      l .points-long,
+      l .numbers-long,
+    )
+
+returns-4 : tie.Need-returns-4
+returns-4 c =
+    let s = c .before .before .before .before .before .before .before .before .before .before .before .before .before .before .before .before .before .before .before in
+    ends-decoded (s .args .c) (s .args .positive .now) (s .args .negative .now) (s .args .file .now) (s .pre) (eleven (c .before .before .before .before .before .before .before .before .before)) (twelve (c .before .before .before .before .before .before)) (faultOf (c .decoded-refusal .result)) (c .decoded-refusal .ensures)
+
+pub bodies-refusal-spec : {M : Type 1} → statement M
+bodies-refusal-spec =
+    tie.close
+    (tie.spec
+    cast-first
+    cast-second
+    cast-third
+    sub-images
+    part-images-start
+    part-images-end
+    permutations-refusal-requires
+    enum-told
+    enum-told-2
+    returns
+    symmetry-refusal-requires
+    enum-told-3
+    enum-told-4
+    returns-2
+    returns-3
+    cast-count
+    sub-points
+    part-points-start
+    part-points-end
+    sub-numbers
+    part-numbers-start
+    part-numbers-end
+    decoded-refusal-requires
+    returns-4)
