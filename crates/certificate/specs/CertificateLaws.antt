@@ -46,6 +46,11 @@ wellFormed-complete file w =
 
 -- ---- what is put out: the contents and three bodies, joined
 
+-- C2: "Contents, 32 bytes"
+pub length-contents : (c : FileContents) → length (joined (bytesOf fieldWidth) (fieldsOf c)) ≡ contentsLength
+unfolding fieldsOf
+length-contents c = length-joined (bytesOf fieldWidth) fieldWidth (fieldsOf c) (λ x _. length-bytesOf fieldWidth x)
+
 module _ (n m : ℕ) (es : List Permutation) (ps ns : List ℕ) where
   -- the four parts of a certificate
   abbrev contentsPart : List ℕ
@@ -61,9 +66,7 @@ module _ (n m : ℕ) (es : List Permutation) (ps ns : List ℕ) where
   numbersPart = joined (bytesOf numberWidth) ns
 
   length-contentsPart : length contentsPart ≡ contentsLength
-  unfolding fieldsOf
-  length-contentsPart =
-      length-joined (bytesOf fieldWidth) fieldWidth (fieldsOf (layout n m (length es) (length ps) (length ns))) (λ x _. length-bytesOf fieldWidth x)
+  length-contentsPart = length-contents (layout n m (length es) (length ps) (length ns))
 
   length-pointsPart : length pointsPart ≡ length ps * pointWidth
   length-pointsPart = length-joined (bytesOf pointWidth) pointWidth ps (λ x _. length-bytesOf pointWidth x)

@@ -12,6 +12,11 @@ use Rattle.certificate.specs.Bytes.{bytesOf, joined, fieldWidth, pointWidth}
 use Rattle.certificate.specs.BytesLaws.{length-bytesOf, length-joined, joined-append, joined-snoc}
 use Rattle.certificate.specs.Certificate.{fieldsOf, layout, contentsLength}
 
+-- behind one part, another
+pub part-stored : (at place : ℕ) (a b old before after : List ℕ) → at ≤ length old → place ≡ at + length a
+    → before ≡ spliced at a old → after ≡ spliced place b before → after ≡ spliced at (a ++ b) old
+part-stored at place a b old before after room here e f = f ∙ ap₂ (λ (k : ℕ) (l : List ℕ). spliced k b l) here e ∙ spliced-next at a b old room
+
 module _ (w at : ℕ) (old : List ℕ) (room : at ≤ length old) where
   -- no number stored yet
   pub none-stored : old ≡ spliced at (joined (bytesOf w) []) old
@@ -23,9 +28,8 @@ module _ (w at : ℕ) (old : List ℕ) (room : at ≤ length old) where
       → before ≡ spliced at (joined (bytesOf w) xs) old → after ≡ spliced place (bytesOf w x) before
       → after ≡ spliced at (joined (bytesOf w) (xs ++ x ∷ [])) old
   one-stored xs x place before after here e f =
-      f ∙ ap₂ (λ (k : ℕ) (l : List ℕ). spliced k (bytesOf w x) l)
-      (here ∙ ap (λ (k : ℕ). at + k) (sym (length-joined (bytesOf w) w xs (λ y _. length-bytesOf w y)))) e
-      ∙ spliced-next at (joined (bytesOf w) xs) (bytesOf w x) old room
+      part-stored at place (joined (bytesOf w) xs) (bytesOf w x) old before after room
+      (here ∙ ap (λ (k : ℕ). at + k) (sym (length-joined (bytesOf w) w xs (λ y _. length-bytesOf w y)))) e f
       ∙ ap (λ l. spliced at l old) (sym (joined-snoc (bytesOf w) xs x))
 
   -- of a list, number by number: after i come i + 1
@@ -57,8 +61,8 @@ pub contents-stored : (n m a k points numbers : ℕ) (old half whole : List ℕ)
 unfolding fieldsOf layout
 contents-stored n m a k points numbers old half whole p q e f =
     let front : List ℕ = n ∷ m ∷ a ∷ contentsLength ∷ [] in
-    f ∙ ap₂ (λ (j : ℕ) (l : List ℕ). spliced j (joined (bytesOf fieldWidth) (k ∷ points ∷ k ∷ numbers ∷ [])) l)
-    (sym (zero-add (length (joined (bytesOf fieldWidth) front)) ∙ length-joined (bytesOf fieldWidth) fieldWidth front (λ y _. length-bytesOf fieldWidth y))) e
-    ∙ spliced-next 0 (joined (bytesOf fieldWidth) front) (joined (bytesOf fieldWidth) (k ∷ points ∷ k ∷ numbers ∷ [])) old zero-le
-    ∙ ap (λ l. spliced 0 l old) (sym (joined-append (bytesOf fieldWidth) front (k ∷ points ∷ k ∷ numbers ∷ [])))
+    let back : List ℕ = k ∷ points ∷ k ∷ numbers ∷ [] in
+    part-stored 0 16 (joined (bytesOf fieldWidth) front) (joined (bytesOf fieldWidth) back) old half whole zero-le
+    (sym (zero-add (length (joined (bytesOf fieldWidth) front)) ∙ length-joined (bytesOf fieldWidth) fieldWidth front (λ y _. length-bytesOf fieldWidth y))) e f
+    ∙ ap (λ l. spliced 0 l old) (sym (joined-append (bytesOf fieldWidth) front back))
     ∙ ap₂ (λ (u v : ℕ). spliced 0 (joined (bytesOf fieldWidth) (n ∷ m ∷ a ∷ contentsLength ∷ k ∷ u ∷ k ∷ v ∷ [])) old) p q

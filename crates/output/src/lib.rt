@@ -1,5 +1,6 @@
 // Storing the parts of a certificate into lent bytes, each at its place.
 use slices::point_at;
+use transport::number_at;
 ghost use mathlib.Core.List.{[], _∷_};
 ghost use mathlib.Core.Path.{_≡_};
 ghost use Prim.Native.Nat.{_+_, _*_, _/_, _%_, _^_, _≤_};
@@ -106,11 +107,11 @@ pub fn put_numbers(out: &mut [u8], at: usize, numbers: &[u32], count: usize)
     requires { ⌜ (at + count * numberWidth ≤ length (now out)) × (count ≤ length (now numbers)) ⌝ }
     ensures { λ _. ⌜ now (out .exit) ≡ spliced at (joined (bytesOf numberWidth) (take count (now (numbers .entry)))) (now (out .entry)) ⌝ }
 {
-    let mut i = 0;
-    while i < count {
-        let k = numbers[i];
-        let place = at + i * 4;
+    let mut next = 0;
+    while next < count {
+        let k = number_at(numbers, next);
+        let place = at + next * 4;
         put_number(out, place, 4, k as u64);
-        i += 1;
+        next += 1;
     }
 }

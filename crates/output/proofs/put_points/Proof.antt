@@ -1,4 +1,4 @@
--- `output::put_points` meets its contract: before index i the first i are stored. Assumes nothing.
+-- `output::put_points` meets its contract: before point i the first i are stored. Assumes nothing.
 use mathlib.Core.Path.{_≡_, refl, ap, _∙_}
 use Prim.Native.Nat.{ℕ, _+_, _*_, _-_, _≤_, zero-le}
 use native.Mathlib.Omega.{arith}
