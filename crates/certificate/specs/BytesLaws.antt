@@ -3,19 +3,20 @@ use mathlib.Core.List.{List, [], _∷_, _++_, append-assoc, append-nil}
 use mathlib.Core.Option.{some, none}
 use mathlib.Core.Path.{_≡_, refl, sym, ap, ap₂, _∙_, subst}
 use mathlib.Core.List.{List·Memᴰ·tail}
-use Prim.Native.Nat.{ℕ, zero, suc, _+_, _*_, _/_, _^_, _≤_, _<_}
-use native.Mathlib.Nat.{pow-succ', zero-mul, suc-mul, add-comm, not-suc-le-zero, le-of-suc-le-suc}
+use Prim.Native.Nat.{ℕ, zero, suc, _+_, _*_, _/_, _^_, _≤_, _<_, _%_}
+use native.Mathlib.Nat.{pow-succ', zero-mul, suc-mul, add-comm, not-suc-le-zero, le-of-suc-le-suc, div-one, div-eq-of-lt, lt-of-lt-of-le, mul-le-mul-left}
 use native.Mathlib.Numerals.{add-one}
 use native.Mathlib.Omega.{arith}
 use lib.Arith.{lt-one}
 use lib.ListN.{length, getD, getElem?, set, take, drop, length-append}
-use lib.Seq.{take-at, drop-at, drop-drop, drop-cons}
+use lib.Seq.{take-at, drop-at, drop-drop, drop-cons, take-add}
 use Rattle.math.specs.ListLaws.{here}
 use Rattle.math.specs.Lists.{_∈_, over}
 use Rattle.math.specs.OverLaws.{over-snoc}
 use Rattle.math.specs.PartLaws.{index-some}
-use Rattle.permutations.specs.Permutations.{permutationsIn}
+use Rattle.permutations.specs.Permutations.{permutationsIn, Permutation}
 use Rattle.certificate.specs.Bytes.{bytesOf, numberFrom, joined, entries, numbersIn}
+use lib.Pow.{pow-mono, shr-shr}
 
 -- ---- one number
 
@@ -23,6 +24,19 @@ pub length-bytesOf : (w x : ℕ) → length (bytesOf w x) ≡ w
 unfolding bytesOf
 length-bytesOf zero x = refl
 length-bytesOf (suc w) x = ap suc (length-bytesOf w (x / 256))
+
+-- byte i of a number
+pub getD-bytesOf : (w x i : ℕ) → i < w → getD (bytesOf w x) i 0 ≡ x / 2 ^ (8 * i) % 256
+unfolding bytesOf
+getD-bytesOf zero x i h = absurd (not-suc-le-zero h)
+getD-bytesOf (suc w) x zero h = ap (λ (y : ℕ). y % 256) (sym (div-one x))
+getD-bytesOf (suc w) x (suc i) h =
+    getD-bytesOf w (x / 256) i (le-of-suc-le-suc h)
+    ∙ ap (λ (y : ℕ). y % 256) (shr-shr x 8 (8 * i) ∙ ap (λ (k : ℕ). x / 2 ^ k) (let z : 8 + 8 * i ≡ 8 * suc i = omega arith in z))
+
+-- a number of k bytes has none behind them
+pub byte-above : (k x i : ℕ) → x < 2 ^ (8 * k) → k ≤ i → x / 2 ^ (8 * i) % 256 ≡ 0
+byte-above k x i h le = ap (λ (y : ℕ). y % 256) (div-eq-of-lt (lt-of-lt-of-le h (pow-mono (mul-le-mul-left 8 le))))
 
 -- D2.4: "a written certificate reads back to the same points and rules": one number, where it fits its bytes
 pub numberFrom-bytesOf : (w x : ℕ) → x < 256 ^ w → numberFrom (bytesOf w x) ≡ x
@@ -39,6 +53,17 @@ unfolding numberFrom
 number-next bytes i h = ap numberFrom (drop-cons bytes i 0 h)
 
 -- ---- entries
+
+module _ {A : Type 0} (write : A → List ℕ) where
+  pub joined-append : (xs ys : List A) → joined write (xs ++ ys) ≡ joined write xs ++ joined write ys
+  unfolding joined
+  joined-append [] ys = refl
+  joined-append (x ∷ xs) ys = ap (λ l. write x ++ l) (joined-append xs ys) ∙ sym (append-assoc (write x) (joined write xs) (joined write ys))
+
+  -- one entry more
+  pub joined-snoc : (xs : List A) (x : A) → joined write (xs ++ x ∷ []) ≡ joined write xs ++ write x
+  unfolding joined
+  joined-snoc xs x = joined-append xs (x ∷ []) ∙ ap (λ l. joined write xs ++ l) (append-nil (write x))
 
 module _ {A : Type 0} (write : A → List ℕ) (w : ℕ) where
   pub length-joined : (xs : List A) → ((x : A) → x ∈ xs → length (write x) ≡ w) → length (joined write xs) ≡ length xs * w
@@ -114,3 +139,11 @@ pub permutations-entries : (n k : ℕ) (bytes : List ℕ) → permutationsIn n k
 unfolding permutationsIn entries
 permutations-entries n zero bytes = refl
 permutations-entries n (suc k) bytes = ap (λ l. record { images = take n bytes } ∷ l) (permutations-entries n k (drop n bytes))
+
+-- permutations that stand without gaps, put out one by one, are the bytes in which they stood
+pub joined-permutations : (n k : ℕ) (bytes : List ℕ) → joined (λ (e : Permutation). e .images) (permutationsIn n k bytes) ≡ take (k * n) bytes
+unfolding joined permutationsIn
+joined-permutations n zero bytes = ap (λ (j : ℕ). take j bytes) (sym (zero-mul n))
+joined-permutations n (suc k) bytes =
+    ap (λ l. take n bytes ++ l) (joined-permutations n k (drop n bytes)) ∙ sym (take-add n (k * n) bytes)
+    ∙ ap (λ (j : ℕ). take j bytes) (add-comm n (k * n) ∙ sym (suc-mul k n))

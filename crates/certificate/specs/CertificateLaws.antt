@@ -90,6 +90,11 @@ long-file file h = ap (λ (b : Bool). b && fitting (contentsOf file) (length fil
 
 -- ---- what is put out: the contents and three bodies, joined
 
+-- C2: "Contents, 32 bytes"
+pub length-contents : (c : FileContents) → length (joined (bytesOf fieldWidth) (fieldsOf c)) ≡ contentsLength
+unfolding fieldsOf
+length-contents c = length-joined (bytesOf fieldWidth) fieldWidth (fieldsOf c) (λ x _. length-bytesOf fieldWidth x)
+
 module _ (n m : ℕ) (es : List Permutation) (ps ns : List ℕ) where
   -- the four parts of a certificate
   abbrev contentsPart : List ℕ
@@ -105,9 +110,7 @@ module _ (n m : ℕ) (es : List Permutation) (ps ns : List ℕ) where
   numbersPart = joined (bytesOf numberWidth) ns
 
   length-contentsPart : length contentsPart ≡ contentsLength
-  unfolding fieldsOf
-  length-contentsPart =
-      length-joined (bytesOf fieldWidth) fieldWidth (fieldsOf (layout n m (length es) (length ps) (length ns))) (λ x _. length-bytesOf fieldWidth x)
+  length-contentsPart = length-contents (layout n m (length es) (length ps) (length ns))
 
   length-pointsPart : length pointsPart ≡ length ps * pointWidth
   length-pointsPart = length-joined (bytesOf pointWidth) pointWidth ps (λ x _. length-bytesOf pointWidth x)

@@ -1,4 +1,4 @@
--- Laws of the rows 16 and 17: what their tests of one point say, and which clause a number names. Assumes nothing.
+-- Laws of the rows 16, 17 and 19: what their tests say, and which clause a number names. Assumes nothing.
 use mathlib.Core.Bool.{Bool, true, false, not, cond, _&&_, true≢false, false≢true}
 use mathlib.Core.List.{List, [], _∷_, List·Memᴰ·head, List·Memᴰ·tail, List·Memᴰ·not-nil}
 use mathlib.Core.Option.{Option, some, none}
@@ -9,18 +9,25 @@ use native.Mathlib.Omega.{arith}
 use lib.Dec.{leb, ltb, eqb}
 use lib.ListN.{length, getD, take}
 use lib.Seq.{getD-take, take-take}
-use borrow.Author.Tests.{ltb-true, lt-ltb, eqb-true, eqb-false, not-true}
+use borrow.Author.Tests.{leb-true, le-leb, lt-leb, ltb-true, lt-ltb, eqb-true, eqb-false, not-true}
 use Rattle.math.specs.ListLaws.{and-split, and-join, here, has-in, in-has, not-true-false, getD-in, in-getD}
 use Rattle.math.specs.Lists.{_∈_, has, Distinct}
 use Rattle.math.specs.PartLaws.{distinct-by-index, distinct-earlier, same-failing-below}
 use Rattle.points.specs.Points.{Clause, Numbered, satisfies, numberedFrom}
-use Rattle.formula.specs.Reply.{fault, faultAt}
-use Rattle.certificate.specs.Rows.{pointPasses, pointsFault, clauseNumbered, falsifies, numberPasses, numbersFault}
+use Rattle.formula.specs.Reply.{fault, faultAt, sound}
+use Rattle.certificate.specs.Rows.{pointPasses, pointsFault, clauseNumbered, falsifies, numberPasses, numbersFault, roomFault}
+use Rattle.formula.specs.ReplyLaws.{tested}
 
 not-of-false : (b : Bool) → b ≡ false → not b ≡ true
 not-of-false b e = rw e
 
 -- ---- row 16
+
+pub points-counted : (limit n count : ℕ) (points : List ℕ) → pointsFault limit n count points ≡ sound → (1 ≤ count) × (count ≤ limit)
+unfolding pointsFault
+points-counted limit n count points h =
+    let w = and-split (leb 1 count) (leb count limit) (tested (leb 1 count && leb count limit) _ 16 0 h .0) in
+    (leb-true 1 count (w .0), leb-true count limit (w .1))
 
 module _ (n : ℕ) (points : List ℕ) where
   point-passed : (i : ℕ) → pointPasses n points i ≡ true → (getD points i 0 < 2 ^ n) × (getD points i 0 ∈ take i points → ⊥)
@@ -133,3 +140,13 @@ module _ (cs : List Numbered) (points numbers : List ℕ) where
   numbers-fault-take count =
       ap (faultAt 17) (same-failing-below (numberPasses cs (take count points) (take count numbers)) (numberPasses cs points numbers) count (λ i lt.
       ap₂ (λ (k x : ℕ). falsifies (clauseNumbered cs k) x) (getD-take count numbers i 0 lt) (getD-take count points i 0 lt)))
+
+-- ---- row 19
+
+pub too-short : (needed lent : ℕ) → lent < needed → roomFault needed lent ≡ fault 19 needed
+unfolding roomFault
+too-short needed lent h = rw (lt-leb needed lent h)
+
+pub long-enough : (needed lent : ℕ) → needed ≤ lent → roomFault needed lent ≡ sound
+unfolding roomFault
+long-enough needed lent h = rw (le-leb needed lent h)

@@ -24,7 +24,7 @@ use Rattle.formula.specs.Reply.{unlessKept, sound, first, written}
 use Rattle.certificate.specs.Certificate.{FileContents, layout, certificateLength, Encodable}
 use Rattle.certificate.specs.CertificateLaws.{length-encode, contents-encode, encode-wellFormed, encode-permutations, encode-points, encode-numbers}
 use Rattle.formula.specs.ReplyLaws.{first-none, first-join, first-split, tested, each-passed, below-passed, not-refused, written-not-refused, unless-sound}
-use Rattle.certificate.specs.RowLaws.{points-passed, point-passes-take, clause-found, numbered-range, number-passed}
+use Rattle.certificate.specs.RowLaws.{points-counted, points-passed, point-passes-take, clause-found, numbered-range, number-passed}
 use Rattle.certificate.specs.Rows.{pointPasses, pointsFault, numberPasses, numbersFault, roomFault}
 use Rattle.certificate.specs.Writer.{lengthNeeded, writeFault, writeReply, certificateOf, writeOutput, ReadsAs}
 
@@ -74,20 +74,18 @@ module _ (f : Formula) (positive negative points numbers depths : List ℕ) (cou
   abbrev ks : List ℕ
   ks = take count numbers
 
+  -- row 16: the slots given are among those lent
+  pub few-slots : pointsFault lent (pb .variables) count (pointsOf points) ≡ sound → (count ≤ maxSlots) × (count ≤ length points) × (count ≤ length numbers)
+  unfolding capacity
+  few-slots h =
+      let w = points-counted lent (pb .variables) count (pointsOf points) h .1 in (omega arith, omega arith, omega arith)
+
   module _ (passed : WriterPassed) where
     limited : Fits (f .variables) (f .clauses) positive negative
     limited = formula-passes f positive negative (passed .row10) .0
 
-    counted : (1 ≤ count) × (count ≤ lent)
-    unfolding pointsFault
-    counted =
-        let t = tested (leb 1 count && leb count lent) _ 16 0 (passed .row16) in
-        let w = and-split (leb 1 count) (leb count lent) (t .0) in
-        (leb-true 1 count (w .0), leb-true count lent (w .1))
-
     few : (count ≤ maxSlots) × (count ≤ length points) × (count ≤ length numbers)
-    unfolding capacity
-    few = let w = counted .1 in (omega arith, omega arith, omega arith)
+    few = few-slots (passed .row16)
 
     length-xs : length xs ≡ count
     length-xs = length-take-le count points (few .1)

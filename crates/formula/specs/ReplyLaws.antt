@@ -1,7 +1,7 @@
 -- Laws of tests in order and of replies: a test that passes is skipped, one that does not is the answer, and where nothing was found each
 -- passed. Assumes nothing.
 use mathlib.Core.Bool.{Bool, true, false, cond, true≢false}
-use mathlib.Core.List.{List, [], _∷_}
+use mathlib.Core.List.{List, [], _∷_, _++_}
 use mathlib.Core.Path.{_≡_, refl, sym, ap, ap₂, _∙_}
 use Prim.Native.Nat.{ℕ, zero, suc, _<_}
 use native.Mathlib.Omega.{arith}
@@ -74,6 +74,20 @@ first-split (fault code place) ts h = absurd (fault-not-sound code place h)
 pub first-join : (t : Fault) (ts : List Fault) → t ≡ sound → first ts ≡ sound → first (t ∷ ts) ≡ sound
 unfolding first
 first-join t ts p q = rw p q
+
+-- ---- tests behind others
+
+pub first-after : (fs gs : List Fault) → first fs ≡ sound → first (fs ++ gs) ≡ first gs
+unfolding first
+first-after [] gs h = refl
+first-after (sound ∷ fs) gs h = first-after fs gs h
+first-after (fault code place ∷ fs) gs h = absurd (fault-not-sound code place h)
+
+pub first-before : (fs gs : List Fault) (code place : ℕ) → first fs ≡ fault code place → first (fs ++ gs) ≡ fault code place
+unfolding first
+first-before [] gs code place h = absurd (fault-not-sound code place (sym h))
+first-before (sound ∷ fs) gs code place h = first-before fs gs code place h
+first-before (fault c p ∷ fs) gs code place h = h
 
 -- ---- one test
 

@@ -1,12 +1,12 @@
 -- Laws of new contents in the place of old ones: one element, and one part behind the other. Assumes nothing.
 use mathlib.Core.List.{List, [], _∷_, _++_, append-assoc, append-nil}
-use mathlib.Core.Path.{_≡_, refl, sym, ap, ap₂, _∙_}
-use Prim.Native.Nat.{ℕ, suc, _+_, _≤_, _<_}
-use native.Mathlib.Nat.{add-zero, add-assoc, zero-add, le-trans}
+use mathlib.Core.Path.{_≡_, sym, ap, ap₂, _∙_}
+use Prim.Native.Nat.{ℕ, _+_, _≤_, _<_}
+use native.Mathlib.Nat.{add-zero, add-assoc, zero-add, le-of-eq, le-of-lt, lt-of-lt-of-le}
 use native.Mathlib.Numerals.{add-one}
 use native.Mathlib.Omega.{arith}
-use lib.ListN.{length, set, take, drop, length-append, length-drop, take-append-drop}
-use lib.Seq.{length-take-le, take-at, drop-drop, drop-append-add, set-split, append-snoc}
+use lib.ListN.{length, getD, set, take, drop, length-append, length-drop, take-append-drop}
+use lib.Seq.{length-take-le, take-at, take-suc, drop-drop, drop-append-add, set-split, append-snoc}
 use Rattle.math.specs.Lists.{over, spliced}
 
 module _ {A : Type 0} where
@@ -48,3 +48,18 @@ module _ {A : Type 0} where
       (ap (λ (j : ℕ). drop (j + length b) (front ++ drop (i + length a) old)) (sym long) ∙ drop-append-add front (drop (i + length a) old) (length b)
       ∙ drop-drop (length b) (i + length a) old)
       ∙ ap₂ (λ (l : List A) (j : ℕ). l ++ drop j old) (append-assoc (take i old) a b) (add-assoc i (length a) (length b) ∙ ap (λ (j : ℕ). i + j) (sym (length-append a b)))
+
+  -- the element behind what is spliced in becomes the last of it
+  pub spliced-snoc : (i : ℕ) (new old : List A) (a : A) → i + length new < length old → set (spliced i new old) (i + length new) a ≡ spliced i (new ++ a ∷ []) old
+  spliced-snoc i new old a h =
+      spliced-one (i + length new) a (spliced i new old) (lt-of-lt-of-le h (le-of-eq (sym (length-spliced i new old (le-of-lt h)))))
+      ∙ spliced-next i new (a ∷ []) old (omega arith)
+
+  -- copying another list element by element: after j come j + 1
+  pub spliced-take-next : (i j : ℕ) (xs old : List A) (d : A) → j < length xs → i + j < length old
+      → set (spliced i (take j xs) old) (i + j) (getD xs j d) ≡ spliced i (take (j + 1) xs) old
+  spliced-take-next i j xs old d more room =
+      let long : length (take j xs) ≡ j = length-take-le j xs (le-of-lt more) in
+      ap (λ (k : ℕ). set (spliced i (take j xs) old) (i + k) (getD xs j d)) (sym long)
+      ∙ spliced-snoc i (take j xs) old (getD xs j d) (omega arith)
+      ∙ ap (λ l. spliced i l old) (sym (take-suc xs j d more) ∙ ap (λ (k : ℕ). take k xs) (sym (add-one j)))

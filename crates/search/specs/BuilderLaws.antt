@@ -1,5 +1,5 @@
 -- Laws of the builder's answer: a refusal, and the search that is run where there is none. Assumes nothing.
-use mathlib.Core.List.{List, [], _∷_, _++_, map}
+use mathlib.Core.List.{List, [], _∷_, map}
 use mathlib.Core.Path.{_≡_, refl, sym, ap, _∙_, subst}
 use Prim.Native.Nat.{ℕ, zero, suc}
 use native.Mathlib.Nat.{le-trans, le-of-eq}
@@ -17,8 +17,8 @@ use Rattle.formula.specs.Limits.{capacity}
 use Rattle.formula.specs.Problem.{problemOf}
 use Rattle.formula.specs.RefusalLaws.{formula-passes, formula-listed}
 use Rattle.formula.specs.Refusals.{formulaFault, permutationFault, symmetryFault, problemFault, faultOf}
-use Rattle.formula.specs.Reply.{Reply, Fault, sound, fault, first}
-use Rattle.formula.specs.ReplyLaws.{fault-not-sound, unless-sound}
+use Rattle.formula.specs.Reply.{Reply, Fault, sound, fault}
+use Rattle.formula.specs.ReplyLaws.{first-last, first-after, first-before, unless-sound}
 use Rattle.search.specs.Accepted.{rows, ready-of-faults, lent-of-faults, lent-few}
 use Rattle.search.specs.Builder.{replyOf, slotFault, searchFault, lentBy, searchReply, searchSlots, searchSlice, Searched}
 use Rattle.expansion.specs.declared.Frame.{Frame}
@@ -29,21 +29,6 @@ use Rattle.frontier.specs.Stepping.{framed, Searchable, Ended}
 use Rattle.traversal.specs.Invariants.{Ready}
 use Rattle.traversal.specs.Walk.{Slot, slot, start, Walks, walked}
 use Rattle.traversal.specs.WalkLaws.{walks-walked}
-
--- ---- one test more
-
-pub first-then : (fs : List Fault) (t : Fault) → first fs ≡ sound → first (fs ++ t ∷ []) ≡ t
-unfolding first
-first-then [] sound h = refl
-first-then [] (fault code place) h = refl
-first-then (sound ∷ fs) t h = first-then fs t h
-first-then (fault code place ∷ fs) t h = absurd (fault-not-sound code place h)
-
-pub first-kept : (fs : List Fault) (t : Fault) (code place : ℕ) → first fs ≡ fault code place → first (fs ++ t ∷ []) ≡ fault code place
-unfolding first
-first-kept [] t code place h = absurd (fault-not-sound code place (sym h))
-first-kept (sound ∷ fs) t code place h = first-kept fs t code place h
-first-kept (fault c p ∷ fs) t code place h = h
 
 -- ---- what the code hands to the search
 
@@ -63,11 +48,11 @@ module _ (f : Formula) (positive negative : List ℕ) where
 
   fault-refused : (lent code place : ℕ) → problemFault f positive negative ≡ fault code place → searchFault f positive negative lent ≡ fault code place
   unfolding searchFault problemFault problemOf
-  fault-refused lent code place h = first-kept tests (slotFault lent) code place h
+  fault-refused lent code place h = first-before tests (slotFault lent ∷ []) code place h
 
   fault-passed : (lent : ℕ) → problemFault f positive negative ≡ sound → searchFault f positive negative lent ≡ slotFault lent
   unfolding searchFault problemFault problemOf
-  fault-passed lent h = first-then tests (slotFault lent) h
+  fault-passed lent h = first-after tests (slotFault lent ∷ []) h ∙ first-last (slotFault lent)
 
   -- the rows 10 to 12 passed, and a slot lent
   fault-none : (lent : ℕ) → problemFault f positive negative ≡ sound → (lent ≡ 0 → ⊥) → searchFault f positive negative lent ≡ sound

@@ -1,0 +1,135 @@
+// The writer (01: 'Certificate'): puts the certificate of a formula and of filled slots into lent bytes.
+use certificate::Written;
+use formula::Checked;
+use formula::Formula;
+use formula::refusals::problem_refusal;
+use formula::room::room;
+use output::put_bytes;
+use output::put_contents;
+use output::put_numbers;
+use output::put_points;
+use transport::numbers_refusal;
+use transport::points_refusal;
+ghost use mathlib.Core.Path.{_≡_};
+ghost use Prim.Native.Nat.{_≤_};
+ghost use lib.ListN.{length};
+ghost use Rattle.math.specs.Lists.{over};
+ghost use Rattle.points.specs.Points.{numbered};
+ghost use Rattle.slices.specs.Slices.{pointsOf, clausesOf};
+ghost use Rattle.formula.specs.Limits.{capacity, maxVariables, maxPermutations, maxSlots};
+ghost use Rattle.formula.specs.Refusals.{faultOf};
+ghost use Rattle.certificate.specs.Certificate.{certificateLength};
+ghost use Rattle.certificate.specs.Writer.{Wrote};
+ghost use Rattle.writer.specs.Parts.{slotsFault, parts, Storable};
+
+// Refusals 16 and 17, in this order, of the first `count` slots.
+fn slots_refusal(
+    n: u32,
+    positive: &[u64],
+    negative: &[u64],
+    points: &[u64],
+    falsified: &[u32],
+    depths: &[u32],
+    count: u32,
+) -> Checked
+    ensures { λ r. ⌜ faultOf r ≡ slotsFault (capacity (length (pointsOf (now (points .entry)))) (length (now (falsified .entry))) (length (now (depths .entry)))) n (numbered (clausesOf (now (positive .entry)) (now (negative .entry)))) count (pointsOf (now (points .entry))) (now (falsified .entry)) ⌝ }
+{
+    let lent = room(points, falsified, depths);
+    let many = count as usize;
+    let sixteen = points_refusal(points, n, many, lent);
+    let Checked::Passed = sixteen else {
+        return sixteen;
+    };
+    numbers_refusal(positive, negative, points, falsified, many)
+}
+
+// The length of a certificate. Refusals 10, 11 and 16 see to what it requires.
+fn length_needed(n: u32, permutations: u32, count: u32) -> usize
+    requires { ⌜ (n ≤ maxVariables) × (permutations ≤ maxPermutations) × (count ≤ maxSlots) ⌝ }
+    ensures { λ r. ⌜ r ≡ certificateLength n permutations count ⌝ }
+{
+    let area = permutations as usize * n as usize;
+    let many = count as usize;
+    32 + area + many * 8 + many * 4
+}
+
+// Stores a certificate at the front of `out`: its contents, the permutations, the points and the clause numbers. The writer sees to what
+// it requires.
+fn put_certificate(
+    out: &mut [u8],
+    n: u32,
+    m: u32,
+    permutations: u32,
+    images: &[u8],
+    points: &[u64],
+    falsified: &[u32],
+    count: u32,
+)
+    requires { ⌜ Storable n permutations (now images) (now points) (now falsified) count (now out) ⌝ }
+    ensures { λ _. ⌜ now (out .exit) ≡ over (parts n m permutations (now (images .entry)) (now (points .entry)) (now (falsified .entry)) count) (now (out .entry)) ⌝ }
+{
+    let area = permutations as usize * n as usize;
+    let many = count as usize;
+    let points_at = 32 + area;
+    let numbers_at = points_at + many * 8;
+    put_contents(out, n, m, permutations, count, points_at, numbers_at);
+    put_bytes(out, 32, images, area);
+    put_points(out, points_at, points, many);
+    put_numbers(out, numbers_at, falsified, many);
+}
+
+// D2.4: writes the certificate of the formula and of the first `count` slots; refusals 10, 11, 12, 16, 17 and 19 leave `out` as it was.
+pub fn write(
+    f: Formula,
+    positive: &[u64],
+    negative: &[u64],
+    points: &[u64],
+    falsified: &[u32],
+    depths: &[u32],
+    count: u32,
+    out: &mut [u8],
+) -> Written
+    ensures { λ r. ⌜ Wrote f (now (positive .entry)) (now (negative .entry)) (now (points .entry)) (now (falsified .entry)) (now (depths .entry)) count (now (out .entry)) r (now (out .exit)) ⌝ }
+{
+    let checked = problem_refusal(f, positive, negative);
+    match checked {
+        Checked::Passed => {}
+        Checked::Refused { code, place } => {
+            return Written::Refused { code, place };
+        }
+    }
+    let slots = slots_refusal(
+        f.variables,
+        positive,
+        negative,
+        points,
+        falsified,
+        depths,
+        count,
+    );
+    match slots {
+        Checked::Passed => {}
+        Checked::Refused { code, place } => {
+            return Written::Refused { code, place };
+        }
+    }
+    let size = length_needed(f.variables, f.permutations, count);
+    if out.len() < size {
+        return Written::Refused {
+            code: 19,
+            place: size,
+        };
+    }
+    let images = f.images;
+    put_certificate(
+        out,
+        f.variables,
+        f.clauses,
+        f.permutations,
+        &images,
+        points,
+        falsified,
+        count,
+    );
+    Written::Bytes(size)
+}
