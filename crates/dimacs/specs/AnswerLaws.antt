@@ -16,23 +16,24 @@ use Rattle.images.specs.LoopLaws.{length-permutations}
 use Rattle.permutations.specs.Permutations.{permutationsIn}
 use Rattle.dimacs.specs.declared.Parse.the-variants.{Accepted}
 use Rattle.dimacs.specs.declared.Parsed.{Parsed}
-use Rattle.dimacs.specs.declared.lines.Advanced.{Advanced}
-use Rattle.dimacs.specs.declared.lines.Advanced.the-variants.{On, Refused}
-use Rattle.dimacs.specs.declared.lines.State.{State}
-use Rattle.dimacs.specs.declared.problem.Found.{Found}
-use Rattle.dimacs.specs.declared.problem.Found.the-variants.{Line as FoundLine, Absent}
-use Rattle.dimacs.specs.declared.words.Class.the-variants.{Line as LineBytes}
-use Rattle.dimacs.specs.Input.{Input, imagesOf, padded, formulaOf, positives, negatives}
-use Rattle.dimacs.specs.Reader.{Step, goes, refuses, andThen, walk, Sizes, problemWords, problemIn, withinLimits, lineStep, begin, inputOf, atEnd, withRoom, withSizes, withProblem, fromProblem, withLines, reading, replyTo, formulaFrom, sliceFrom, readReply, readFormula, readPositive, readNegative, Read}
-use Rattle.dimacs.specs.ClauseScans.{clausesFrom}
-use Rattle.dimacs.specs.ClauseScanLaws.{closed-length}
-use Rattle.dimacs.specs.LineScans.{wantedOr0, progressFrom, advancedOf, Table, Standing, nothingSaid}
-use Rattle.dimacs.specs.LineScanLaws.{images-take}
+use Rattle.lines.specs.declared.Advanced.{Advanced}
+use Rattle.lines.specs.declared.Advanced.the-variants.{On, Refused}
+use Rattle.lines.specs.declared.State.{State}
+use Rattle.preamble.specs.declared.Found.{Found}
+use Rattle.preamble.specs.declared.Found.the-variants.{Line as FoundLine, Absent}
+use Rattle.words.specs.declared.Class.the-variants.{Line as LineBytes}
+use Rattle.text.specs.Input.{Input, imagesOf, padded, formulaOf, positives, negatives}
+use Rattle.text.specs.Reader.{Step, goes, refuses, andThen, walk, Sizes, problemWords, problemIn, withinLimits, lineStep, begin, inputOf, atEnd, withRoom, withSizes, withProblem, fromProblem, withLines, reading, replyTo, formulaFrom, sliceFrom, readReply, readFormula, readPositive, readNegative}
+use Rattle.dimacs.specs.Contract.{Read}
+use Rattle.clauses.specs.ClauseScans.{clausesFrom}
+use Rattle.clauses.specs.ClauseScanLaws.{closed-length}
+use Rattle.lines.specs.LineScans.{wantedOr0, progressFrom, advancedOf, Table, Standing, nothingSaid}
+use Rattle.lines.specs.LineScanLaws.{images-take}
 use Rattle.dimacs.specs.Answers.{Copying, refusedWith, Limited, Answers}
-use Rattle.dimacs.specs.ProblemScans.{linesBehind, ProblemFound}
-use Rattle.dimacs.specs.Scans.{belongs, Stretch}
-use Rattle.dimacs.specs.Text.{maxText, Line, piece, lines, begins, problemWord}
-use Rattle.dimacs.specs.TextLaws.{words-bytes}
+use Rattle.preamble.specs.ProblemScans.{ProblemFound}
+use Rattle.words.specs.Scans.{belongs, Stretch, linesBehind}
+use Rattle.text.specs.Text.{maxText, Line, piece, lines, begins, problemWord}
+use Rattle.text.specs.TextLaws.{words-bytes}
 
 -- ---- the copy
 

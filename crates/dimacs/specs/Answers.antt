@@ -7,8 +7,9 @@ use lib.Seq.{paste}
 use Rattle.formula.specs.Problem.{emptyFormula}
 use Rattle.dimacs.specs.declared.Parse.the-variants.{Refused}
 use Rattle.dimacs.specs.declared.Parsed.{Parsed}
-use Rattle.dimacs.specs.Input.{Input, positives, negatives}
-use Rattle.dimacs.specs.Reader.{Step, replyTo, formulaFrom, sliceFrom, replyOf}
+use Rattle.text.specs.Input.{Input, positives, negatives}
+use Rattle.text.specs.Reader.{Step, replyTo, formulaFrom, sliceFrom}
+use Rattle.dimacs.specs.Contract.{replyOf}
 
 -- the loop that copies: the first i numbers are there, the others as they were
 pub record Copying (from to₀ : List ℕ) (count : ℕ) (to : List ℕ) (i : ℕ) : Type 0 where

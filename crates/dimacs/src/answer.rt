@@ -1,10 +1,10 @@
 // The reader's answer: the formula beside it, and the clauses in the two lent slices.
 use crate::Parse;
 use crate::Parsed;
-use crate::lines::Advanced;
-use crate::lines::State;
-use crate::lines::read_lines;
 use formula::Formula;
+use lines::Advanced;
+use lines::State;
+use lines::read_lines;
 use points::Point;
 use slices::point_at;
 use slices::point_count;
@@ -13,10 +13,10 @@ ghost use mathlib.Core.Path.{_≡_};
 ghost use Prim.Native.Nat.{_-_, _≤_};
 ghost use lib.ListN.{length, take, drop};
 ghost use Rattle.math.specs.Lists.{over};
-ghost use Rattle.dimacs.specs.Text.{maxText, piece};
-ghost use Rattle.dimacs.specs.Reader.{andThen, walk, lineStep, begin, atEnd, withSizes};
-ghost use Rattle.dimacs.specs.LineScans.{wantedOr0, advancedOf, progressFrom, Standing, Stands};
-ghost use Rattle.dimacs.specs.ProblemScans.{linesBehind};
+ghost use Rattle.text.specs.Text.{maxText, piece};
+ghost use Rattle.text.specs.Reader.{andThen, walk, lineStep, begin, atEnd, withSizes};
+ghost use Rattle.lines.specs.LineScans.{wantedOr0, advancedOf, progressFrom, Standing, Stands};
+ghost use Rattle.words.specs.Scans.{linesBehind};
 ghost use Rattle.dimacs.specs.Answers.{refusedWith, Answers, Limited, Spacious};
 
 // N2: "a refusal carries one that is 0 throughout".

@@ -1,19 +1,14 @@
-// The text format, DIMACS CNF, and the answer of its reader.
+// The reader of texts in DIMACS CNF: for any bytes a formula and its clauses, or a numbered refusal with its place.
 use crate::answer::read_sized;
 use crate::answer::refused;
-use crate::problem::Found;
-use crate::problem::Sizing;
-use crate::problem::find_problem;
-use crate::problem::read_problem;
 use formula::Formula;
-ghost use Rattle.dimacs.specs.Reader.{Read};
+use preamble::Found;
+use preamble::Sizing;
+use preamble::find_problem;
+use preamble::read_problem;
+ghost use Rattle.dimacs.specs.Contract.{Read};
 
 mod answer;
-pub mod clauses;
-pub mod comments;
-pub mod lines;
-pub mod problem;
-pub mod words;
 
 // S7: "The text is at most 1,048,576 bytes."
 const MAX_TEXT: usize = 1048576;

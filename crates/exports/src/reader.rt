@@ -9,7 +9,7 @@ ghost use mathlib.Core.Path.{_≡_};
 ghost use Prim.Native.Nat.{_≤_};
 ghost use lib.ListN.{length};
 ghost use Rattle.math.specs.Lists.{over};
-ghost use Rattle.dimacs.specs.Reader.{replyOf};
+ghost use Rattle.dimacs.specs.Contract.{replyOf};
 ghost use Rattle.exports.specs.Words.{wordsOf, numbersOf};
 ghost use Rattle.exports.specs.Reader.{ReadTold};
 

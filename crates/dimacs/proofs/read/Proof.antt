@@ -2,9 +2,9 @@
 use mathlib.Core.Path.{sym, ap, _∙_}
 use borrow.Author.Needs.{needs}
 use Rattle.dimacs.specs.AnswerLaws.{answers-refused, answers-same, answers-read, text-long, text-absent, text-malformed, text-sized, problem-place}
-use Rattle.dimacs.specs.declared.words.Class.the-variants.{Line}
-use Rattle.dimacs.specs.Scans.{belongs, Stretch}
-use Rattle.dimacs.specs.ProblemScans.{sizingOf}
+use Rattle.words.specs.declared.Class.the-variants.{Line}
+use Rattle.words.specs.Scans.{belongs, Stretch}
+use Rattle.preamble.specs.ProblemScans.{sizingOf}
 use Rattle.dimacs.proofs.read.Statement.{statement}
 use Rattle.dimacs.proofs.read.Tie as tie
 

@@ -2,7 +2,7 @@
 use mathlib.Core.Path.{subst}
 use borrow.Author.Needs.{needs}
 use Rattle.dimacs.specs.AnswerLaws.{answers-refused, finish-on, finish-refused}
-use Rattle.dimacs.specs.LineScans.{Stands}
+use Rattle.lines.specs.LineScans.{Stands}
 use Rattle.dimacs.proofs.answer.finish.Statement.{statement}
 use Rattle.dimacs.proofs.answer.finish.Tie as tie
 

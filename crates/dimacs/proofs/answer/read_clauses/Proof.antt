@@ -3,7 +3,7 @@
 use mathlib.Core.Path.{refl, sym, ap}
 use lib.ListN.{length}
 use Rattle.dimacs.specs.AnswerLaws.{arrays-stand, answers-same}
-use Rattle.dimacs.specs.Reader.{andThen, atEnd}
+use Rattle.text.specs.Reader.{andThen, atEnd}
 use Rattle.dimacs.proofs.answer.read_clauses.Statement.{statement}
 use Rattle.dimacs.proofs.answer.read_clauses.Tie as tie
 

@@ -5,7 +5,7 @@ use Prim.Native.Nat.{ℕ}
 use borrow.Author.Needs.{needs}
 use Rattle.math.specs.Lists.{over}
 use Rattle.dimacs.specs.declared.Parse.{Parse}
-use Rattle.dimacs.specs.Reader.{replyOf}
+use Rattle.dimacs.specs.Contract.{replyOf}
 use Rattle.exports.specs.Words.{wordsOf}
 use Rattle.exports.proofs.reader.put_parse.Statement.{statement}
 use Rattle.exports.proofs.reader.put_parse.Tie as tie
