@@ -3,16 +3,9 @@
 use mathlib.Core.List.{List}
 use mathlib.Core.Path.{_≡_}
 use Prim.Native.Nat.{ℕ}
-use Rattle.formula.specs.Reply.{Reply, parsed, refused}
+use Rattle.answer.specs.Answers.{replyOf}
 use Rattle.text.specs.Reader.{readReply, readFormula, readPositive, readNegative}
-use Rattle.dimacs.specs.declared.Parse.{Parse}
-use Rattle.dimacs.specs.declared.Parse.the-variants.{Accepted, Refused}
-use Rattle.dimacs.specs.declared.Parsed.{Parsed}
-
--- F10: the reply that an answer of the code is
-abbrev pub replyOf : Parse → Reply
-replyOf Accepted = parsed
-replyOf (Refused code place) = refused code place
+use Rattle.answer.specs.declared.Parsed.{Parsed}
 
 -- D2.1: "A sheet is read as DIMACS CNF, as document 01 fixes it.": from a text and the two slices at entry, the answer and the slices at exit
 pub record Read (text positive₀ negative₀ : List ℕ) (r : Parsed) (positive₁ negative₁ : List ℕ) : Type 0 where

@@ -1,4 +1,3 @@
--- What the reader promises (Contract), what its functions promise to each other, and the laws that their proofs use.
+-- What the reader promises (Contract), and the laws that its proof uses.
 pub mod Contract
-pub mod Answers
-pub mod AnswerLaws
+pub mod ReadLaws

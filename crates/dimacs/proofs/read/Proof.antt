@@ -2,7 +2,8 @@
 use mathlib.Core.Path.{sym, ap, _∙_}
 use native.Mathlib.Omega.{arith}
 use borrow.Author.Needs.{needs}
-use Rattle.dimacs.specs.AnswerLaws.{answers-refused, answers-same, answers-read, text-long, text-absent, text-malformed, text-sized, problem-place}
+use Rattle.answer.specs.AnswerLaws.{answers-refused, answers-same}
+use Rattle.dimacs.specs.ReadLaws.{answers-read, text-long, text-absent, text-malformed, text-sized, problem-place}
 use Rattle.words.specs.declared.Class.the-variants.{Line}
 use Rattle.words.specs.Scans.{belongs, Stretch}
 use Rattle.preamble.specs.ProblemScans.{sizingOf}

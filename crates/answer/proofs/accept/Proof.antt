@@ -1,8 +1,8 @@
--- `dimacs::answer::accept` meets its contract: too few clauses are refused, else the clauses go to the slices. Assumes nothing.
+-- `answer::accept` meets its contract: too few clauses are refused, else the clauses go to the slices. Assumes nothing.
 use borrow.Author.Needs.{needs}
-use Rattle.dimacs.specs.AnswerLaws.{end-refused, answers-refused, answers-accepted}
-use Rattle.dimacs.proofs.answer.accept.Statement.{statement}
-use Rattle.dimacs.proofs.answer.accept.Tie as tie
+use Rattle.answer.specs.AnswerLaws.{end-refused, answers-refused, answers-accepted}
+use Rattle.answer.proofs.accept.Statement.{statement}
+use Rattle.answer.proofs.accept.Tie as tie
 
 refused-requires : tie.Need-refused-requires
 refused-requires c κs = search needs

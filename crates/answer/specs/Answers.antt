@@ -5,11 +5,17 @@ use Prim.Native.Nat.{ℕ, _≤_}
 use lib.ListN.{length}
 use lib.Seq.{paste}
 use Rattle.formula.specs.Problem.{emptyFormula}
-use Rattle.dimacs.specs.declared.Parse.the-variants.{Refused}
-use Rattle.dimacs.specs.declared.Parsed.{Parsed}
+use Rattle.formula.specs.Reply.{Reply, parsed, refused}
+use Rattle.answer.specs.declared.Parse.{Parse}
+use Rattle.answer.specs.declared.Parse.the-variants.{Accepted, Refused}
+use Rattle.answer.specs.declared.Parsed.{Parsed}
 use Rattle.text.specs.Input.{Input, positives, negatives}
 use Rattle.text.specs.Reader.{Step, replyTo, formulaFrom, sliceFrom}
-use Rattle.dimacs.specs.Contract.{replyOf}
+
+-- F10: the reply that an answer of the code is
+abbrev pub replyOf : Parse → Reply
+replyOf Accepted = parsed
+replyOf (Refused code place) = refused code place
 
 -- the loop that copies: the first i numbers are there, the others as they were
 pub record Copying (from to₀ : List ℕ) (count : ℕ) (to : List ℕ) (i : ℕ) : Type 0 where

@@ -1,10 +1,11 @@
--- `dimacs::answer::read_sized` meets its contract: the limits, the room, then the lines. Assumes nothing.
+-- `dimacs::read_sized` meets its contract: the limits, the room, then the lines. Assumes nothing.
 use mathlib.Core.Path.{sym}
 use native.Mathlib.Nat.{le-of-eq, le-trans, lt-of-le-of-lt}
 use borrow.Author.Needs.{needs}
-use Rattle.dimacs.specs.AnswerLaws.{answers-refused, answers-same, sizes-low, sizes-high, sizes-many, room-first, room-second, room-both}
-use Rattle.dimacs.proofs.answer.read_sized.Statement.{statement}
-use Rattle.dimacs.proofs.answer.read_sized.Tie as tie
+use Rattle.answer.specs.AnswerLaws.{answers-refused, answers-same}
+use Rattle.dimacs.specs.ReadLaws.{sizes-low, sizes-high, sizes-many, room-first, room-second, room-both}
+use Rattle.dimacs.proofs.read_sized.Statement.{statement}
+use Rattle.dimacs.proofs.read_sized.Tie as tie
 
 refused-requires : tie.Need-refused-requires
 refused-requires c κs = search needs

@@ -1,10 +1,10 @@
--- `dimacs::answer::finish` meets its contract: on to the end of the text, or the lines' refusal. Assumes nothing.
+-- `answer::finish` meets its contract: on to the end of the text, or the lines' refusal. Assumes nothing.
 use mathlib.Core.Path.{subst}
 use borrow.Author.Needs.{needs}
-use Rattle.dimacs.specs.AnswerLaws.{answers-refused, finish-on, finish-refused}
+use Rattle.answer.specs.AnswerLaws.{answers-refused, finish-on, finish-refused}
 use Rattle.lines.specs.LineScans.{Stands}
-use Rattle.dimacs.proofs.answer.finish.Statement.{statement}
-use Rattle.dimacs.proofs.answer.finish.Tie as tie
+use Rattle.answer.proofs.finish.Statement.{statement}
+use Rattle.answer.proofs.finish.Tie as tie
 
 enum-known-done : tie.Need-enum-known-done
 enum-known-done c = search needs

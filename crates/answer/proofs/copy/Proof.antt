@@ -1,11 +1,11 @@
--- `dimacs::answer::copy` meets its contract: the first i numbers are there, the others as they were. Assumes nothing.
+-- `answer::copy` meets its contract: the first i numbers are there, the others as they were. Assumes nothing.
 use Prim.Native.Nat.{_-_}
 use native.Mathlib.Omega.{arith}
 use borrow.Author.Needs.{needs}
-use Rattle.dimacs.specs.AnswerLaws.{copy-begins, copy-length, copy-goes-on, copy-ends}
-use Rattle.dimacs.specs.Answers.{Copying}
-use Rattle.dimacs.proofs.answer.copy.Statement.{statement}
-use Rattle.dimacs.proofs.answer.copy.Tie as tie
+use Rattle.answer.specs.AnswerLaws.{copy-begins, copy-length, copy-goes-on, copy-ends}
+use Rattle.answer.specs.Answers.{Copying}
+use Rattle.answer.proofs.copy.Statement.{statement}
+use Rattle.answer.proofs.copy.Tie as tie
 
 abbrev Inv-loop : tie.InvT-loop
 Inv-loop from to₀ count i₀ to i = Copying from to₀ count to i

@@ -1,11 +1,11 @@
--- `dimacs::answer::refused` meets its contract. Assumes nothing.
+-- `answer::refused` meets its contract. Assumes nothing.
 use mathlib.Core.Path.{ap}
 use borrow.Author.Needs.{needs}
 use Rattle.formula.specs.declared.Formula.{Formula}
-use Rattle.dimacs.specs.declared.Parsed.{Parsed}
-use Rattle.dimacs.specs.declared.Parse.the-variants.{Refused}
-use Rattle.dimacs.proofs.answer.refused.Statement.{statement}
-use Rattle.dimacs.proofs.answer.refused.Tie as tie
+use Rattle.answer.specs.declared.Parsed.{Parsed}
+use Rattle.answer.specs.declared.Parse.the-variants.{Refused}
+use Rattle.answer.proofs.refused.Statement.{statement}
+use Rattle.answer.proofs.refused.Tie as tie
 
 empty-requires : tie.Need-empty-requires
 empty-requires c κs = search needs

@@ -1,23 +1,32 @@
-// The reader's answer: the formula beside it, and the clauses in the two lent slices.
-use crate::Parse;
-use crate::Parsed;
+// The reader's answer: the clauses, collected apart until the text is accepted, and the formula beside them.
 use formula::Formula;
 use lines::Advanced;
 use lines::State;
 use lines::read_lines;
 use points::Point;
 use slices::point_at;
-use slices::point_count;
 use slices::put_point;
 ghost use mathlib.Core.Path.{_≡_};
-ghost use Prim.Native.Nat.{_-_, _≤_};
-ghost use lib.ListN.{length, take, drop};
+ghost use Prim.Native.Nat.{_≤_};
+ghost use lib.ListN.{length, take};
 ghost use Rattle.math.specs.Lists.{over};
-ghost use Rattle.text.specs.Text.{maxText, piece};
-ghost use Rattle.text.specs.Reader.{andThen, walk, lineStep, begin, atEnd, withSizes};
+ghost use Rattle.text.specs.Text.{maxText};
+ghost use Rattle.text.specs.Reader.{andThen, walk, lineStep, begin, atEnd};
 ghost use Rattle.lines.specs.LineScans.{wantedOr0, advancedOf, progressFrom, Standing, Stands};
 ghost use Rattle.words.specs.Scans.{linesBehind};
-ghost use Rattle.dimacs.specs.Answers.{refusedWith, Answers, Limited, Spacious};
+ghost use Rattle.answer.specs.Answers.{refusedWith, Answers, Limited, Spacious};
+
+// What the reader says of a text.
+pub enum Parse {
+    Accepted,
+    Refused { code: u32, place: usize },
+}
+
+// The formula read, 0 throughout after a refusal, beside the answer.
+pub struct Parsed {
+    pub formula: Formula,
+    pub answer: Parse,
+}
 
 // N2: "a refusal carries one that is 0 throughout".
 pub fn refused(code: u32, place: usize) -> Parsed
@@ -108,9 +117,30 @@ fn finish(
     }
 }
 
-// N1: the clauses are collected in arrays of the function's own, so that a later refusal finds the lent slices unchanged. Refusals 1, 3 and 4
-// see to what it requires.
-fn read_clauses(
+// N1: the clauses are collected in `p` and `q`, so that a later refusal finds the lent slices unchanged. `read_clauses` sees to what it
+// requires.
+fn collect(
+    text: &[u8],
+    end: usize,
+    n: u32,
+    total: u32,
+    p: &mut [u64],
+    q: &mut [u64],
+    positive: &mut [u64],
+    negative: &mut [u64],
+) -> Parsed
+    requires { ⌜ Limited n total × Spacious total (now p) (now q) × Spacious total (now positive) (now negative) × (length (now text) ≤ maxText) × (end ≤ length (now text)) ⌝ }
+    ensures { λ r. ⌜ Answers (andThen (walk (lineStep (record { variables = n; total = total })) begin (linesBehind (now (text .entry)) end)) (atEnd (length (now (text .entry))) (record { variables = n; total = total }))) (now (positive .entry)) (now (negative .entry)) r (now (positive .exit)) (now (negative .exit)) ⌝ }
+{
+    let size = text.len();
+    let mut table = [0u8; 1024];
+    let done = read_lines(text, end, n, total, p, q, &mut table);
+    finish(size, n, total, done, p, q, table, positive, negative)
+}
+
+// The lines, with arrays of the function's own to collect the clauses in. `dimacs::read_sized` sees to what it requires, by
+// refusals 1, 3 and 4.
+pub fn read_clauses(
     text: &[u8],
     end: usize,
     n: u32,
@@ -121,42 +151,7 @@ fn read_clauses(
     requires { ⌜ Limited n total × Spacious total (now positive) (now negative) × (length (now text) ≤ maxText) × (end ≤ length (now text)) ⌝ }
     ensures { λ r. ⌜ Answers (andThen (walk (lineStep (record { variables = n; total = total })) begin (linesBehind (now (text .entry)) end)) (atEnd (length (now (text .entry))) (record { variables = n; total = total }))) (now (positive .entry)) (now (negative .entry)) r (now (positive .exit)) (now (negative .exit)) ⌝ }
 {
-    let size = text.len();
     let mut p = [0u64; 4096];
     let mut q = [0u64; 4096];
-    let mut table = [0u8; 1024];
-    let done = read_lines(text, end, n, total, &mut p, &mut q, &mut table);
-    finish(size, n, total, done, &p, &q, table, positive, negative)
-}
-
-// R3: "V or C outside limits | 3 | line's first byte"; R4: "a rule slice shorter than C | 4 | line's first byte".
-pub fn read_sized(
-    text: &[u8],
-    start: usize,
-    stop: usize,
-    variables: u32,
-    total: u32,
-    positive: &mut [u64],
-    negative: &mut [u64],
-) -> Parsed
-    requires { ⌜ (length (now text) ≤ maxText) × (stop ≤ length (now text)) ⌝ }
-    ensures { λ r. ⌜ Answers (withSizes (length (now (text .entry))) (length (now (positive .entry))) (length (now (negative .entry))) (piece start (take (stop - start) (drop start (now (text .entry))))) (linesBehind (now (text .entry)) stop) (record { variables = variables; total = total })) (now (positive .entry)) (now (negative .entry)) r (now (positive .exit)) (now (negative .exit)) ⌝ }
-{
-    if variables < 1 {
-        return refused(3, start);
-    }
-    if Formula::MAX_VARIABLES < variables {
-        return refused(3, start);
-    }
-    if Formula::MAX_CLAUSES < total {
-        return refused(3, start);
-    }
-    let count = total as usize;
-    if point_count(positive) < count {
-        return refused(4, start);
-    }
-    if point_count(negative) < count {
-        return refused(4, start);
-    }
-    read_clauses(text, stop, variables, total, positive, negative)
+    collect(text, end, n, total, &mut p, &mut q, positive, negative)
 }

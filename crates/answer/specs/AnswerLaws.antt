@@ -1,39 +1,29 @@
 -- Laws of the reader's answer: the copy into the lent slices, the formula, and refusals. Assumes nothing.
-use mathlib.Core.Bool.{cond}
 use mathlib.Core.List.{List, [], _∷_, _++_}
-use mathlib.Core.Option.{Option, some, none}
 use mathlib.Core.Path.{_≡_, refl, sym, ap, ap₂, _∙_, subst}
 use Prim.Native.Nat.{ℕ, _+_, _-_, _*_, _≤_, _<_, zero-le}
-use native.Mathlib.Nat.{zero-add, zero-mul, mul-le-mul-right, le-trans, le-of-eq}
+use native.Mathlib.Nat.{zero-add, zero-mul, mul-le-mul-right}
 use native.Mathlib.Numerals.{add-one}
 use native.Mathlib.Omega.{arith}
 use lib.ListN.{length, getD, take, drop, set, replicate, take-append-drop, length-replicate}
 use lib.Seq.{paste, paste-zero, paste-suc, length-paste, length-take-le}
-use borrow.Author.Tests.{eq-eqb, ne-eqb, le-leb, lt-leb}
+use borrow.Author.Tests.{eq-eqb, ne-eqb}
 use Rattle.math.specs.Lists.{over}
 use Rattle.slices.specs.Slices.{clausesOf}
 use Rattle.images.specs.LoopLaws.{length-permutations}
 use Rattle.permutations.specs.Permutations.{permutationsIn}
-use Rattle.dimacs.specs.declared.Parse.the-variants.{Accepted}
-use Rattle.dimacs.specs.declared.Parsed.{Parsed}
+use Rattle.answer.specs.declared.Parse.the-variants.{Accepted}
+use Rattle.answer.specs.declared.Parsed.{Parsed}
 use Rattle.lines.specs.declared.Advanced.{Advanced}
 use Rattle.lines.specs.declared.Advanced.the-variants.{On, Refused}
 use Rattle.lines.specs.declared.State.{State}
-use Rattle.preamble.specs.declared.Found.{Found}
-use Rattle.preamble.specs.declared.Found.the-variants.{Line as FoundLine, Absent}
-use Rattle.words.specs.declared.Class.the-variants.{Line as LineBytes}
 use Rattle.text.specs.Input.{Input, imagesOf, padded, formulaOf, positives, negatives}
-use Rattle.text.specs.Reader.{Step, goes, refuses, andThen, walk, Sizes, problemWords, problemIn, withinLimits, lineStep, begin, inputOf, atEnd, withRoom, withSizes, withProblem, fromProblem, withLines, reading, replyTo, formulaFrom, sliceFrom, readReply, readFormula, readPositive, readNegative}
-use Rattle.dimacs.specs.Contract.{Read}
+use Rattle.text.specs.Reader.{Step, goes, refuses, andThen, Sizes, inputOf, atEnd, replyTo, formulaFrom, sliceFrom}
 use Rattle.clauses.specs.ClauseScans.{clausesFrom}
 use Rattle.clauses.specs.ClauseScanLaws.{closed-length}
 use Rattle.lines.specs.LineScans.{wantedOr0, progressFrom, advancedOf, Table, Standing, nothingSaid}
 use Rattle.lines.specs.LineScanLaws.{images-take}
-use Rattle.dimacs.specs.Answers.{Copying, refusedWith, Limited, Answers}
-use Rattle.preamble.specs.ProblemScans.{ProblemFound}
-use Rattle.words.specs.Scans.{belongs, Stretch, linesBehind}
-use Rattle.text.specs.Text.{maxText, Line, piece, lines, begins, problemWord}
-use Rattle.text.specs.TextLaws.{words-bytes}
+use Rattle.answer.specs.Answers.{Copying, refusedWith, Limited, Spacious, Answers}
 
 -- ---- the copy
 
@@ -101,6 +91,10 @@ answers-refused m code place positive negative r e f =
     subst (λ t. Answers t positive negative r positive negative) (sym e)
     (subst (λ x. Answers (refuses code place) positive negative x positive negative) (sym f) (record { reply = refl; formula = refl; positive = refl; negative = refl }))
 
+pub answers-same : {m k : Step Input} {positive₀ negative₀ positive₁ negative₁ : List ℕ} {r : Parsed} → k ≡ m → Answers m positive₀ negative₀ r positive₁ negative₁
+    → Answers k positive₀ negative₀ r positive₁ negative₁
+answers-same {positive₀ = positive₀} {negative₀} {positive₁} {negative₁} {r} e a = subst (λ t. Answers t positive₀ negative₀ r positive₁ negative₁) (sym e) a
+
 module _ (size : ℕ) (z : Sizes) (s : State) (p q table : List ℕ) (st : Standing z s p q table) where
   closed-size : length (clausesFrom p q (s .begun) .closed) ≡ s .begun .closed
   closed-size =
@@ -163,108 +157,17 @@ module _ (n : ℕ) (z : Sizes) (size : ℕ) (p q table : List ℕ) (done : Advan
 
 -- ---- before the lines
 
--- the arrays and the table as they begin
-pub arrays-stand : (z : Sizes) (p q table : List ℕ) → Limited (z .variables) (z .total) → p ≡ replicate 4096 0 → q ≡ replicate 4096 0 → table ≡ replicate 1024 0
+-- slices with room and the table as it begins
+pub slices-stand : (z : Sizes) (p q table : List ℕ) → Limited (z .variables) (z .total) → Spacious (z .total) p q → table ≡ replicate 1024 0
     → Standing z nothingSaid p q table
-arrays-stand z p q table l ep eq et =
-    let sp : length p ≡ 4096 = ap length ep ∙ length-replicate {A = ℕ} 4096 0 in
-    let sq : length q ≡ 4096 = ap length eq ∙ length-replicate {A = ℕ} 4096 0 in
-    let few = l .few in
+slices-stand z p q table l room e =
     record {
       ready =
-          record {
-            variables = l .variables;
-            few = few;
-            room-positive = le-trans few (le-of-eq (sym sp));
-            room-negative = le-trans few (le-of-eq (sym sq));
-            closed = zero-le;
-          };
+          record { variables = l .variables; few = l .few; room-positive = room .room-positive; room-negative = room .room-negative; closed = zero-le };
       images =
           record {
             few = zero-le;
-            places = ap length et ∙ length-replicate {A = ℕ} 1024 0;
-            unused = ap (λ j. drop j table) (zero-mul (z .variables)) ∙ et ∙ ap (λ j. replicate (1024 - j) 0) (sym (zero-mul (z .variables)));
+            places = ap length e ∙ length-replicate {A = ℕ} 1024 0;
+            unused = ap (λ j. drop j table) (zero-mul (z .variables)) ∙ e ∙ ap (λ j. replicate (1024 - j) 0) (sym (zero-mul (z .variables)));
           };
     }
-
-module _ (size a b : ℕ) (l : Line) (after : List Line) (z : Sizes) where
-  pub sizes-low : z .variables < 1 → withSizes size a b l after z ≡ refuses 3 (l .start)
-  unfolding withSizes withinLimits
-  sizes-low h = rw (lt-leb 1 (z .variables) h)
-
-  pub sizes-high : 1 ≤ z .variables → 64 < z .variables → withSizes size a b l after z ≡ refuses 3 (l .start)
-  unfolding withSizes withinLimits
-  sizes-high lo h = rw (le-leb 1 (z .variables) lo, lt-leb (z .variables) 64 h)
-
-  pub sizes-many : 1 ≤ z .variables → z .variables ≤ 64 → 4096 < z .total → withSizes size a b l after z ≡ refuses 3 (l .start)
-  unfolding withSizes withinLimits
-  sizes-many lo hi h = rw (le-leb 1 (z .variables) lo, le-leb (z .variables) 64 hi, lt-leb (z .total) 4096 h)
-
-  module _ (lo : 1 ≤ z .variables) (hi : z .variables ≤ 64) (few : z .total ≤ 4096) where
-    sizes-fit : withSizes size a b l after z ≡ withRoom size a b l after z
-    unfolding withSizes withinLimits
-    sizes-fit = rw (le-leb 1 (z .variables) lo, le-leb (z .variables) 64 hi, le-leb (z .total) 4096 few)
-
-    pub room-first : a < z .total → withSizes size a b l after z ≡ refuses 4 (l .start)
-    unfolding withRoom
-    room-first h = sizes-fit ∙ rw (lt-leb (z .total) a h)
-
-    pub room-second : z .total ≤ a → b < z .total → withSizes size a b l after z ≡ refuses 4 (l .start)
-    unfolding withRoom
-    room-second g h = sizes-fit ∙ rw (le-leb (z .total) a g, lt-leb (z .total) b h)
-
-    pub room-both : z .total ≤ a → z .total ≤ b → withSizes size a b l after z ≡ andThen (walk (lineStep z) begin after) (atEnd size z)
-    unfolding withRoom
-    room-both g h = sizes-fit ∙ rw (le-leb (z .total) a g, le-leb (z .total) b h)
-
--- ---- the whole text
-
--- what a problem line says does not depend on where it stands
-problem-anywhere : (start : ℕ) (line : List ℕ) → problemIn (piece start line) ≡ problemIn (piece 0 line)
-unfolding problemIn
-problem-anywhere start line = ap (λ l. cond (begins problemWord line) (problemWords l) none) (words-bytes start 0 line)
-
-pub answers-same : {m k : Step Input} {positive₀ negative₀ positive₁ negative₁ : List ℕ} {r : Parsed} → k ≡ m → Answers m positive₀ negative₀ r positive₁ negative₁
-    → Answers k positive₀ negative₀ r positive₁ negative₁
-answers-same {positive₀ = positive₀} {negative₀} {positive₁} {negative₁} {r} e a = subst (λ t. Answers t positive₀ negative₀ r positive₁ negative₁) (sym e) a
-
-pub answers-read : (text positive₀ negative₀ : List ℕ) (r : Parsed) (positive₁ negative₁ : List ℕ)
-    → Answers (reading text (length positive₀) (length negative₀)) positive₀ negative₀ r positive₁ negative₁ → Read text positive₀ negative₀ r positive₁ negative₁
-unfolding readReply readFormula readPositive readNegative
-answers-read text positive₀ negative₀ r positive₁ negative₁ a = record { reply = a .reply; formula = a .formula; positive = a .positive; negative = a .negative }
-
-module _ (text : List ℕ) (a b : ℕ) where
-  pub text-long : maxText < length text → reading text a b ≡ refuses 1 maxText
-  unfolding reading
-  text-long h = rw (lt-leb (length text) maxText h)
-
-  module _ (h : length text ≤ maxText) where
-    by-lines : reading text a b ≡ withLines (length text) a b (fromProblem (lines 0 text))
-    unfolding reading
-    by-lines = rw (le-leb (length text) maxText h)
-
-    pub text-absent : (r : Found) → ProblemFound text r → r ≡ Absent → reading text a b ≡ refuses 2 (length text)
-    unfolding withLines
-    text-absent (FoundLine start stop) f e = absurd (let z : _≡_ {A = ℕ} 0 1 = cc in omega arith)
-    text-absent Absent f e = by-lines ∙ ap (withLines (length text) a b) f
-
-    module _ (r : Found) (found : ProblemFound text r) (start stop : ℕ) (e : r ≡ FoundLine start stop) where
-      pub problem-place : Stretch (belongs LineBytes) text start stop
-      problem-place = subst (ProblemFound text) e found .0
-
-      by-problem : (o : Option Sizes) → o ≡ problemIn (piece 0 (take (stop - start) (drop start text)))
-          → reading text a b ≡ withProblem (length text) a b (piece start (take (stop - start) (drop start text))) (linesBehind text stop) o
-      unfolding withLines
-      by-problem o f =
-          by-lines ∙ ap (withLines (length text) a b) (subst (ProblemFound text) e found .1)
-          ∙ ap (withProblem (length text) a b (piece start (take (stop - start) (drop start text))) (linesBehind text stop))
-          (problem-anywhere start (take (stop - start) (drop start text)) ∙ sym f)
-
-      pub text-malformed : none ≡ problemIn (piece 0 (take (stop - start) (drop start text))) → reading text a b ≡ refuses 2 start
-      unfolding withProblem
-      text-malformed f = by-problem none f
-
-      pub text-sized : (z : Sizes) → some z ≡ problemIn (piece 0 (take (stop - start) (drop start text)))
-          → reading text a b ≡ withSizes (length text) a b (piece start (take (stop - start) (drop start text))) (linesBehind text stop) z
-      unfolding withProblem
-      text-sized z f = by-problem (some z) f
