@@ -14,16 +14,17 @@ use Rattle.images.specs.LoopLaws.{length-permutations}
 use Rattle.permutations.specs.Permutations.{permutationsIn}
 use Rattle.answer.specs.declared.Parse.the-variants.{Accepted}
 use Rattle.answer.specs.declared.Parsed.{Parsed}
-use Rattle.lines.specs.declared.Advanced.{Advanced}
-use Rattle.lines.specs.declared.Advanced.the-variants.{On, Refused}
-use Rattle.lines.specs.declared.State.{State}
+use Rattle.handlers.specs.declared.Advanced.{Advanced}
+use Rattle.handlers.specs.declared.Advanced.the-variants.{On, Refused}
+use Rattle.handlers.specs.declared.State.{State}
 use Rattle.text.specs.Input.{Input, imagesOf, padded, formulaOf, positives, negatives}
 use Rattle.text.specs.Reader.{Step, goes, refuses, andThen, Sizes, inputOf, atEnd, replyTo, formulaFrom, sliceFrom}
 use Rattle.clauses.specs.ClauseScans.{clausesFrom}
 use Rattle.clauses.specs.ClauseScanLaws.{closed-length}
-use Rattle.lines.specs.LineScans.{wantedOr0, progressFrom, advancedOf, Table, Standing, nothingSaid}
-use Rattle.lines.specs.LineScanLaws.{images-take}
-use Rattle.answer.specs.Answers.{Copying, refusedWith, Limited, Spacious, Answers}
+use Rattle.handlers.specs.HandlerScans.{Table}
+use Rattle.lines.specs.LineScans.{progressFrom, advancedOf, Standing, nothingSaid}
+use Rattle.handlers.specs.HandlerLaws.{images-take}
+use Rattle.answer.specs.Answers.{wantedOr0, Copying, refusedWith, Limited, Spacious, Answers}
 
 -- ---- the copy
 

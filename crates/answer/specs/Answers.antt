@@ -1,5 +1,7 @@
 -- What the functions that make the reader's answer promise. Assumes nothing.
+use mathlib.Core.Bool.{Bool, cond}
 use mathlib.Core.List.{List}
+use mathlib.Core.Option.{some, none, Option·getD}
 use mathlib.Core.Path.{_≡_}
 use Prim.Native.Nat.{ℕ, _≤_}
 use lib.ListN.{length}
@@ -16,6 +18,10 @@ use Rattle.text.specs.Reader.{Step, replyTo, formulaFrom, sliceFrom}
 abbrev pub replyOf : Parse → Reply
 replyOf Accepted = parsed
 replyOf (Refused code place) = refused code place
+
+-- a target, or 0 where there is none
+abbrev pub wantedOr0 : Bool → ℕ → ℕ
+wantedOr0 targeted x = Option·getD (cond targeted (some x) none) 0
 
 -- the loop that copies: the first i numbers are there, the others as they were
 pub record Copying (from to₀ : List ℕ) (count : ℕ) (to : List ℕ) (i : ℕ) : Type 0 where

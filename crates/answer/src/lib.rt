@@ -1,7 +1,7 @@
 // The reader's answer: the clauses, collected apart until the text is accepted, and the formula beside them.
 use formula::Formula;
-use lines::Advanced;
-use lines::State;
+use handlers::Advanced;
+use handlers::State;
 use lines::read_lines;
 use points::Point;
 use slices::point_at;
@@ -12,9 +12,9 @@ ghost use lib.ListN.{length, take};
 ghost use Rattle.math.specs.Lists.{over};
 ghost use Rattle.text.specs.Text.{maxText};
 ghost use Rattle.text.specs.Reader.{andThen, walk, lineStep, begin, atEnd};
-ghost use Rattle.lines.specs.LineScans.{wantedOr0, advancedOf, progressFrom, Standing, Stands};
+ghost use Rattle.lines.specs.LineScans.{advancedOf, progressFrom, Standing, Stands};
 ghost use Rattle.words.specs.Scans.{linesBehind};
-ghost use Rattle.answer.specs.Answers.{refusedWith, Answers, Limited, Spacious};
+ghost use Rattle.answer.specs.Answers.{wantedOr0, refusedWith, Answers, Limited, Spacious};
 
 // What the reader says of a text.
 pub enum Parse {

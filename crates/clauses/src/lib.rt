@@ -115,7 +115,7 @@ fn clause_word(
 }
 
 // The words of a line. A byte of the line is visited at most three times: to skip it as a blank, or to find its word's end and to read it.
-// `lines::word_line` sees to what it requires.
+// `handlers::word_line` sees to what it requires.
 pub fn clause_line(
     line: &[u8],
     start: usize,

@@ -50,7 +50,7 @@ fn target_digits(bytes: &[u8], n: u32) -> Wanted
     Wanted::Target(x)
 }
 
-// S18: "holds n digits 0 or 1 unparted, name 1 first, then only blanks". One step a byte. `lines::target_line` is
+// S18: "holds n digits 0 or 1 unparted, name 1 first, then only blanks". One step a byte. `handlers::target_line` is
 // called below refusal 3, which sees to n.
 pub fn read_target(bytes: &[u8], n: u32) -> Wanted
     requires { ⌜ n ≤ 64 ⌝ }
@@ -126,7 +126,7 @@ fn store_numbers(bytes: &[u8], n: u32, part: &mut [u8]) -> bool
 }
 
 // S19: "One that begins with `c exch ` holds n numbers from 1 to n without sign, .., every number just one time": into the n bytes at `at`.
-// `lines::permutation_line` sees to the room, by its count of at most 16, and refusal 3 to n.
+// `handlers::permutation_line` sees to the room, by its count of at most 16, and refusal 3 to n.
 pub fn read_permutation(bytes: &[u8], n: u32, table: &mut [u8], at: usize) -> bool
     requires { ⌜ (n ≤ 64) × (at + n ≤ length (now table)) ⌝ }
     ensures { λ r. ⌜ Permuting n (now (bytes .entry)) at (now (table .entry)) (now (table .exit)) r ⌝ }

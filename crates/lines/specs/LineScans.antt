@@ -1,26 +1,18 @@
 -- How what the lines have said lies in the code's numbers, slices and table, and what the functions on lines promise. Assumes nothing.
-use mathlib.Core.Bool.{Bool, false, cond}
+use mathlib.Core.Bool.{false}
 use mathlib.Core.List.{List}
-use mathlib.Core.Option.{Option, some, none, Option·getD}
 use mathlib.Core.Path.{_≡_}
-use Prim.Native.Nat.{ℕ, _-_, _*_, _≤_}
-use lib.ListN.{length, drop, replicate}
+use Prim.Native.Nat.{ℕ, _≤_}
+use lib.ListN.{length}
 use Rattle.permutations.specs.Permutations.{permutationsIn}
-use Rattle.lines.specs.declared.State.{State}
-use Rattle.lines.specs.declared.Advanced.{Advanced}
-use Rattle.lines.specs.declared.Advanced.the-variants.{On, Refused}
-use Rattle.text.specs.Text.{piece, words, maxText}
-use Rattle.text.specs.Reader.{Step, goes, refuses, walk, Sizes, Progress, begin, wordStep, targetStep, permutationStep, lineStep}
+use Rattle.handlers.specs.declared.State.{State}
+use Rattle.handlers.specs.declared.Advanced.{Advanced}
+use Rattle.handlers.specs.declared.Advanced.the-variants.{On, Refused}
+use Rattle.handlers.specs.HandlerScans.{targetOf, Table}
+use Rattle.text.specs.Text.{piece, maxText}
+use Rattle.text.specs.Reader.{Step, goes, refuses, walk, Sizes, Progress, begin, lineStep}
 use Rattle.words.specs.Scans.{linesBehind}
 use Rattle.clauses.specs.ClauseScans.{clausesFrom, Ready}
-
--- the target so far
-abbrev pub targetOf : State → Option ℕ
-targetOf s = cond (s .targeted) (some (s .target)) none
-
--- a target, or 0 where there is none
-abbrev pub wantedOr0 : Bool → ℕ → ℕ
-wantedOr0 targeted x = Option·getD (cond targeted (some x) none) 0
 
 -- what the lines have said
 abbrev pub progressFrom : ℕ → List ℕ → List ℕ → List ℕ → State → Progress
@@ -30,32 +22,6 @@ progressFrom n p q table s = record { clauses = clausesFrom p q (s .begun); targ
 abbrev pub advancedOf : ℕ → List ℕ → List ℕ → List ℕ → Advanced → Step Progress
 advancedOf n p q table (On s) = goes (progressFrom n p q table s)
 advancedOf n p q table (Refused code place) = refuses code place
-
--- k permutations of n bytes each lie in the table; the unused bytes are 0
-pub record Table (n k : ℕ) (table : List ℕ) : Type 0 where
-  pub few : k ≤ 16
-  pub places : length table ≡ 1024
-  pub unused : drop (k * n) table ≡ replicate (1024 - k * n) 0
-
--- what a target line leads to
-abbrev pub TargetTaken : ℕ → ℕ → List ℕ → State → Advanced → Type 0
-TargetTaken n start line s (On t) =
-    (t .begun ≡ s .begun) × (t .permutations ≡ s .permutations) × (targetStep n (targetOf s) (piece start line) ≡ goes (targetOf t))
-TargetTaken n start line s (Refused code place) = targetStep n (targetOf s) (piece start line) ≡ refuses code place
-
--- what a permutation line leads to
-abbrev pub PermutationTaken : ℕ → ℕ → List ℕ → State → List ℕ → List ℕ → Advanced → Type 0
-PermutationTaken n start line s old new (On t) =
-    (t .begun ≡ s .begun) × (targetOf t ≡ targetOf s) × Table n (t .permutations) new
-    × (permutationStep n (permutationsIn n (s .permutations) old) (piece start line) ≡ goes (permutationsIn n (t .permutations) new))
-PermutationTaken n start line s old new (Refused code place) = permutationStep n (permutationsIn n (s .permutations) old) (piece start line) ≡ refuses code place
-
--- what a line of words leads to
-abbrev pub WordsTaken : Sizes → ℕ → List ℕ → State → List ℕ → List ℕ → List ℕ → List ℕ → Advanced → Type 0
-WordsTaken z start line s p q p₁ q₁ (On t) =
-    (targetOf t ≡ targetOf s) × (t .permutations ≡ s .permutations) × Ready z (t .begun .closed) p₁ q₁
-    × (walk (wordStep z) (clausesFrom p q (s .begun)) (words start line) ≡ goes (clausesFrom p₁ q₁ (t .begun)))
-WordsTaken z start line s p q p₁ q₁ (Refused code place) = walk (wordStep z) (clausesFrom p q (s .begun)) (words start line) ≡ refuses code place
 
 -- slices, table and numbers are as the lines so far leave them
 pub record Standing (z : Sizes) (s : State) (p q table : List ℕ) : Type 0 where

@@ -1,13 +1,13 @@
--- `lines::permutation_line` meets its contract: a seventeenth line, a malformed one, a permutation behind those before. Assumes nothing.
+-- `handlers::permutation_line` meets its contract: a seventeenth line, a malformed one, a permutation behind those before. Assumes nothing.
 use mathlib.Core.Path.{refl, sym}
 use Prim.Native.Nat.{_+_, _*_, _≤_}
 use native.Mathlib.Nat.{le-trans, le-of-eq}
 use native.Mathlib.Omega.{arith}
 use borrow.Author.Tests.{not-true, not-false}
 use borrow.Author.Needs.{needs}
-use Rattle.lines.specs.LineScanLaws.{table-room, permutation-over, permutation-bad, permutation-good}
-use Rattle.lines.proofs.permutation_line.Statement.{statement}
-use Rattle.lines.proofs.permutation_line.Tie as tie
+use Rattle.handlers.specs.HandlerLaws.{table-room, permutation-over, permutation-bad, permutation-good}
+use Rattle.handlers.proofs.permutation_line.Statement.{statement}
+use Rattle.handlers.proofs.permutation_line.Tie as tie
 
 returns : tie.Need-returns
 returns c = permutation-over _ _ (c .before .before .before .args .line .now) (c .before .before .before .args .state .permutations) (c .before .before .before .args .table .now) (c .if1 .taken)

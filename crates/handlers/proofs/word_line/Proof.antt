@@ -1,9 +1,9 @@
--- `lines::word_line` meets its contract: the walk over the words, with the rest as it was. Assumes nothing.
+-- `handlers::word_line` meets its contract: the walk over the words, with the rest as it was. Assumes nothing.
 use mathlib.Core.Path.{refl}
 use borrow.Author.Needs.{needs}
-use Rattle.lines.specs.LineScanLaws.{words-refused, words-taken}
-use Rattle.lines.proofs.word_line.Statement.{statement}
-use Rattle.lines.proofs.word_line.Tie as tie
+use Rattle.handlers.specs.HandlerLaws.{words-refused, words-taken}
+use Rattle.handlers.proofs.word_line.Statement.{statement}
+use Rattle.handlers.proofs.word_line.Tie as tie
 
 clause-line-requires : tie.Need-clause-line-requires
 clause-line-requires c κs = search needs

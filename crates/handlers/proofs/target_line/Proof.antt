@@ -1,10 +1,10 @@
--- `lines::target_line` meets its contract: a second line, a malformed one, a target. Assumes nothing.
+-- `handlers::target_line` meets its contract: a second line, a malformed one, a target. Assumes nothing.
 use mathlib.Core.Path.{refl, sym, ap, _∙_}
 use borrow.Author.Needs.{needs}
-use Rattle.lines.specs.LineScanLaws.{target-second, target-bad, target-good}
+use Rattle.handlers.specs.HandlerLaws.{target-second, target-bad, target-good}
 use Rattle.comments.specs.CommentScans.{wantedOf}
-use Rattle.lines.proofs.target_line.Statement.{statement}
-use Rattle.lines.proofs.target_line.Tie as tie
+use Rattle.handlers.proofs.target_line.Statement.{statement}
+use Rattle.handlers.proofs.target_line.Tie as tie
 
 returns : tie.Need-returns
 returns c = target-second _ _ (c .before .before .args .line .now) (c .before .before .args .state) (c .if1 .taken)
