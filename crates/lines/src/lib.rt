@@ -63,8 +63,8 @@ fn begin() -> State
 }
 
 // N3: "then the first fault in text order": the lines behind the one that ends at `end`. A byte of the text is visited once to find its line's
-// end, at most fifteen times as part of a head, and at most three times more, so the work is linear in the text. Its caller
-// `dimacs::read_clauses` sees to what it requires: refusals 1 and 3, and arrays with room for the most clauses and images.
+// end, at most fifteen times as part of a head, and at most three times more, so the work is linear in the text. `answer::collect`
+// sees to what it requires: refusals 1 and 3, slices with room for C clauses, a table of zeros.
 pub fn read_lines(
     text: &[u8],
     end: usize,
