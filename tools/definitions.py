@@ -14,8 +14,8 @@ import subprocess
 import sys
 
 USES = {
-    "reader": "Rattle.dimacs.specs.Reader.{readReply, readFormula, readPositive, readNegative}",
-    "builder": "Rattle.search.specs.Builder.{searchReply, searchSlice}\nuse Rattle.search.specs.Walk.{Slot}",
+    "reader": "Rattle.text.specs.Reader.{readReply, readFormula, readPositive, readNegative}",
+    "builder": "Rattle.search.specs.Builder.{searchReply, searchSlice}\nuse Rattle.traversal.specs.Walk.{Slot}",
     "checker": "Rattle.checker.specs.Checker.{checkReply}\nuse Rattle.certificate.specs.Reader.{openedReply}\n"
     "use Rattle.certificate.specs.Certificate.{filePermutations, filePoints, fileNumbers}",
     "writer": "Rattle.certificate.specs.Writer.{writeReply, writeOutput}",

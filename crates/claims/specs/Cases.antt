@@ -14,8 +14,8 @@ use Rattle.search.specs.Builder.{searchReply, searchSlots}
 use Rattle.certificate.specs.Certificate.{contentsOf}
 use Rattle.certificate.specs.Writer.{certificateOf}
 use Rattle.checker.specs.Checker.{checkReply}
-use Rattle.dimacs.specs.Example.{satisfiable-text}
-use Rattle.dimacs.specs.Reader.{readReply, readFormula, readPositive, readNegative}
+use Rattle.text.specs.Example.{satisfiable-text}
+use Rattle.text.specs.Reader.{readReply, readFormula, readPositive, readNegative}
 
 -- ---- what a case is
 

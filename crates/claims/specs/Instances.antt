@@ -9,8 +9,8 @@ use Rattle.math.specs.Bits.{bit, flip}
 use Rattle.formula.specs.Limits.{capacity}
 use Rattle.formula.specs.Problem.{problemOf, Unsatisfiable}
 use Rattle.formula.specs.Reply.{refused, satisfiable, unsatisfiable, unknown}
-use Rattle.dimacs.specs.Example.{satisfiable-text}
-use Rattle.dimacs.specs.Reader.{readReply, readFormula, readPositive, readNegative}
+use Rattle.text.specs.Example.{satisfiable-text}
+use Rattle.text.specs.Reader.{readReply, readFormula, readPositive, readNegative}
 use Rattle.search.specs.Builder.{searchReply}
 use Rattle.certificate.specs.Writer.{lengthNeeded}
 use Rattle.claims.specs.Cases.{Case, caseA-swap, caseA-3, caseA-4, caseB, certificateIn, swap-accepted}

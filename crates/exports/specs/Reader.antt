@@ -6,7 +6,7 @@ use Prim.Native.Nat.{ℕ}
 use lib.Dec.{leb}
 use lib.ListN.{length}
 use Rattle.math.specs.Lists.{over}
-use Rattle.dimacs.specs.Reader.{readReply, readFormula, readPositive, readNegative}
+use Rattle.text.specs.Reader.{readReply, readFormula, readPositive, readNegative}
 use Rattle.exports.specs.Words.{wordsOf, hasRoom, numbersOf}
 
 -- whether there is room for an answer's words and for a formula's numbers and images

@@ -9,8 +9,9 @@ use borrow.Author.Tests.{le-leb, lt-leb}
 use Rattle.math.specs.Lists.{over}
 use Rattle.formula.specs.declared.Formula.{Formula}
 use Rattle.formula.specs.Reply.{Reply}
-use Rattle.dimacs.specs.declared.Parsed.{Parsed}
-use Rattle.dimacs.specs.Reader.{replyOf, Read}
+use Rattle.answer.specs.declared.Parsed.{Parsed}
+use Rattle.answer.specs.Answers.{replyOf}
+use Rattle.dimacs.specs.Contract.{Read}
 use Rattle.exports.specs.Reader.{hasFormulaRoom, ReadTold}
 use Rattle.exports.specs.RoomLaws.{roomy, tight}
 use Rattle.exports.specs.Words.{wordsOf, hasRoom, numbersOf}

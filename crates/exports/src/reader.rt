@@ -2,14 +2,14 @@
 use crate::WORDS;
 use crate::copy_bytes;
 use crate::put_words;
-use dimacs::Parse;
+use answer::Parse;
 use dimacs::read;
 use formula::Formula;
 ghost use mathlib.Core.Path.{_≡_};
 ghost use Prim.Native.Nat.{_≤_};
 ghost use lib.ListN.{length};
 ghost use Rattle.math.specs.Lists.{over};
-ghost use Rattle.dimacs.specs.Reader.{replyOf};
+ghost use Rattle.answer.specs.Answers.{replyOf};
 ghost use Rattle.exports.specs.Words.{wordsOf, numbersOf};
 ghost use Rattle.exports.specs.Reader.{ReadTold};
 

@@ -1,10 +1,12 @@
 -- `dimacs::read` meets its contract: the size of the text, the problem line, its sizes, then the lines. Assumes nothing.
 use mathlib.Core.Path.{sym, ap, _∙_}
+use native.Mathlib.Omega.{arith}
 use borrow.Author.Needs.{needs}
-use Rattle.dimacs.specs.AnswerLaws.{answers-refused, answers-same, answers-read, text-long, text-absent, text-malformed, text-sized, problem-place}
-use Rattle.dimacs.specs.declared.words.Class.the-variants.{Line}
-use Rattle.dimacs.specs.Scans.{belongs, Stretch}
-use Rattle.dimacs.specs.ProblemScans.{sizingOf}
+use Rattle.answer.specs.AnswerLaws.{answers-refused, answers-same}
+use Rattle.dimacs.specs.ReadLaws.{answers-read, text-long, text-absent, text-malformed, text-sized, problem-place}
+use Rattle.words.specs.declared.Class.the-variants.{Line}
+use Rattle.words.specs.Scans.{belongs, Stretch}
+use Rattle.preamble.specs.ProblemScans.{sizingOf}
 use Rattle.dimacs.proofs.read.Statement.{statement}
 use Rattle.dimacs.proofs.read.Tie as tie
 
@@ -62,7 +64,9 @@ returns-3 c =
     (sym (ap sizingOf (c .before .enum-told2 .given .1)) ∙ c .before .before .before .read-problem .ensures)) (c .refused3 .ensures))
 
 read-sized-requires : tie.Need-read-sized-requires
-read-sized-requires c κs = (c .before .before .before .before .before .before .before .before .before .before .before .if1 .left, placed (c .before .before .before .before .before .before .before .before) .within)
+read-sized-requires c κs =
+    let w = placed (c .before .before .before .before .before .before .before .before) .within in
+    (c .before .before .before .before .before .before .before .before .before .before .before .if1 .left, omega arith)
 
 same-length : tie.Need-same-length
 same-length c = search needs

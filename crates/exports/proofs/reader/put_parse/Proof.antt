@@ -4,8 +4,8 @@ use mathlib.Core.Path.{_≡_, sym, ap, _∙_}
 use Prim.Native.Nat.{ℕ}
 use borrow.Author.Needs.{needs}
 use Rattle.math.specs.Lists.{over}
-use Rattle.dimacs.specs.declared.Parse.{Parse}
-use Rattle.dimacs.specs.Reader.{replyOf}
+use Rattle.answer.specs.declared.Parse.{Parse}
+use Rattle.answer.specs.Answers.{replyOf}
 use Rattle.exports.specs.Words.{wordsOf}
 use Rattle.exports.proofs.reader.put_parse.Statement.{statement}
 use Rattle.exports.proofs.reader.put_parse.Tie as tie

@@ -1,0 +1,3 @@
+-- What the functions on bytes and words promise, and the laws that their proofs use.
+pub mod Scans
+pub mod ScanLaws
