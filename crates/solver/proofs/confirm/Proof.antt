@@ -1,0 +1,51 @@
+-- `solver::confirm` meets its contract: the checker does not refuse. Assumes nothing.
+use mathlib.Core.Path.{sym, ap, _∙_}
+use Prim.Native.Nat.{ℕ}
+use native.Mathlib.Nat.{sub-zero}
+use lib.ListN.{take}
+use borrow.Author.Needs.{needs}
+use Rattle.formula.specs.ReplyLaws.{accepted-not-refused}
+use Rattle.checker.specs.Checker.{replyOf, checkReply}
+use Rattle.solver.proofs.confirm.Statement.{statement}
+use Rattle.solver.proofs.confirm.Tie as tie
+
+sub-check : tie.Need-sub-check
+sub-check c = search needs
+
+part-check-start : tie.Need-part-check-start
+part-check-start c = search needs
+
+part-check-end : tie.Need-part-check-end
+part-check-end c = search needs
+
+check-requires : tie.Need-check-requires
+check-requires c κs = search needs
+
+enum-told : tie.Need-enum-told
+enum-told c = search needs
+
+enum-known-verdict : tie.Need-enum-known-verdict
+enum-known-verdict c = search needs
+
+returns : tie.Need-returns
+returns c = search needs
+
+returns-2 : tie.Need-returns-2
+unfolding replyOf
+returns-2 c =
+    let a = c .before .before .before .before .before .before .before .before .args in
+    absurd (accepted-not-refused _ _ (sym (c .before .before .before .before .before .before .before .before .pre .1) ∙ ap (λ (k : ℕ). checkReply (a .f) (a .positive .now) (a .negative .now) (take k (a .file .now))) (sym (sub-zero (a .size)))
+    ∙ sym (c .before .before .before .check .ensures .reply) ∙ ap replyOf (c .before .verdict .given .1)))
+
+pub confirm-spec : {M : Type 1} → statement M
+confirm-spec =
+    tie.close
+    (tie.spec
+    sub-check
+    part-check-start
+    part-check-end
+    check-requires
+    enum-told
+    enum-known-verdict
+    returns
+    returns-2)
