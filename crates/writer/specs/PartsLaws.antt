@@ -1,6 +1,6 @@
 -- Laws of the writer's steps: rows 16 and 17 in order, and four parts stored one behind the other. Assumes nothing.
 use mathlib.Core.List.{List, [], _∷_, _++_}
-use mathlib.Core.Path.{_≡_, sym, ap, ap₂, _∙_}
+use mathlib.Core.Path.{_≡_, refl, sym, ap, ap₂, _∙_}
 use Prim.Native.Nat.{ℕ, _+_, _*_, _≤_, zero-le}
 use native.Mathlib.Nat.{zero-add}
 use lib.ListN.{length, take, length-append}
@@ -24,22 +24,33 @@ use Rattle.writer.specs.Parts.{slotsFault, parts, Storable}
 
 -- ---- rows 16 and 17
 
-module _ (limit n : ℕ) (clauses : List Numbered) (count : ℕ) (points numbers : List ℕ) (lent : ℕ) (room : lent ≡ limit) (r : Fault) (tested : r ≡ pointsFault lent n count points) where
-  row16 : pointsFault limit n count points ≡ r
-  row16 = sym (tested ∙ ap (λ (k : ℕ). pointsFault k n count points) room)
+module _ (earlier : Fault) (limit n : ℕ) (clauses : List Numbered) (count : ℕ) (points numbers : List ℕ) where
+  abbrev sixteen : Fault
+  sixteen = pointsFault limit n count points
 
-  pub stops-16 : IsFault r → r ≡ slotsFault limit n clauses count points numbers
+  abbrev seventeen : Fault
+  seventeen = numbersFault clauses count points numbers
+
+  pub stops-earlier : IsFault earlier → earlier ≡ slotsFault earlier limit n clauses count points numbers
   unfolding slotsFault
-  stops-16 h = by r row16 h
+  stops-earlier h = by earlier h
     where
-      by : (r : Fault) → pointsFault limit n count points ≡ r → IsFault r → r ≡ first (pointsFault limit n count points ∷ numbersFault clauses count points numbers ∷ [])
-      by sound e h = absurd h
-      by (fault code place) e h = sym (first-stops (pointsFault limit n count points) (numbersFault clauses count points numbers ∷ []) code place e)
+      by : (t : Fault) → IsFault t → t ≡ first (t ∷ sixteen ∷ seventeen ∷ [])
+      by sound h = absurd h
+      by (fault code place) h = sym (first-stops (fault code place) (sixteen ∷ seventeen ∷ []) code place refl)
 
-  pub ends-17 : r ≡ sound → numbersFault clauses count points numbers ≡ slotsFault limit n clauses count points numbers
-  unfolding slotsFault
-  ends-17 h =
-      sym (first-skips (pointsFault limit n count points) (numbersFault clauses count points numbers ∷ []) (row16 ∙ h) ∙ first-last (numbersFault clauses count points numbers))
+  module _ (passed : earlier ≡ sound) (r : Fault) (tested : r ≡ sixteen) where
+    pub stops-16 : IsFault r → r ≡ slotsFault earlier limit n clauses count points numbers
+    unfolding slotsFault
+    stops-16 h = by r (sym tested) h ∙ sym (first-skips earlier (sixteen ∷ seventeen ∷ []) passed)
+      where
+        by : (r : Fault) → sixteen ≡ r → IsFault r → r ≡ first (sixteen ∷ seventeen ∷ [])
+        by sound e h = absurd h
+        by (fault code place) e h = sym (first-stops sixteen (seventeen ∷ []) code place e)
+
+    pub ends-17 : r ≡ sound → seventeen ≡ slotsFault earlier limit n clauses count points numbers
+    unfolding slotsFault
+    ends-17 h = sym (first-skips earlier (sixteen ∷ seventeen ∷ []) passed ∙ first-skips sixteen (seventeen ∷ []) (sym tested ∙ h) ∙ first-last seventeen)
 
 -- ---- the stores
 
