@@ -48,6 +48,30 @@ extern "C" {
         reply: *mut u64,
         reply_len: usize,
     ) -> u32;
+
+    fn jugbowo_write(
+        variables: u32,
+        clauses: u32,
+        target: u64,
+        permutations: u32,
+        images: *const u8,
+        images_len: usize,
+        positive: *const u64,
+        positive_len: usize,
+        negative: *const u64,
+        negative_len: usize,
+        points: *const u64,
+        points_len: usize,
+        falsified: *const u32,
+        falsified_len: usize,
+        depths: *const u32,
+        depths_len: usize,
+        count: u32,
+        out: *mut u8,
+        out_len: usize,
+        reply: *mut u64,
+        reply_len: usize,
+    ) -> u32;
 }
 
 // Searches over three lent slices; four words of `reply` take the answer, and the result is 1, or 0 where they have no place.
@@ -91,6 +115,36 @@ pub fn read(text: &[u8], positive: &mut [u64], negative: &mut [u64], numbers: &m
             numbers.len(),
             images.as_mut_ptr(),
             images.len(),
+            reply.as_mut_ptr(),
+            reply.len(),
+        )
+    }
+}
+
+// Writes the certificate of the first `count` slots into `out`; four words of `reply` take the answer, and the result is 1, or 0 where they
+// have no place.
+pub fn write(s: &Sheet, points: &[u64], falsified: &[u32], depths: &[u32], count: u32, out: &mut [u8], reply: &mut [u64]) -> u32 {
+    unsafe {
+        jugbowo_write(
+            s.variables,
+            s.clauses,
+            s.target,
+            s.permutations,
+            s.images.as_ptr(),
+            s.images.len(),
+            s.positive.as_ptr(),
+            s.positive.len(),
+            s.negative.as_ptr(),
+            s.negative.len(),
+            points.as_ptr(),
+            points.len(),
+            falsified.as_ptr(),
+            falsified.len(),
+            depths.as_ptr(),
+            depths.len(),
+            count,
+            out.as_mut_ptr(),
+            out.len(),
             reply.as_mut_ptr(),
             reply.len(),
         )

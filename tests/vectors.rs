@@ -93,7 +93,7 @@ impl Differences {
     }
 }
 
-// The words of a reply: 0 refused, 1 satisfiable, 2 unsatisfiable, 3 unknown, 4 read, each with its numbers.
+// The words of a reply: 0 refused, 1 satisfiable, 2 unsatisfiable, 3 unknown, 4 read, 5 written, each with its numbers.
 fn reply_words(answer: &[&str]) -> Vec<u64> {
     let (kind, carried) = match answer[0] {
         "refused" => (0, &answer[1..]),
@@ -101,6 +101,7 @@ fn reply_words(answer: &[&str]) -> Vec<u64> {
         "unmet" => (2, &answer[1..]),
         "room" => (3, &answer[1..]),
         "read" => (4, &answer[..0]),
+        "written" => (5, &answer[1..]),
         other => panic!("no reply: {other}"),
     };
     let mut words = vec![kind];
@@ -142,6 +143,21 @@ fn builder(v: &Vector, d: &mut Differences) {
     d.compare("depths", depths, over(narrow(v.numbers("after-depths")), &before.2));
 }
 
+fn writer(v: &Vector, d: &mut Differences) {
+    let s = v.sheet();
+    let lent = v.numbers("lent");
+    let points = v.numbers("points");
+    let falsified = narrow(v.numbers("numbers"));
+    let depths = narrow(v.filled(lent[0] as usize));
+    let mut out: Vec<u8> = v.filled(lent[2] as usize).into_iter().map(|x| x as u8).collect();
+    let before = out.clone();
+    let mut reply = vec![7u64; 5];
+    let told = library::write(&s, &points, &falsified, &depths, lent[1] as u32, &mut out, &mut reply);
+    d.compare("told", told, 1);
+    d.compare("reply", reply, over(reply_words(v.words("answer")), &[7; 5]));
+    d.compare("output", out, over(v.bytes("after-bytes"), &before));
+}
+
 fn vectors(text: &str) -> Vec<Vector<'_>> {
     let blocks = text.split("\n\n").filter(|b| !b.trim().is_empty());
     blocks
@@ -160,7 +176,7 @@ fn vectors(text: &str) -> Vec<Vector<'_>> {
 fn main() {
     let path = std::env::args().nth(1).expect("a file of vectors");
     let text = std::fs::read_to_string(path).expect("the vectors");
-    let kinds: [(&str, fn(&Vector, &mut Differences)); 2] = [("reader", reader), ("builder", builder)];
+    let kinds: [(&str, fn(&Vector, &mut Differences)); 3] = [("reader", reader), ("builder", builder), ("writer", writer)];
     let all = vectors(&text);
     let (mut passed, mut failed) = (0, 0);
     for (kind, test) in kinds {

@@ -5,3 +5,5 @@ pub mod Builder
 pub mod BuilderLaws
 pub mod Reader
 pub mod ReaderLaws
+pub mod Writer
+pub mod WriterLaws

@@ -10,6 +10,7 @@ ghost use Rattle.exports.specs.Words.{imagesFrom, formulaFrom};
 
 mod builder;
 mod reader;
+mod writing;
 
 // How many words an answer takes.
 pub const WORDS: usize = 4;

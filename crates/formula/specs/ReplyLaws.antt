@@ -89,6 +89,13 @@ first-before [] gs code place h = absurd (fault-not-sound code place (sym h))
 first-before (sound ∷ fs) gs code place h = first-before fs gs code place h
 first-before (fault c p ∷ fs) gs code place h = h
 
+-- what tests found, in front of others
+pub first-nested : (fs gs : List Fault) → first (first fs ∷ gs) ≡ first (fs ++ gs)
+unfolding first
+first-nested [] gs = refl
+first-nested (sound ∷ fs) gs = first-nested fs gs
+first-nested (fault code place ∷ fs) gs = refl
+
 -- ---- one test
 
 pub tested : (b : Bool) (t : Fault) (code place : ℕ) → cond b t (fault code place) ≡ sound → (b ≡ true) × (t ≡ sound)

@@ -9,10 +9,11 @@ use Rattle.certificate.specs.Bytes.{bytesOf, joined, fieldWidth, pointWidth, nu
 use Rattle.certificate.specs.Certificate.{fieldsOf, layout, certificateLength}
 use Rattle.certificate.specs.Rows.{pointsFault, numbersFault}
 
--- N5: rows 16 and 17, of the first count slots
-unfoldable pub slotsFault : ℕ → ℕ → List Numbered → ℕ → List ℕ → List ℕ → Fault
+-- N5: rows 16 and 17, of the first count slots, behind what was found before
+unfoldable pub slotsFault : Fault → ℕ → ℕ → List Numbered → ℕ → List ℕ → List ℕ → Fault
 unfolding first pointsFault numbersFault
-slotsFault limit n clauses count points numbers = first (pointsFault limit n count points ∷ numbersFault clauses count points numbers ∷ [])
+slotsFault earlier limit n clauses count points numbers =
+    first (earlier ∷ pointsFault limit n count points ∷ numbersFault clauses count points numbers ∷ [])
 
 -- C3: "Bodies follow without gaps": the contents, then the bytes of the permutations as they stand, the points and the clause numbers
 abbrev pub parts : ℕ → ℕ → ℕ → List ℕ → List ℕ → List ℕ → ℕ → List ℕ

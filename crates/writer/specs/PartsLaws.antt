@@ -1,6 +1,6 @@
 -- Laws of the writer's steps: rows 16 and 17 in order, and four parts stored one behind the other. Assumes nothing.
 use mathlib.Core.List.{List, [], _∷_, _++_}
-use mathlib.Core.Path.{_≡_, sym, ap, ap₂, _∙_}
+use mathlib.Core.Path.{_≡_, refl, sym, ap, ap₂, _∙_}
 use Prim.Native.Nat.{ℕ, _+_, _*_, _≤_, zero-le}
 use native.Mathlib.Nat.{zero-add}
 use lib.ListN.{length, take, length-append}
@@ -23,19 +23,27 @@ use Rattle.writer.specs.Parts.{slotsFault, parts, Storable}
 
 -- ---- rows 16 and 17
 
-module _ (limit n : ℕ) (clauses : List Numbered) (count : ℕ) (points numbers : List ℕ) (lent : ℕ) (room : lent ≡ limit) (r : Fault) (tested : r ≡ pointsFault lent n count points) where
-  row16 : pointsFault limit n count points ≡ r
-  row16 = sym (tested ∙ ap (λ (k : ℕ). pointsFault k n count points) room)
+module _ (earlier : Fault) (limit n : ℕ) (clauses : List Numbered) (count : ℕ) (points numbers : List ℕ) where
+  abbrev sixteen : Fault
+  sixteen = pointsFault limit n count points
 
-  pub stops-16 : IsFault r → r ≡ slotsFault limit n clauses count points numbers
-  unfolding slotsFault
-  stops-16 h = answers-first r (pointsFault limit n count points) (numbersFault clauses count points numbers ∷ []) (sym row16) h
+  abbrev seventeen : Fault
+  seventeen = numbersFault clauses count points numbers
 
-  pub ends-17 : r ≡ sound → numbersFault clauses count points numbers ≡ slotsFault limit n clauses count points numbers
+  pub stops-earlier : IsFault earlier → earlier ≡ slotsFault earlier limit n clauses count points numbers
   unfolding slotsFault
-  ends-17 h =
-      answers-rest (numbersFault clauses count points numbers) (pointsFault limit n count points) (numbersFault clauses count points numbers ∷ []) (row16 ∙ h)
-      (sym (first-last (numbersFault clauses count points numbers)))
+  stops-earlier h = answers-first earlier earlier (sixteen ∷ seventeen ∷ []) refl h
+
+  module _ (passed : earlier ≡ sound) (r : Fault) (tested : r ≡ sixteen) where
+    pub stops-16 : IsFault r → r ≡ slotsFault earlier limit n clauses count points numbers
+    unfolding slotsFault
+    stops-16 h = answers-rest r earlier (sixteen ∷ seventeen ∷ []) passed (answers-first r sixteen (seventeen ∷ []) tested h)
+
+    pub ends-17 : r ≡ sound → seventeen ≡ slotsFault earlier limit n clauses count points numbers
+    unfolding slotsFault
+    ends-17 h =
+        answers-rest seventeen earlier (sixteen ∷ seventeen ∷ []) passed
+        (answers-rest seventeen sixteen (seventeen ∷ []) (sym tested ∙ h) (sym (first-last seventeen)))
 
 -- ---- the stores
 

@@ -1,6 +1,6 @@
--- Laws of the writer's answer, one for each way out: refusals 10 to 12, 16 and 17, 19, and a certificate. Assumes nothing.
+-- Laws of the writer's answer, one for each way out: refusals 10 to 17, refusal 19, and a certificate. Assumes nothing.
 use mathlib.Core.List.{List, [], _∷_, _++_}
-use mathlib.Core.Path.{_≡_, sym, ap, _∙_}
+use mathlib.Core.Path.{_≡_, sym, ap, ap₂, _∙_}
 use Prim.Native.Nat.{ℕ, _≤_, _<_}
 use native.Mathlib.Nat.{le-of-eq, le-trans}
 use lib.ListN.{length, drop}
@@ -17,8 +17,7 @@ use Rattle.formula.specs.Problem.{problemOf}
 use Rattle.formula.specs.RefusalLaws.{formula-passes, permutation-passes, images-room}
 use Rattle.formula.specs.Refusals.{formulaFault, permutationFault, symmetryFault, problemFault, faultOf}
 use Rattle.formula.specs.Reply.{Fault, sound, fault, first, written}
-use Rattle.formula.specs.ReplyLaws.{first-split, first-last, first-after, first-before}
-use Rattle.certificate.specs.declared.Written.{Written}
+use Rattle.formula.specs.ReplyLaws.{first-split, first-last, first-after, first-before, first-nested}
 use Rattle.certificate.specs.declared.Written.the-variants.{Bytes, Refused}
 use Rattle.certificate.specs.Certificate.{certificateLength}
 use Rattle.certificate.specs.RowLaws.{too-short, long-enough}
@@ -35,7 +34,7 @@ module _ (f : Formula) (positive negative points numbers depths : List ℕ) (cou
   abbrev lent : ℕ
   lent = capacity (length (pointsOf points)) (length numbers) (length depths)
 
-  -- N5: rows 10 to 12, rows 16 and 17, and row 19
+  -- N5: rows 10 to 12, 16 and 17, and row 19
   abbrev problemTests : List Fault
   problemTests = formulaFault f positive negative ∷ permutationFault (f .variables) perms ∷ symmetryFault (numbered (clausesOf positive negative)) perms ∷ []
 
@@ -45,7 +44,7 @@ module _ (f : Formula) (positive negative points numbers depths : List ℕ) (cou
   abbrev roomTest : Fault
   roomTest = roomFault (certificateLength (f .variables) (length perms) count) (length out)
 
-  rows : writeFault f positive negative points numbers depths count out ≡ first (problemTests ++ (slotTests ++ roomTest ∷ []))
+  rows : writeFault f positive negative points numbers depths count out ≡ first ((problemTests ++ slotTests) ++ roomTest ∷ [])
   unfolding problemOf lengthNeeded
   rows = write-rows f positive negative points numbers depths count out
 
@@ -55,107 +54,110 @@ module _ (f : Formula) (positive negative points numbers depths : List ℕ) (cou
   unfolding writeReply writeOutput replyOf
   refused-by code place h = record { reply = rw h; output = rw h }
 
-  module _ (checked : Checked) (tested : faultOf checked ≡ problemFault f positive negative) where
-    -- refusals 10 to 12
-    pub wrote-faulty : (code place : ℕ) → checked ≡ Faulty code place → Wrote f positive negative points numbers depths count out (Refused code place) out
-    unfolding problemFault problemOf
-    wrote-faulty code place e =
-        refused-by code place (rows ∙ first-before problemTests (slotTests ++ roomTest ∷ []) code place (sym tested ∙ ap faultOf e))
+  module _ (earlier : Fault) (problem-tested : earlier ≡ problemFault f positive negative) (limit : ℕ) (limit-is : limit ≡ lent) (told : Checked)
+      (slots-tested : faultOf told ≡ slotsFault earlier limit (f .variables) (numbered (clausesOf positive negative)) count (pointsOf points) numbers) where
+    all-tested : first (problemTests ++ slotTests) ≡ faultOf told
+    unfolding problemFault problemOf slotsFault
+    all-tested =
+        sym (slots-tested ∙ ap₂ (λ (t : Fault) (k : ℕ). slotsFault t k (f .variables) (numbered (clausesOf positive negative)) count (pointsOf points) numbers) problem-tested limit-is
+        ∙ first-nested problemTests slotTests)
 
-    module _ (passed : checked ≡ Passed) (slots : Checked)
-        (slots-tested : faultOf slots ≡ slotsFault lent (f .variables) (numbered (clausesOf positive negative)) count (pointsOf points) numbers) where
-      problem-sound : first problemTests ≡ sound
-      unfolding problemFault problemOf
-      problem-sound = sym tested ∙ ap faultOf passed
+    -- refusals 10 to 17
+    pub wrote-faulty : (code place : ℕ) → told ≡ Faulty code place → Wrote f positive negative points numbers depths count out (Refused code place) out
+    wrote-faulty code place e = refused-by code place (rows ∙ first-before (problemTests ++ slotTests) (roomTest ∷ []) code place (all-tested ∙ ap faultOf e))
 
-      -- refusals 16 and 17
-      pub wrote-bad-slots : (code place : ℕ) → slots ≡ Faulty code place → Wrote f positive negative points numbers depths count out (Refused code place) out
-      unfolding slotsFault
-      wrote-bad-slots code place e =
-          refused-by code place (rows ∙ first-after problemTests (slotTests ++ roomTest ∷ []) problem-sound
-          ∙ first-before slotTests (roomTest ∷ []) code place (sym slots-tested ∙ ap faultOf e))
+    module _ (fine : told ≡ Passed) where
+      all-sound : first (problemTests ++ slotTests) ≡ sound
+      all-sound = all-tested ∙ ap faultOf fine
 
-      module _ (fine : slots ≡ Passed) where
-        slots-sound : first slotTests ≡ sound
-        unfolding slotsFault
-        slots-sound = sym slots-tested ∙ ap faultOf fine
+      row10 : formulaFault f positive negative ≡ sound
+      row10 = first-split _ _ all-sound .0
 
-        row10 : formulaFault f positive negative ≡ sound
-        row10 = first-split _ _ problem-sound .0
+      past-10 : first (permutationFault (f .variables) perms ∷ symmetryFault (numbered (clausesOf positive negative)) perms ∷ slotTests) ≡ sound
+      past-10 = first-split _ _ all-sound .1
 
-        row11 : permutationFault (f .variables) perms ≡ sound
-        row11 = first-split _ _ (first-split _ _ problem-sound .1) .0
+      row11 : permutationFault (f .variables) perms ≡ sound
+      row11 = first-split _ _ past-10 .0
 
-        row12 : symmetryFault (numbered (clausesOf positive negative)) perms ≡ sound
-        row12 = first-split _ _ (first-split _ _ (first-split _ _ problem-sound .1) .1) .0
+      past-11 : first (symmetryFault (numbered (clausesOf positive negative)) perms ∷ slotTests) ≡ sound
+      past-11 = first-split _ _ past-10 .1
 
-        row16 : pointsFault lent (f .variables) count (pointsOf points) ≡ sound
-        row16 = first-split _ _ slots-sound .0
+      row12 : symmetryFault (numbered (clausesOf positive negative)) perms ≡ sound
+      row12 = first-split _ _ past-11 .0
 
-        row17 : numbersFault (numbered (clausesOf positive negative)) count (pointsOf points) numbers ≡ sound
-        row17 = first-split _ _ (first-split _ _ slots-sound .1) .0
+      past-12 : first slotTests ≡ sound
+      past-12 = first-split _ _ past-11 .1
 
-        few-permutations : f .permutations ≤ maxPermutations
-        few-permutations =
-            le-trans (le-of-eq (sym (length-permutations (f .variables) (f .permutations) (f .images)))) (permutation-passes (f .variables) perms row11 .0)
+      row16 : pointsFault lent (f .variables) count (pointsOf points) ≡ sound
+      row16 = first-split _ _ past-12 .0
 
-        enough : (count ≤ maxSlots) × (count ≤ length points) × (count ≤ length numbers)
-        unfolding problemOf
-        enough = few-slots f positive negative points numbers depths count out row16
+      past-16 : first (numbersFault (numbered (clausesOf positive negative)) count (pointsOf points) numbers ∷ []) ≡ sound
+      past-16 = first-split _ _ past-12 .1
 
-        -- what the computation of the length requires
-        pub within-limits : (f .variables ≤ maxVariables) × (f .permutations ≤ maxPermutations) × (count ≤ maxSlots)
-        within-limits = (formula-passes f positive negative row10 .0 .few-variables, few-permutations, enough .0)
+      row17 : numbersFault (numbered (clausesOf positive negative)) count (pointsOf points) numbers ≡ sound
+      row17 = first-split _ _ past-16 .0
 
-        module _ (size : ℕ) (size-is : size ≡ certificateLength (f .variables) (f .permutations) count) where
-          size-needed : size ≡ certificateLength (f .variables) (length perms) count
-          size-needed = size-is ∙ ap (λ (a : ℕ). certificateLength (f .variables) a count) (sym (length-permutations (f .variables) (f .permutations) (f .images)))
+      few-permutations : f .permutations ≤ maxPermutations
+      few-permutations =
+          le-trans (le-of-eq (sym (length-permutations (f .variables) (f .permutations) (f .images)))) (permutation-passes (f .variables) perms row11 .0)
 
-          -- refusal 19
-          pub wrote-too-short : length out < size → Wrote f positive negative points numbers depths count out (Refused 19 size) out
-          wrote-too-short h =
-              refused-by 19 size (rows ∙ first-after problemTests (slotTests ++ roomTest ∷ []) problem-sound ∙ first-after slotTests (roomTest ∷ []) slots-sound
-              ∙ first-last roomTest ∙ ap (λ (k : ℕ). roomFault k (length out)) (sym size-needed) ∙ too-short size (length out) h)
+      enough : (count ≤ maxSlots) × (count ≤ length points) × (count ≤ length numbers)
+      unfolding problemOf
+      enough = few-slots f positive negative points numbers depths count out row16
 
-          module _ (room : size ≤ length out) where
-            -- what the stores require
-            pub storable-of : length (f .images) ≡ 1024 → Storable (f .variables) (f .permutations) (f .images) points numbers count out
-            storable-of whole =
-                record {
-                  imagesHeld = images-room f positive negative (within-limits .0) whole few-permutations;
-                  pointsHeld = enough .1;
-                  numbersHeld = enough .2;
-                  room = le-trans (le-of-eq (sym size-is)) room;
-                }
+      -- what the computation of the length requires
+      pub within-limits : (f .variables ≤ maxVariables) × (f .permutations ≤ maxPermutations) × (count ≤ maxSlots)
+      within-limits = (formula-passes f positive negative row10 .0 .few-variables, few-permutations, enough .0)
 
-            all-passed : WriterPassed f positive negative points numbers depths count out
-            unfolding problemOf lengthNeeded
-            all-passed =
-                record {
-                  row10 = row10;
-                  row11 = row11;
-                  row12 = row12;
-                  row16 = row16;
-                  row17 = row17;
-                  row19 = ap (λ (k : ℕ). roomFault k (length out)) (sym size-needed) ∙ long-enough size (length out) room;
-                }
+      module _ (size : ℕ) (size-is : size ≡ certificateLength (f .variables) (f .permutations) count) where
+        size-needed : size ≡ certificateLength (f .variables) (length perms) count
+        size-needed = size-is ∙ ap (λ (a : ℕ). certificateLength (f .variables) a count) (sym (length-permutations (f .variables) (f .permutations) (f .images)))
 
-            nothing-found : writeFault f positive negative points numbers depths count out ≡ sound
-            nothing-found = passed-writer f positive negative points numbers depths count out all-passed
+        -- refusal 19
+        pub wrote-too-short : length out < size → Wrote f positive negative points numbers depths count out (Refused 19 size) out
+        wrote-too-short h =
+            refused-by 19 size (rows ∙ first-after (problemTests ++ slotTests) (roomTest ∷ []) all-sound
+            ∙ first-last roomTest ∙ ap (λ (k : ℕ). roomFault k (length out)) (sym size-needed) ∙ too-short size (length out) h)
 
-            parts-are : parts (f .variables) (f .clauses) (f .permutations) (f .images) points numbers count ≡ certificateOf (problemOf f positive negative) points numbers count
-            unfolding certificateOf problemOf
-            parts-are = parts-encode (f .variables) (f .clauses) (f .permutations) (f .images) points numbers count (enough .1) (enough .2)
+        module _ (room : size ≤ length out) where
+          -- what the stores require
+          pub storable-of : length (f .images) ≡ 1024 → Storable (f .variables) (f .permutations) (f .images) points numbers count out
+          storable-of whole =
+              record {
+                imagesHeld = images-room f positive negative (within-limits .0) whole few-permutations;
+                pointsHeld = enough .1;
+                numbersHeld = enough .2;
+                room = le-trans (le-of-eq (sym size-is)) room;
+              }
 
-            -- a certificate
-            pub wrote-all : (after : List ℕ) → after ≡ over (parts (f .variables) (f .clauses) (f .permutations) (f .images) points numbers count) out
-                → Wrote f positive negative points numbers depths count out (Bytes size) after
-            unfolding over replyOf lengthNeeded problemOf
-            wrote-all after e =
-                record {
-                  reply = ap written size-needed ∙ sym (reply-written f positive negative points numbers depths count out nothing-found);
-                  output =
-                      e ∙ ap (λ l. over l out) parts-are
-                      ∙ ap (λ (k : ℕ). certificateOf (problemOf f positive negative) points numbers count ++ drop k out) (certificate-length f positive negative points numbers depths count out all-passed)
-                      ∙ sym (output-written f positive negative points numbers depths count out nothing-found);
-                }
+          all-passed : WriterPassed f positive negative points numbers depths count out
+          unfolding problemOf lengthNeeded
+          all-passed =
+              record {
+                row10 = row10;
+                row11 = row11;
+                row12 = row12;
+                row16 = row16;
+                row17 = row17;
+                row19 = ap (λ (k : ℕ). roomFault k (length out)) (sym size-needed) ∙ long-enough size (length out) room;
+              }
+
+          nothing-found : writeFault f positive negative points numbers depths count out ≡ sound
+          nothing-found = passed-writer f positive negative points numbers depths count out all-passed
+
+          parts-are : parts (f .variables) (f .clauses) (f .permutations) (f .images) points numbers count ≡ certificateOf (problemOf f positive negative) points numbers count
+          unfolding certificateOf problemOf
+          parts-are = parts-encode (f .variables) (f .clauses) (f .permutations) (f .images) points numbers count (enough .1) (enough .2)
+
+          -- a certificate
+          pub wrote-all : (after : List ℕ) → after ≡ over (parts (f .variables) (f .clauses) (f .permutations) (f .images) points numbers count) out
+              → Wrote f positive negative points numbers depths count out (Bytes size) after
+          unfolding over replyOf lengthNeeded problemOf
+          wrote-all after e =
+              record {
+                reply = ap written size-needed ∙ sym (reply-written f positive negative points numbers depths count out nothing-found);
+                output =
+                    e ∙ ap (λ l. over l out) parts-are
+                    ∙ ap (λ (k : ℕ). certificateOf (problemOf f positive negative) points numbers count ++ drop k out) (certificate-length f positive negative points numbers depths count out all-passed)
+                    ∙ sym (output-written f positive negative points numbers depths count out nothing-found);
+              }

@@ -16,25 +16,28 @@ ghost use lib.ListN.{length};
 ghost use Rattle.math.specs.Lists.{over};
 ghost use Rattle.points.specs.Points.{numbered};
 ghost use Rattle.slices.specs.Slices.{pointsOf, clausesOf};
-ghost use Rattle.formula.specs.Limits.{capacity, maxVariables, maxPermutations, maxSlots};
+ghost use Rattle.formula.specs.Limits.{maxVariables, maxPermutations, maxSlots};
 ghost use Rattle.formula.specs.Refusals.{faultOf};
 ghost use Rattle.certificate.specs.Certificate.{certificateLength};
 ghost use Rattle.certificate.specs.Writer.{Wrote};
 ghost use Rattle.writer.specs.Parts.{slotsFault, parts, Storable};
 
-// Refusals 16 and 17, in this order, of the first `count` slots.
+// What was found before; else refusals 16 and 17, in this order, of the first `count` slots of at most `lent`.
 fn slots_refusal(
+    found: Checked,
     n: u32,
     positive: &[u64],
     negative: &[u64],
     points: &[u64],
     falsified: &[u32],
-    depths: &[u32],
+    lent: usize,
     count: u32,
 ) -> Checked
-    ensures { λ r. ⌜ faultOf r ≡ slotsFault (capacity (length (pointsOf (now (points .entry)))) (length (now (falsified .entry))) (length (now (depths .entry)))) n (numbered (clausesOf (now (positive .entry)) (now (negative .entry)))) count (pointsOf (now (points .entry))) (now (falsified .entry)) ⌝ }
+    ensures { λ r. ⌜ faultOf r ≡ slotsFault (faultOf found) lent n (numbered (clausesOf (now (positive .entry)) (now (negative .entry)))) count (pointsOf (now (points .entry))) (now (falsified .entry)) ⌝ }
 {
-    let lent = room(points, falsified, depths);
+    let Checked::Passed = found else {
+        return found;
+    };
     let many = count as usize;
     let sixteen = points_refusal(points, n, many, lent);
     let Checked::Passed = sixteen else {
@@ -79,6 +82,7 @@ fn put_certificate(
 }
 
 // D2.4: writes the certificate of the formula and of the first `count` slots; refusals 10, 11, 12, 16, 17 and 19 leave `out` as it was.
+// Beside refusal 12, it compares each point with all before it, at most count²/2 comparisons, and stores each byte once.
 pub fn write(
     f: Formula,
     positive: &[u64],
@@ -91,29 +95,18 @@ pub fn write(
 ) -> Written
     ensures { λ r. ⌜ Wrote f (now (positive .entry)) (now (negative .entry)) (now (points .entry)) (now (falsified .entry)) (now (depths .entry)) count (now (out .entry)) r (now (out .exit)) ⌝ }
 {
-    let checked = problem_refusal(f, positive, negative);
-    match checked {
+    let found = problem_refusal(f, positive, negative);
+    let lent = room(points, falsified, depths);
+    let n = f.variables;
+    let a = f.permutations;
+    let told = slots_refusal(found, n, positive, negative, points, falsified, lent, count);
+    match told {
         Checked::Passed => {}
         Checked::Refused { code, place } => {
             return Written::Refused { code, place };
         }
     }
-    let slots = slots_refusal(
-        f.variables,
-        positive,
-        negative,
-        points,
-        falsified,
-        depths,
-        count,
-    );
-    match slots {
-        Checked::Passed => {}
-        Checked::Refused { code, place } => {
-            return Written::Refused { code, place };
-        }
-    }
-    let size = length_needed(f.variables, f.permutations, count);
+    let size = length_needed(n, a, count);
     if out.len() < size {
         return Written::Refused {
             code: 19,
@@ -121,15 +114,6 @@ pub fn write(
         };
     }
     let images = f.images;
-    put_certificate(
-        out,
-        f.variables,
-        f.clauses,
-        f.permutations,
-        &images,
-        points,
-        falsified,
-        count,
-    );
+    put_certificate(out, n, f.clauses, a, &images, points, falsified, count);
     Written::Bytes(size)
 }

@@ -1,0 +1,45 @@
+-- `exports::writing::jugbowo_write` meets its contract: with room for the answer it tells what the writer answers. Assumes nothing.
+use Rattle.exports.specs.WriterLaws.{tells-nothing, tells-writing}
+use Rattle.exports.proofs.writing.jugbowo_write.Statement.{statement}
+use Rattle.exports.proofs.writing.jugbowo_write.Tie as tie
+
+returns : tie.Need-returns
+returns c =
+    let a = c .before .before .before .before .before .before .before .before .before .args in
+    tells-nothing _ (a .positive .now) (a .negative .now) (a .points .now) (a .falsified .now) (a .depths .now) (a .count) (a .out .now) (a .reply .now) (c .if1 .taken)
+
+formula-from-requires : tie.Need-formula-from-requires
+formula-from-requires c κs = tt
+
+write-requires : tie.Need-write-requires
+write-requires c κs = tt
+
+put-written-requires : tie.Need-put-written-requires
+put-written-requires c κs = c .before .before .before .before .before .before .if1 .left
+
+same-length : tie.Need-same-length
+same-length c = c .before .before .before .before .before .before .write .kept .1 .1 .1 .1 .1 .1 .1 .0
+
+same-length-2 : tie.Need-same-length-2
+same-length-2 c = c .before .before .put-written .kept .0
+
+returns-2 : tie.Need-returns-2
+returns-2 c =
+    let answered = c .before .before .before .before .before .before in
+    let made = answered .before .before in
+    let roomy = made .before in
+    let a = roomy .before .before .before .before .before .before .before .before .before .args in
+    tells-writing _ (a .positive .now) (a .negative .now) (a .points .now) (a .falsified .now) (a .depths .now) (a .count) (a .out .now) (a .reply .now) _ (answered .write .result) _ _
+    (roomy .if1 .left) (made .formula-from .ensures) (answered .write .ensures) (c .before .before .put-written .ensures)
+
+pub jugbowo-write-spec : {M : Type 1} → statement M
+jugbowo-write-spec =
+    tie.close
+    (tie.spec
+    returns
+    formula-from-requires
+    write-requires
+    put-written-requires
+    same-length
+    same-length-2
+    returns-2)
