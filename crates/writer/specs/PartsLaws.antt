@@ -31,6 +31,7 @@ module _ (earlier : Fault) (limit n : ℕ) (clauses : List Numbered) (count : �
   abbrev seventeen : Fault
   seventeen = numbersFault clauses count points numbers
 
+  -- what was found before is the answer
   pub stops-earlier : IsFault earlier → earlier ≡ slotsFault earlier limit n clauses count points numbers
   unfolding slotsFault
   stops-earlier h = by earlier h
@@ -40,6 +41,7 @@ module _ (earlier : Fault) (limit n : ℕ) (clauses : List Numbered) (count : �
       by (fault code place) h = sym (first-stops (fault code place) (sixteen ∷ seventeen ∷ []) code place refl)
 
   module _ (passed : earlier ≡ sound) (r : Fault) (tested : r ≡ sixteen) where
+    -- else what row 16 finds
     pub stops-16 : IsFault r → r ≡ slotsFault earlier limit n clauses count points numbers
     unfolding slotsFault
     stops-16 h = by r (sym tested) h ∙ sym (first-skips earlier (sixteen ∷ seventeen ∷ []) passed)
@@ -48,6 +50,7 @@ module _ (earlier : Fault) (limit n : ℕ) (clauses : List Numbered) (count : �
         by sound e h = absurd h
         by (fault code place) e h = sym (first-stops sixteen (seventeen ∷ []) code place e)
 
+    -- and else what row 17 does
     pub ends-17 : r ≡ sound → seventeen ≡ slotsFault earlier limit n clauses count points numbers
     unfolding slotsFault
     ends-17 h = sym (first-skips earlier (sixteen ∷ seventeen ∷ []) passed ∙ first-skips sixteen (seventeen ∷ []) (sym tested ∙ h) ∙ first-last seventeen)
