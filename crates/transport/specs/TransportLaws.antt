@@ -19,6 +19,7 @@ use Rattle.certificate.specs.Rows.{pointPasses, pointsFault, clauseNumbered, fa
 -- ---- row 16
 
 module _ (limit n count : ℕ) (points : List ℕ) where
+  -- a bad count
   pub no-point : count < 1 → fault 16 0 ≡ pointsFault limit n count points
   unfolding pointsFault
   no-point h = rw (lt-leb 1 count h)
@@ -31,6 +32,7 @@ module _ (limit n count : ℕ) (points : List ℕ) where
       by true t = refl
       by false t = refl
 
+  -- a good one: the first point that fails
   pub counted : 1 ≤ count → count ≤ limit → pointsFault limit n count points ≡ faultAt 16 (firstFailing (pointPasses n points) (below count))
   unfolding pointsFault
   counted some few = rw (le-leb 1 count some, le-leb count limit few)

@@ -30,15 +30,18 @@ module _ (earlier : Fault) (limit n : ℕ) (clauses : List Numbered) (count : �
   abbrev seventeen : Fault
   seventeen = numbersFault clauses count points numbers
 
+  -- what was found before is the answer
   pub stops-earlier : IsFault earlier → earlier ≡ slotsFault earlier limit n clauses count points numbers
   unfolding slotsFault
   stops-earlier h = answers-first earlier earlier (sixteen ∷ seventeen ∷ []) refl h
 
   module _ (passed : earlier ≡ sound) (r : Fault) (tested : r ≡ sixteen) where
+    -- else what row 16 finds
     pub stops-16 : IsFault r → r ≡ slotsFault earlier limit n clauses count points numbers
     unfolding slotsFault
     stops-16 h = answers-rest r earlier (sixteen ∷ seventeen ∷ []) passed (answers-first r sixteen (seventeen ∷ []) tested h)
 
+    -- and else what row 17 does
     pub ends-17 : r ≡ sound → seventeen ≡ slotsFault earlier limit n clauses count points numbers
     unfolding slotsFault
     ends-17 h =
