@@ -16,11 +16,7 @@ use Rattle.certificate.specs.Rows.{fileFault, pointsFault, numbersFault}
 use Rattle.flips.specs.Flips.{flipsFault}
 use Rattle.checker.specs.Checker.{sizesFault}
 
--- the rows 16, 17 and 18, of a list of points and one of numbers
-abbrev pub listsFault : ℕ → List Numbered → List Permutation → List ℕ → List ℕ → Fault
-listsFault n cs es ps ns = first (pointsFault maxSlots n (length ps) ps ∷ numbersFault cs (length ps) ps ns ∷ flipsFault n cs es ps ns ∷ [])
-
--- before them the rows 11 and 12, of the permutations beside
+-- the rows 11 and 12 of the permutations, then those of the entries
 abbrev pub bodiesFault : ℕ → List Numbered → List Permutation → List ℕ → List ℕ → Fault
 bodiesFault n cs es ps ns =
     first (permutationFault n es ∷ symmetryFault cs es ∷ pointsFault maxSlots n (length ps) ps ∷ numbersFault cs (length ps) ps ns ∷ flipsFault n cs es ps ns ∷ [])

@@ -1,7 +1,7 @@
 // The checker (01: 'Checker'): whether a file is a certificate that no point satisfies the clauses.
-use crate::lists::decoded_refusal;
 use certificate::Contents;
 use certificate::Opened;
+use entries::decoded_refusal;
 use formula::Checked;
 use formula::Formula;
 use formula::refusals::clauses_refusal;
@@ -15,8 +15,6 @@ ghost use Rattle.formula.specs.Reply.{accepted, unless};
 ghost use Rattle.certificate.specs.Certificate.{filePermutations, filePoints, fileNumbers};
 ghost use Rattle.checker.specs.Checker.{replyOf, CheckedAs};
 ghost use Rattle.checker.specs.Parts.{bodiesFault, fileRows, Readable};
-
-mod lists;
 
 // What the checker answers for a formula and a certificate.
 pub enum Verdict {

@@ -1,4 +1,4 @@
-// Refusals 16, 17 and 18 of a certificate's points and clause numbers.
+// Refusals 16, 17 and 18 of the entries of a certificate: its points and its clause numbers, which are copied out of their bodies first.
 use certificate::bodies::numbers_into;
 use certificate::bodies::points_into;
 use flips::flips_refusal;
@@ -17,7 +17,7 @@ ghost use Rattle.permutations.specs.Permutations.{permutationsIn};
 ghost use Rattle.formula.specs.Refusals.{faultOf};
 ghost use Rattle.certificate.specs.Bytes.{numbersIn, pointWidth, numberWidth};
 ghost use Rattle.flips.specs.Loops.{Testable};
-ghost use Rattle.checker.specs.Parts.{listsFault};
+ghost use Rattle.entries.specs.Entries.{listsFault};
 
 // The tests of the first `count` points and numbers of two slices, in their order. `decoded_refusal` hands on what it requires.
 fn lists_refusal(

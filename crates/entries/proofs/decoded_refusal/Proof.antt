@@ -1,4 +1,4 @@
--- `checker::lists::decoded_refusal` meets its contract: the arrays' first entries are those of the bodies. Assumes nothing.
+-- `entries::decoded_refusal` meets its contract: the arrays' first entries are those of the bodies. Assumes nothing.
 use mathlib.Core.Path.{sym, ap₂, _∙_}
 use Prim.Native.Nat.{ℕ}
 use native.Mathlib.Nat.{le-trans, le-of-eq}
@@ -8,10 +8,10 @@ use Rattle.points.specs.Points.{numbered}
 use Rattle.slices.specs.Slices.{clausesOf}
 use Rattle.permutations.specs.Permutations.{permutationsIn}
 use Rattle.certificate.specs.Bytes.{pointWidth, numberWidth}
-use Rattle.checker.specs.PartLaws.{copied}
-use Rattle.checker.specs.Parts.{listsFault}
-use Rattle.checker.proofs.lists.decoded_refusal.Statement.{statement}
-use Rattle.checker.proofs.lists.decoded_refusal.Tie as tie
+use Rattle.entries.specs.EntryLaws.{copied}
+use Rattle.entries.specs.Entries.{listsFault}
+use Rattle.entries.proofs.decoded_refusal.Statement.{statement}
+use Rattle.entries.proofs.decoded_refusal.Tie as tie
 
 slice-aggregate-points-into : tie.Need-slice-aggregate-points-into
 slice-aggregate-points-into c = search needs

@@ -1,4 +1,4 @@
--- `checker::lists::lists_refusal` meets its contract: each is tested over everything before the next. Assumes nothing.
+-- `entries::lists_refusal` meets its contract: each is tested over everything before the next. Assumes nothing.
 use mathlib.Core.Path.{_≡_, sym, ap, _∙_, subst}
 use borrow.Author.Needs.{needs}
 use Rattle.points.specs.Points.{numbered}
@@ -8,9 +8,9 @@ use Rattle.formula.specs.Refusals.{faultOf}
 use Rattle.formula.specs.Reply.{sound}
 use Rattle.formula.specs.ReplyLaws.{IsFault}
 use Rattle.certificate.specs.Rows.{pointsFault, numbersFault}
-use Rattle.checker.specs.PartLaws.{stops-16, stops-17, ends-18}
-use Rattle.checker.proofs.lists.lists_refusal.Statement.{statement}
-use Rattle.checker.proofs.lists.lists_refusal.Tie as tie
+use Rattle.entries.specs.EntryLaws.{stops-16, stops-17, ends-18}
+use Rattle.entries.proofs.lists_refusal.Statement.{statement}
+use Rattle.entries.proofs.lists_refusal.Tie as tie
 
 cast-most : tie.Need-cast-most
 cast-most c = search needs

@@ -1,0 +1,57 @@
+-- Laws of the rows 16, 17 and 18 of the first entries of two slices, and of entries copied to an array. Assumes nothing.
+use mathlib.Core.List.{List}
+use mathlib.Core.Path.{_≡_, sym, ap, _∙_}
+use Prim.Native.Nat.{ℕ, _≤_}
+use lib.ListN.{length, take}
+use lib.Seq.{length-take-le}
+use Rattle.math.specs.Lists.{over}
+use Rattle.math.specs.PartLaws.{over-front}
+use Rattle.points.specs.Points.{Numbered}
+use Rattle.permutations.specs.Permutations.{Permutation}
+use Rattle.formula.specs.Limits.{maxSlots}
+use Rattle.formula.specs.Reply.{Fault, sound}
+use Rattle.formula.specs.ReplyLaws.{IsFault, answers-first, answers-rest, first-last}
+use Rattle.certificate.specs.Bytes.{numberFrom, numbersIn}
+use Rattle.certificate.specs.BytesLaws.{length-entries}
+use Rattle.certificate.specs.RowLaws.{points-fault-take, numbers-fault-take}
+use Rattle.certificate.specs.Rows.{pointsFault, numbersFault}
+use Rattle.flips.specs.FlipLaws.{flips-fault-take}
+use Rattle.flips.specs.Flips.{flipsFault}
+use Rattle.entries.specs.Entries.{listsFault}
+
+-- ---- the rows 16, 17 and 18, of the first entries of two slices
+
+module _ (n : ℕ) (cs : List Numbered) (es : List Permutation) (points numbers : List ℕ) (count : ℕ) (enough : count ≤ length points) where
+  abbrev ps : List ℕ
+  ps = take count points
+
+  abbrev ns : List ℕ
+  ns = take count numbers
+
+  counted : length ps ≡ count
+  counted = length-take-le count points enough
+
+  row16 : pointsFault maxSlots n count points ≡ pointsFault maxSlots n (length ps) ps
+  row16 = sym (points-fault-take n points maxSlots count) ∙ ap (λ (k : ℕ). pointsFault maxSlots n k ps) (sym counted)
+
+  row17 : numbersFault cs count points numbers ≡ numbersFault cs (length ps) ps ns
+  row17 = sym (numbers-fault-take cs points numbers count) ∙ ap (λ (k : ℕ). numbersFault cs k ps ns) (sym counted)
+
+  row18 : flipsFault n cs es ps numbers ≡ flipsFault n cs es ps ns
+  row18 = sym (flips-fault-take n cs es ps numbers count counted)
+
+  pub stops-16 : (r : Fault) → r ≡ pointsFault maxSlots n count points → IsFault r → r ≡ listsFault n cs es ps ns
+  stops-16 r e h = answers-first r _ _ (e ∙ row16) h
+
+  pub stops-17 : (r : Fault) → pointsFault maxSlots n count points ≡ sound → r ≡ numbersFault cs count points numbers → IsFault r → r ≡ listsFault n cs es ps ns
+  stops-17 r sixteen e h = answers-rest r _ _ (sym row16 ∙ sixteen) (answers-first r _ _ (e ∙ row17) h)
+
+  pub ends-18 : (r : Fault) → pointsFault maxSlots n count points ≡ sound → numbersFault cs count points numbers ≡ sound → r ≡ flipsFault n cs es ps numbers → r ≡ listsFault n cs es ps ns
+  ends-18 r sixteen seventeen e =
+      answers-rest r _ _ (sym row16 ∙ sixteen) (answers-rest r _ _ (sym row17 ∙ seventeen) (e ∙ row18 ∙ sym (first-last (flipsFault n cs es ps ns))))
+
+-- ---- entries copied to the front of an array
+
+-- they are its first
+pub copied : (w count : ℕ) (body old new : List ℕ) → new ≡ over (numbersIn w count body) old → take count new ≡ numbersIn w count body
+copied w count body old new e = ap (take count) e ∙ over-front count (numbersIn w count body) old (length-entries numberFrom w count body)

@@ -1,0 +1,3 @@
+-- The rows 16, 17 and 18 of a certificate's entries.
+pub mod Entries
+pub mod EntryLaws
