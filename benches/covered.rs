@@ -7,25 +7,9 @@ mod library;
 #[path = "../tests/sheets.rs"]
 #[allow(dead_code)] // of what a search leaves, the benchmark reads the reply and the clause numbers
 mod sheets;
+mod clock;
+use clock::spent;
 use library::Sheet;
-
-#[repr(C)]
-struct Timespec {
-    seconds: i64,
-    nanoseconds: i64,
-}
-
-extern "C" {
-    fn clock_gettime(clock: i32, time: *mut Timespec) -> i32;
-}
-
-// The seconds that a processor has spent on this program so far; other programs do not count.
-fn spent() -> f64 {
-    const PROCESS_CPUTIME: i32 = 2;
-    let mut t = Timespec { seconds: 0, nanoseconds: 0 };
-    assert_eq!(unsafe { clock_gettime(PROCESS_CPUTIME, &mut t) }, 0);
-    t.seconds as f64 + t.nanoseconds as f64 * 1e-9
-}
 
 const HOLES: usize = 6;
 const VARIABLES: usize = HOLES * (HOLES + 1);

@@ -48,7 +48,7 @@ unfoldable pub openedContents : List ℕ → Option FileContents
 unfolding wellFormed
 openedContents file = cond (wellFormed file) (some (contentsOf file)) none
 
--- what reading a file promises
+-- G.a: what reading a file promises
 pub record OpenedAs (file : List ℕ) (r : Opened) : Type 0 where
   pub reply : replyOf r ≡ openedReply file
   pub contents : handedOut r ≡ openedContents file

@@ -56,7 +56,7 @@ writeOutput f positive negative points numbers depths count out =
     let new = certificateOf pb points numbers count ++ drop (lengthNeeded pb count) out in
     unlessKept (writeFault f positive negative points numbers depths count out) new out
 
--- what the writer promises: its reply, and the output as it returns
+-- G.a: what the writer promises: its reply, and the output as it returns
 pub record Wrote (f : Formula) (positive negative points numbers depths : List ℕ) (count : ℕ) (out : List ℕ) (r : Written) (after : List ℕ) : Type 0 where
   pub reply : replyOf r ≡ writeReply f positive negative points numbers depths count out
   pub output : after ≡ writeOutput f positive negative points numbers depths count out

@@ -11,7 +11,7 @@ ghost use Rattle.certificate.specs.Bytes.{numberFrom, numbersIn, pointWi
 ghost use Rattle.certificate.specs.Certificate.{numberAt};
 ghost use Rattle.certificate.specs.Reader.{valueOf, ImageRead, PointRead, NumberRead};
 
-// The number that at most eight bytes stand for, low byte first. One step a byte. Its callers hand in parts of 4 or 8 bytes.
+// C1: the number that at most eight bytes stand for, low byte first. One step a byte. Its callers hand in parts of 4 or 8 bytes.
 fn number_from(bytes: &[u8]) -> u64
     requires { ⌜ length (now bytes) ≤ 8 ⌝ }
     ensures { λ r. ⌜ (r ≡ numberFrom (now (bytes .entry))) × (r < 256 ^ length (now (bytes .entry))) ⌝ }
@@ -60,21 +60,21 @@ fn entry_at(body: &[u8], width: usize, i: usize) -> Entry
     }
 }
 
-// F4: the point of index i of the body of points.
+// C3, F4: the point of index i of the body of points.
 pub fn point_at(body: &[u8], i: usize) -> Entry
     ensures { λ r. ⌜ PointRead (now (body .entry)) i r ⌝ }
 {
     entry_at(body, 8, i)
 }
 
-// F4: the clause number of index i of the body of clause numbers.
+// C3, F4: the clause number of index i of the body of clause numbers.
 pub fn number_at(body: &[u8], i: usize) -> Entry
     ensures { λ r. ⌜ NumberRead (now (body .entry)) i r ⌝ }
 {
     entry_at(body, 4, i)
 }
 
-// F4: where the permutation of index j of the body of permutations sends variable i + 1.
+// C3, F4: where the permutation of index j of the body of permutations sends variable i + 1.
 pub fn image_at(body: &[u8], n: usize, j: usize, i: usize) -> Entry
     ensures { λ r. ⌜ ImageRead n (now (body .entry)) j i r ⌝ }
 {

@@ -41,7 +41,7 @@ pub enum Entry {
 // How many bytes the contents take.
 pub const CONTENTS: usize = 32;
 
-// The contents that stand in a file's first 32 bytes; `read` sees to it that there are so many.
+// C2: the contents that stand in a file's first 32 bytes; `read` sees to it that there are so many.
 fn contents_from(file: &[u8]) -> Contents
     requires { ⌜ 32 ≤ length (now file) ⌝ }
     ensures { λ r. ⌜ contentsIn r ≡ contentsOf (now (file .entry)) ⌝ }
@@ -93,7 +93,7 @@ fn in_order(c: Contents, size: usize) -> bool
     behind - points == numbers
 }
 
-// D2.4: reads a file's contents without checking what its bodies hold; refusal 14 has the file's length as its place.
+// N7, R14: reads a file's contents without checking what its bodies hold; refusal 14 has the file's length as its place.
 pub fn read(file: &[u8]) -> Opened
     ensures { λ r. ⌜ OpenedAs (now (file .entry)) r ⌝ }
 {

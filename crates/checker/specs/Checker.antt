@@ -65,6 +65,6 @@ pub record Accepts (f : Formula) (positive negative file : List ℕ) : Type 0 wh
   pub sameTotal : contentsOf file .clauses ≡ problemOf f positive negative .total
   pub stable : Stable (problemOf f positive negative .variables) (problemOf f positive negative .clauses) (filePermutations file) (filePoints file) (fileNumbers file)
 
--- what the checker promises
+-- G.a: what the checker promises
 pub record CheckedAs (f : Formula) (positive negative file : List ℕ) (r : Verdict) : Type 0 where
   pub reply : replyOf r ≡ checkReply f positive negative file

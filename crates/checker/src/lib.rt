@@ -32,7 +32,7 @@ fn as_verdict(checked: Checked) -> Verdict
     }
 }
 
-// F4: refusals 11, 12, 16, 17 and 18, each body handed on as its own part of the file. K2: the permutations are the file's. `file_refusal`
+// C8, F4: refusals 11, 12, 16, 17 and 18, each body handed on as its own part of the file. K2: the permutations are the file's. `file_refusal`
 // sees to what it requires.
 fn bodies_refusal(c: Contents, positive: &[u64], negative: &[u64], file: &[u8]) -> Checked
     requires { ⌜ Readable c (now positive) (now negative) (now file) ⌝ }
@@ -62,7 +62,7 @@ fn bodies_refusal(c: Contents, positive: &[u64], negative: &[u64], file: &[u8]) 
     decoded_refusal(positive, negative, points, numbers, count, images, n, group)
 }
 
-// Refusals 14 and 15, then those of the bodies. Refusal 10 sees to what it requires.
+// R15: refusals 14 and 15, then those of the bodies. Refusal 10 sees to what it requires.
 fn file_refusal(n: u32, clauses: u32, positive: &[u64], negative: &[u64], file: &[u8]) -> Checked
     requires { ⌜ Fits n clauses (now positive) (now negative) ⌝ }
     ensures { λ r. ⌜ faultOf r ≡ fileRows n clauses (now (positive .entry)) (now (negative .entry)) (now (file .entry)) ⌝ }
@@ -82,7 +82,7 @@ fn file_refusal(n: u32, clauses: u32, positive: &[u64], negative: &[u64], file: 
     }
 }
 
-// D2.4: checks a file for the clauses of a formula, whose target and permutations it does not look at.
+// D2.3, K1, N6: checks a file for the clauses of a formula, whose target and permutations it does not look at.
 pub fn check(f: Formula, positive: &[u64], negative: &[u64], file: &[u8]) -> Verdict
     ensures { λ r. ⌜ CheckedAs f (now (positive .entry)) (now (negative .entry)) (now (file .entry)) r ⌝ }
 {

@@ -7,7 +7,7 @@ use Rattle.answer.specs.Answers.{replyOf}
 use Rattle.text.specs.Reader.{readReply, readFormula, readPositive, readNegative}
 use Rattle.answer.specs.declared.Parsed.{Parsed}
 
--- D2.1: "A sheet is read as DIMACS CNF, as document 01 fixes it.": from a text and the two slices at entry, the answer and the slices at exit
+-- G.a, D2.1: "A sheet is read as DIMACS CNF, as document 01 fixes it.": from a text and the two slices at entry, the answer and the slices at exit
 pub record Read (text positive₀ negative₀ : List ℕ) (r : Parsed) (positive₁ negative₁ : List ℕ) : Type 0 where
   pub reply : replyOf (r .answer) ≡ readReply text positive₀ negative₀
   pub formula : r .formula ≡ readFormula text positive₀ negative₀

@@ -19,7 +19,7 @@ ghost use Rattle.certificate.specs.Bytes.{numbersIn, pointWidth, numberWidth};
 ghost use Rattle.flips.specs.Loops.{Testable};
 ghost use Rattle.entries.specs.Entries.{listsFault};
 
-// The tests of the first `count` points and numbers of two slices, in their order. `decoded_refusal` hands on what it requires.
+// N8: the tests of the first `count` points and numbers of two slices, in their order. `decoded_refusal` hands on what it requires.
 fn lists_refusal(
     positive: &[u64],
     negative: &[u64],

@@ -123,7 +123,7 @@ fn first_uncovered(
     0
 }
 
-// Refusal 18, of the first `count` points and numbers: at most count · n look-ups. Refusals 10, 11 and 16 see to what it requires.
+// R18: refusal 18, of the first `count` points and numbers: at most count · n look-ups. Refusals 10, 11 and 16 see to what it requires.
 pub fn flips_refusal(
     positive: &[u64],
     negative: &[u64],

@@ -41,7 +41,7 @@ unfoldable pub unless : Fault → Reply → Reply
 unless sound r = r
 unless (fault code place) r = refused code place
 
--- N1: "Every row leaves all lent slices unchanged"
+-- D1.2, N1: "Every row leaves all lent slices unchanged"
 unfoldable pub unlessKept : Fault → List ℕ → List ℕ → List ℕ
 unlessKept sound new old = new
 unlessKept (fault code place) new old = old

@@ -21,7 +21,7 @@ fn byte_of(x: u64, i: usize) -> u8
     ((x >> shift) % 256) as u8
 }
 
-// Stores the lowest `width` bytes of a number from place `at` on, low byte first. One step a byte.
+// C1: stores the lowest `width` bytes of a number from place `at` on, low byte first. One step a byte.
 pub fn put_number(out: &mut [u8], at: usize, width: usize, x: u64)
     requires { ⌜ at + width ≤ length (now out) ⌝ }
     ensures { λ _. ⌜ now (out .exit) ≡ spliced at (bytesOf width x) (now (out .entry)) ⌝ }
@@ -49,7 +49,7 @@ fn put_fields(out: &mut [u8], at: usize, a: u64, b: u64, c: u64, d: u64)
     put_number(out, fourth, 4, d);
 }
 
-// Stores the contents of a certificate: n, m, then count and offset of each body. The caller says where the points and the numbers begin.
+// C2: stores the contents of a certificate: n, m, then count and offset of each body. The caller says where the points and the numbers begin.
 pub fn put_contents(
     out: &mut [u8],
     n: u32,
@@ -88,7 +88,7 @@ pub fn put_bytes(out: &mut [u8], at: usize, bytes: &[u8], count: usize)
     }
 }
 
-// Stores the first `count` points from place `at` on, eight bytes each. One step a point.
+// C3: stores the first `count` points from place `at` on, eight bytes each. One step a point.
 pub fn put_points(out: &mut [u8], at: usize, points: &[u64], count: usize)
     requires { ⌜ (at + count * pointWidth ≤ length (now out)) × (count ≤ length (pointsOf (now points))) ⌝ }
     ensures { λ _. ⌜ now (out .exit) ≡ spliced at (joined (bytesOf pointWidth) (take count (pointsOf (now (points .entry))))) (now (out .entry)) ⌝ }
@@ -102,7 +102,7 @@ pub fn put_points(out: &mut [u8], at: usize, points: &[u64], count: usize)
     }
 }
 
-// Stores the first `count` clause numbers from place `at` on, four bytes each. One step a number.
+// C3: stores the first `count` clause numbers from place `at` on, four bytes each. One step a number.
 pub fn put_numbers(out: &mut [u8], at: usize, numbers: &[u32], count: usize)
     requires { ⌜ (at + count * numberWidth ≤ length (now out)) × (count ≤ length (now numbers)) ⌝ }
     ensures { λ _. ⌜ now (out .exit) ≡ spliced at (joined (bytesOf numberWidth) (take count (now (numbers .entry)))) (now (out .entry)) ⌝ }

@@ -57,7 +57,7 @@ unfolding searchFault searchSlots unlessKept over
 searchSlice part f positive negative lent old =
     let new = over (map part (searchSlots f positive negative lent)) old in unlessKept (searchFault f positive negative lent) new old
 
--- D2.2: "The builder's answer and slots are those of the walk in 01.": the answer, and the three slices as it returns
+-- G.a, D2.2: "The builder's answer and slots are those of the walk in 01.": the answer, and the three slices as it returns
 pub record Searched (f : Formula) (positive negative points₀ falsified₀ depths₀ : List ℕ) (r : Outcome) (points₁ falsified₁ depths₁ : List ℕ) : Type 0 where
   pub reply : replyOf r ≡ searchReply f positive negative (lentBy points₀ falsified₀ depths₀)
   pub points : pointsOf points₁ ≡ searchSlice (λ (s : Slot). s .point) f positive negative (lentBy points₀ falsified₀ depths₀) (pointsOf points₀)

@@ -112,7 +112,7 @@ pub record Promises (s : Sheet) (l : Slots) (t : Told) (out₀ out₁ : List ℕ
   pub roomy : (b k : ℕ) → 2 ^ problemIn s .variables ≤ maxSlots → 2 ^ problemIn s .variables ≤ length (l .points) → 2 ^ problemIn s .variables ≤ length (l .numbers)
       → 2 ^ problemIn s .variables ≤ length (l .depths) → t .reply ≡ unknown b k → ⊥
 
--- what the solver promises for a sheet: its answer and every lent slice as it returns, by the definitions, and the claim's sentences
+-- G.a: what the solver promises for a sheet: its answer and every lent slice as it returns, by the definitions, and the claim's sentences
 pub record Solved (s : Sheet) (l : Slots) (out₀ : List ℕ) (r : Solution) (points₁ falsified₁ depths₁ out₁ : List ℕ) : Type 0 where
   pub reply : toldBy r .reply ≡ sheetReply s (lent l)
   pub certificate : toldBy r .certificate ≡ certificateReply s l out₀

@@ -153,7 +153,7 @@ fn solve_read(
     solve_formula(f, wanted, unwanted, points, falsified, depths, out)
 }
 
-// The product's main promise: reads a text, searches, and writes and checks the certificate of one that cannot be met. The clauses stay in
+// K3, the product's main promise: reads a text, searches, and writes and checks the certificate of one that cannot be met. The clauses stay in
 // local arrays, 64 KiB, so that after a refusal nothing that was lent has changed.
 pub fn solve(
     text: &[u8],

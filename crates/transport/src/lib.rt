@@ -50,7 +50,7 @@ fn first_bad_point(points: &[u64], n: u32, count: usize) -> usize
     0
 }
 
-// Refusal 16, of the first `count` points, of which at most `limit` are allowed.
+// R16: refusal 16, of the first `count` points, of which at most `limit` are allowed.
 pub fn points_refusal(points: &[u64], n: u32, count: usize, limit: usize) -> Checked
     ensures { λ r. ⌜ faultOf r ≡ pointsFault limit n count (pointsOf (now (points .entry))) ⌝ }
 {
@@ -121,7 +121,7 @@ fn first_bad_number(
     0
 }
 
-// Refusal 17, of the first `count` points and numbers.
+// R17: refusal 17, of the first `count` points and numbers.
 pub fn numbers_refusal(
     positive: &[u64],
     negative: &[u64],

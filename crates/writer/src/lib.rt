@@ -56,7 +56,7 @@ fn length_needed(n: u32, permutations: u32, count: u32) -> usize
     32 + area + many * 8 + many * 4
 }
 
-// Stores a certificate at the front of `out`: its contents, the permutations, the points and the clause numbers. The writer sees to what
+// C3: stores a certificate at the front of `out`: its contents, the permutations, the points and the clause numbers. The writer sees to what
 // it requires.
 fn put_certificate(
     out: &mut [u8],
@@ -81,7 +81,7 @@ fn put_certificate(
     put_numbers(out, numbers_at, falsified, many);
 }
 
-// D2.4: writes the certificate of the formula and of the first `count` slots; refusals 10, 11, 12, 16, 17 and 19 leave `out` as it was.
+// D2.4, N5, C6, R19: writes the certificate of the formula and of the first `count` slots; refusals 10, 11, 12, 16, 17 and 19 leave `out` as it was.
 // Beside refusal 12, it compares each point with all before it, at most count²/2 comparisons, and stores each byte once.
 pub fn write(
     f: Formula,

@@ -1,0 +1,72 @@
+// What checking a certificate costs as its points grow, without permutations and with 16, in one run. The clauses are all sign patterns of 8
+// variables, so that each point falsifies exactly one and has 8 flips to look up. Without permutations the points are all of m variables: a
+// flip is found half way through a scan, on the average. With 16 two more variables tell the parity of those 8, and only the last
+// permutation, which exchanges the two, takes a flip to a point: the 15 before it are the identity, so that a look-up scans all points 16 times.
+#[path = "../tests/library.rs"]
+mod library;
+mod clock;
+use clock::spent;
+use library::Sheet;
+
+const LISTED: u32 = 8;
+
+// All clauses over the first 8 variables.
+fn sheet(variables: u32) -> Sheet {
+    let all = (1u64 << LISTED) - 1;
+    let positive: Vec<u64> = (0..=all).collect();
+    let negative = positive.iter().map(|p| all - p).collect();
+    Sheet { variables, clauses: 1 << LISTED, target: 0, permutations: 0, images: vec![0; 1024], positive, negative }
+}
+
+fn number(file: &mut Vec<u8>, x: usize) {
+    file.extend((x as u32).to_le_bytes());
+}
+
+// A certificate: contents, permutations, points, and for each point the number of the clause that it falsifies.
+fn certificate(variables: u32, permutations: &[Vec<u8>], points: &[u64]) -> Vec<u8> {
+    let images: Vec<u8> = permutations.concat();
+    let points_at = 32 + images.len();
+    let mut file = Vec::new();
+    number(&mut file, variables as usize);
+    number(&mut file, 1 << LISTED);
+    for (count, place) in [(permutations.len(), 32), (points.len(), points_at), (points.len(), points_at + 8 * points.len())] {
+        number(&mut file, count);
+        number(&mut file, place);
+    }
+    file.extend(images);
+    file.extend(points.iter().flat_map(|x| x.to_le_bytes()));
+    let all = (1u64 << LISTED) - 1;
+    for x in points {
+        number(&mut file, (all - (x & all)) as usize + 1);
+    }
+    file
+}
+
+// The points of m variables, each with its parity told by two more where there are permutations.
+fn points(m: u32, told: bool) -> Vec<u64> {
+    let parity = |a: u64| (a & ((1 << LISTED) - 1)).count_ones() % 2;
+    (0..1u64 << m).map(|a| if told { a | 1 << (m + parity(a)) } else { a }).collect()
+}
+
+fn main() {
+    println!("permutations points look-ups seconds microseconds-a-look-up");
+    for listed in [0usize, 16] {
+        for m in [10u32, 12, 14, 16] {
+            let variables = if listed > 0 { m + 2 } else { m };
+            let identity: Vec<u8> = (1..=variables as u8).collect();
+            let mut permutations = vec![identity.clone(); listed];
+            if let Some(last) = permutations.last_mut() {
+                last.swap(m as usize, m as usize + 1);
+            }
+            let held = points(m, listed > 0);
+            let file = certificate(variables, &permutations, &held);
+            let mut reply = [0u64; 4];
+            let begun = spent();
+            library::check(&sheet(variables), &file, &mut reply);
+            let seconds = spent() - begun;
+            assert_eq!(reply, [7, 0, 0, 0], "accepted");
+            let lookups = held.len() as u32 * LISTED;
+            println!("{listed} {} {lookups} {seconds:.3} {:.2}", held.len(), seconds / lookups as f64 * 1e6);
+        }
+    }
+}
