@@ -1,0 +1,122 @@
+/* The style-sheet engine as a static library: libexports.a, built by `rt staticlib exports`.
+ *
+ * A lent slice is a pointer and a length, in elements; with length 0 the pointer may be anything that is not null. Slices lent to one call
+ * must not overlap unless all of them are const. Nothing else is asked: any numbers, any bytes, any lengths.
+ *
+ * An answer is told in words at the front of `reply`, and the function returns 1. Where one of the slices for the answer is too short it
+ * returns 0 and changes nothing: it had no place to reply. Words of `reply` behind the answer are left alone. The first word says which
+ * answer it is, the others what it carries, then 0:
+ *
+ *   JUGBOWO_REFUSED        number, place      a numbered refusal (docs/REFUSALS.md); all lent slices are as they were
+ *   JUGBOWO_SATISFIABLE    point, distance, filled     the nearest satisfying point, in how many variables it differs from the target
+ *   JUGBOWO_UNSATISFIABLE  filled             no point satisfies the clauses; the filled slots are a stable set
+ *   JUGBOWO_UNKNOWN        bound, filled      no room; every satisfying point differs from the target in at least `bound` variables
+ *   JUGBOWO_PARSED                            the text is read
+ *   JUGBOWO_WRITTEN        bytes              the certificate takes the first so many bytes of the output
+ *   JUGBOWO_OPENED                            the file's contents are in order
+ *   JUGBOWO_ACCEPTED                          the certificate is accepted: no point satisfies the clauses
+ *   JUGBOWO_CERTIFIED      filled, bytes      unsatisfiable, with its certificate in the first so many bytes of the output, checked
+ *   JUGBOWO_UNCERTIFIED    filled, needed     unsatisfiable; the output has fewer than `needed` bytes and is as it was
+ *
+ * A formula is four numbers and the images of its permutations, `variables` bytes each, that of variable 1 first: of `images` the first
+ * 1,024 bytes count, and 0 for those that are not lent. A clause is the same place of `positive` and of `negative`, sets of variables: bit i
+ * is variable i + 1. A point is such a set too: the variables that are yes.
+ *
+ * No function keeps anything between calls or uses memory but the stack. The most that a call takes of it stands at each function. */
+#ifndef JUGBOWO_H
+#define JUGBOWO_H
+
+#include <stddef.h>
+#include <stdint.h>
+
+#ifdef __cplusplus
+extern "C" {
+#endif
+
+enum {
+    JUGBOWO_REFUSED = 0,
+    JUGBOWO_SATISFIABLE = 1,
+    JUGBOWO_UNSATISFIABLE = 2,
+    JUGBOWO_UNKNOWN = 3,
+    JUGBOWO_PARSED = 4,
+    JUGBOWO_WRITTEN = 5,
+    JUGBOWO_OPENED = 6,
+    JUGBOWO_ACCEPTED = 7,
+    JUGBOWO_CERTIFIED = 8,
+    JUGBOWO_UNCERTIFIED = 9
+};
+
+/* Reads a DIMACS text. Takes the text; leaves the clauses in the first places of `positive` and `negative`, the formula's four numbers
+ * (variables, clauses, target, permutations) in the first four words of `numbers`, its images in the first 1,024 bytes of `images`, the answer
+ * in the first four words of `reply`: refusals 1 to 9, or parsed. After a refusal both clause slices are as they were, numbers and images 0.
+ * Stack: 128 KiB. */
+uint32_t jugbowo_read(const uint8_t *text, size_t text_len,
+                      uint64_t *positive, size_t positive_len,
+                      uint64_t *negative, size_t negative_len,
+                      uint64_t *numbers, size_t numbers_len,
+                      uint8_t *images, size_t images_len,
+                      uint64_t *reply, size_t reply_len);
+
+/* Searches from the target for the nearest satisfying point. Takes a formula with exactly `clauses` places in both clause slices; fills
+ * slots from the front of the three slot slices, of which the shortest counts, at most 65,536. Slots beyond those filled are left alone.
+ * Answers: refusals 10 to 13, satisfiable, unsatisfiable or unknown. Stack: 16 KiB. */
+uint32_t jugbowo_search(uint32_t variables, uint32_t clauses, uint64_t target, uint32_t permutations,
+                        const uint8_t *images, size_t images_len,
+                        const uint64_t *positive, size_t positive_len,
+                        const uint64_t *negative, size_t negative_len,
+                        uint64_t *points, size_t points_len,
+                        uint32_t *falsified, size_t falsified_len,
+                        uint32_t *depths, size_t depths_len,
+                        uint64_t *reply, size_t reply_len);
+
+/* Writes the certificate of the first `count` slots. Takes the same formula and clauses and the slots as a search left them; leaves the
+ * certificate at the front of `out` and the bytes behind it alone. Answers: refusals 10, 11, 12, 16, 17, 19 (with the bytes needed), or
+ * written. Stack: 16 KiB. */
+uint32_t jugbowo_write(uint32_t variables, uint32_t clauses, uint64_t target, uint32_t permutations,
+                       const uint8_t *images, size_t images_len,
+                       const uint64_t *positive, size_t positive_len,
+                       const uint64_t *negative, size_t negative_len,
+                       const uint64_t *points, size_t points_len,
+                       const uint32_t *falsified, size_t falsified_len,
+                       const uint32_t *depths, size_t depths_len,
+                       uint32_t count,
+                       uint8_t *out, size_t out_len,
+                       uint64_t *reply, size_t reply_len);
+
+/* Checks a certificate for the clauses of a formula, whose target and permutations it does not look at. Changes nothing but `reply`.
+ * Answers: refusals 10, 14, 15, 11, 12, 16, 17, 18 in this order, or accepted. Stack: 1 MiB. */
+uint32_t jugbowo_check(uint32_t variables, uint32_t clauses, uint64_t target, uint32_t permutations,
+                       const uint8_t *images, size_t images_len,
+                       const uint64_t *positive, size_t positive_len,
+                       const uint64_t *negative, size_t negative_len,
+                       const uint8_t *file, size_t file_len,
+                       uint64_t *reply, size_t reply_len);
+
+/* Reads a certificate's contents without checking it: the eight numbers of its first 32 bytes, in their order, to the first eight words of
+ * `contents`, which a refusal leaves alone. Answers: refusal 14, or opened. Stack: 4 KiB. */
+uint32_t jugbowo_open(const uint8_t *file, size_t file_len,
+                      uint64_t *contents, size_t contents_len,
+                      uint64_t *reply, size_t reply_len);
+
+/* One entry of a body of a certificate, which is lent as its own part of the file: where permutation j, of n bytes each, sends variable i + 1;
+ * point i; clause number i. Indices count from 0. Two words of `reply`: 1 and the value, or 0 and 0 where the entry lies outside the body.
+ * Stack: 4 KiB. */
+uint32_t jugbowo_image_at(const uint8_t *body, size_t body_len, size_t n, size_t j, size_t i, uint64_t *reply, size_t reply_len);
+uint32_t jugbowo_point_at(const uint8_t *body, size_t body_len, size_t i, uint64_t *reply, size_t reply_len);
+uint32_t jugbowo_number_at(const uint8_t *body, size_t body_len, size_t i, uint64_t *reply, size_t reply_len);
+
+/* Reads a text, searches and, where no point satisfies the clauses, writes and checks the certificate. Takes the text; fills slots as the
+ * search does, and leaves a certificate at the front of `out`. Answers: refusals 1 to 3 and 5 to 9 of the reader, 12 and 13 of the search,
+ * satisfiable, unknown, certified or uncertified. Stack: 1.25 MiB. */
+uint32_t jugbowo_solve(const uint8_t *text, size_t text_len,
+                       uint64_t *points, size_t points_len,
+                       uint32_t *falsified, size_t falsified_len,
+                       uint32_t *depths, size_t depths_len,
+                       uint8_t *out, size_t out_len,
+                       uint64_t *reply, size_t reply_len);
+
+#ifdef __cplusplus
+}
+#endif
+
+#endif

@@ -1,0 +1,437 @@
+// The compiled library against the implementation of reference.rs, on random and damaged inputs: replies and all memory lent are compared and,
+// for at most 12 names, the promises are tried by brute force. Usage: differential SEED COUNT. Each case has a seed of its own, which is printed
+// where something differs: `differential SEED 1` runs that case again. Exit status 1 if anything differs.
+mod library;
+mod reference;
+use reference::{Reply, Slot};
+
+// Random numbers (xorshift), the same on every machine.
+struct Random(u64);
+
+impl Random {
+    fn new(seed: u64) -> Random {
+        let mut r = Random(seed.wrapping_mul(0x9E37_79B9_7F4A_7C15) ^ 0xD1B5_4A32_D192_ED03);
+        r.0 |= 1;
+        (0..8).for_each(|_| {
+            r.next();
+        });
+        r
+    }
+
+    fn next(&mut self) -> u64 {
+        self.0 ^= self.0 << 13;
+        self.0 ^= self.0 >> 7;
+        self.0 ^= self.0 << 17;
+        self.0.wrapping_mul(0x2545_F491_4F6C_DD1D)
+    }
+
+    fn below(&mut self, n: u64) -> u64 {
+        self.next() % n
+    }
+
+    fn chance(&mut self, one_in: u64) -> bool {
+        self.below(one_in) == 0
+    }
+
+    fn pick<'a, T>(&mut self, of: &'a [T]) -> &'a T {
+        &of[self.below(of.len() as u64) as usize]
+    }
+
+    fn permutation(&mut self, n: u32) -> Vec<u8> {
+        let mut e: Vec<u8> = (1..=n as u8).collect();
+        for i in (1..e.len()).rev() {
+            e.swap(i, self.below(i as u64 + 1) as usize);
+        }
+        e
+    }
+
+    // Numbers that stand in every place of a slice before a call.
+    fn filled(&mut self, len: usize) -> Vec<u64> {
+        let first = self.next();
+        (0..len as u64).map(|i| first.wrapping_add(i)).collect()
+    }
+}
+
+fn narrow(xs: &[u64]) -> Vec<u32> {
+    xs.iter().map(|&x| x as u32).collect()
+}
+
+fn lent(s: &reference::Sheet) -> library::Sheet {
+    library::Sheet {
+        variables: s.names,
+        clauses: s.rules,
+        target: s.wish,
+        permutations: s.exchanges,
+        images: s.bytes.clone(),
+        positive: s.yes.clone(),
+        negative: s.no.clone(),
+    }
+}
+
+// The words of a reply as the exported functions tell it.
+fn words(reply: &Reply) -> Vec<u64> {
+    match *reply {
+        Reply::Refused(number, place) => vec![0, u64::from(number), place as u64, 0],
+        Reply::Met { choice, changes, slots } => vec![1, choice, u64::from(changes), slots as u64],
+        Reply::Unmet { slots } => vec![2, slots as u64, 0, 0],
+        Reply::NoRoom { depth, slots } => vec![3, u64::from(depth), slots as u64, 0],
+    }
+}
+
+fn refused(r: reference::Refusal) -> Vec<u64> {
+    words(&Reply::Refused(r.0, r.1))
+}
+
+// ---- random inputs
+
+fn rule(r: &mut Random, n: u32) -> (u64, u64) {
+    let mut both = (0, 0);
+    for _ in 0..*r.pick(&[0, 1, 1, 2, 2, 2, 3, 3, 4]) {
+        let bit = 1u64 << r.below(u64::from(n));
+        if r.chance(2) { both.0 |= bit } else { both.1 |= bit }
+    }
+    both
+}
+
+fn moved(e: &[u8], set: u64) -> u64 {
+    (0..e.len()).filter(|&i| set >> i & 1 == 1).map(|i| 1u64 << (e[i] - 1)).sum()
+}
+
+// Rules that the permutations keep, as far as few rounds of adding images go.
+fn closed(rules: &mut Vec<(u64, u64)>, listed: &[Vec<u8>]) {
+    for _ in 0..6 {
+        for k in 0..rules.len() {
+            for e in listed {
+                let image = (moved(e, rules[k].0), moved(e, rules[k].1));
+                if !rules.contains(&image) && rules.len() < 300 {
+                    rules.push(image);
+                }
+            }
+        }
+    }
+}
+
+fn sheet(r: &mut Random) -> reference::Sheet {
+    let names = *r.pick(&[1, 2, 2, 3, 3, 4, 4, 5, 6, 7, 8, 10, 12, 20, 63, 64]);
+    let mut rules: Vec<(u64, u64)> = (0..r.below(if names > 12 { 6 } else { 3 * u64::from(names) + 2 })).map(|_| rule(r, names)).collect();
+    let listed: Vec<Vec<u8>> = (0..*r.pick(&[0u64, 0, 1, 1, 2, 3, 16])).map(|_| if r.chance(3) { r.permutation(names) } else { exchanged(r, names) }).collect();
+    if !r.chance(6) {
+        closed(&mut rules, &listed);
+    }
+    let mut bytes = listed.concat();
+    bytes.resize(1024, if r.chance(4) { 7 } else { 0 });
+    let below = if names == 64 { u64::MAX } else { (1 << names) - 1 };
+    reference::Sheet {
+        names,
+        rules: rules.len() as u32,
+        wish: r.next() & below,
+        exchanges: listed.len() as u32,
+        bytes,
+        yes: rules.iter().map(|x| x.0).collect(),
+        no: rules.iter().map(|x| x.1).collect(),
+    }
+}
+
+// Two names exchanged, or none.
+fn exchanged(r: &mut Random, n: u32) -> Vec<u8> {
+    let mut e: Vec<u8> = (1..=n as u8).collect();
+    let (a, b) = (r.below(u64::from(n)) as usize, r.below(u64::from(n)) as usize);
+    e.swap(a, b);
+    e
+}
+
+// One thing of a sheet by value changed, so that a refusal is near.
+fn bend(r: &mut Random, s: &mut reference::Sheet) {
+    match r.below(9) {
+        0 => s.names = *r.pick(&[0, 1, 2, 64, 65, u32::MAX]),
+        1 => s.rules = *r.pick(&[0, 1, 4096, 4097, u32::MAX]),
+        2 => s.wish = r.next(),
+        3 => s.exchanges = *r.pick(&[0, 1, 16, 17, u32::MAX]),
+        4 => s.bytes[r.below(40) as usize] = r.next() as u8,
+        5 => {
+            s.yes.pop();
+        }
+        6 => s.no.push(r.next()),
+        7 => s.yes.push(1),
+        _ => {
+            let k = r.below(s.no.len() as u64 + 1) as usize;
+            if let Some(x) = s.no.get_mut(k) {
+                *x ^= 1 << r.below(64);
+            }
+        }
+    }
+}
+
+// A text of a sheet in free form: blanks, comments, words over several lines.
+fn text(r: &mut Random) -> Vec<u8> {
+    let s = sheet(r);
+    let mut out = Vec::new();
+    while r.chance(3) {
+        out.extend(*r.pick(&[&b"c a remark\n"[..], b"\n", b" \t\r\n", b"c wish 01\n", b"c exch 1\n", b"cnf 2 2\n"]));
+    }
+    out.extend(format!("p cnf {} {}\n", s.names, s.rules).bytes());
+    let n = s.names as usize;
+    let mut comments: Vec<Vec<u8>> = (0..s.exchanges as usize)
+        .map(|k| [&b"c exch "[..], s.bytes[k * n..(k + 1) * n].iter().map(|b| b.to_string()).collect::<Vec<_>>().join(" ").as_bytes(), b"\n"].concat())
+        .collect();
+    if r.chance(2) {
+        comments.push([&b"c wish "[..], &(0..n).map(|i| b'0' + (s.wish >> i & 1) as u8).collect::<Vec<u8>>(), b" \n"].concat());
+    }
+    for (yes, no) in s.both() {
+        let literals = (0..64).filter(|i| yes >> i & 1 == 1).map(|i| i + 1).chain((0..64).filter(|i| no >> i & 1 == 1).map(|i| -i - 1));
+        for l in literals.chain([0]) {
+            if r.chance(9) {
+                out.push(b'\n');
+                out.extend(comments.pop().unwrap_or_default());
+            }
+            out.extend(format!("{l}{}", r.pick(&[" ", " ", "\t", "  ", "\n", "\r\n", " \n"])).bytes());
+        }
+    }
+    out.push(b'\n');
+    comments.into_iter().for_each(|c| out.extend(c));
+    if r.chance(3) {
+        out.pop();
+    }
+    out
+}
+
+// Bytes changed, lost, repeated or put in.
+fn damage(r: &mut Random, bytes: &mut Vec<u8>) {
+    for _ in 0..1 + r.below(3) {
+        let at = r.below(bytes.len() as u64 + 1) as usize;
+        let span = (r.below(12) as usize).min(bytes.len() - at);
+        match r.below(6) {
+            0 => bytes.truncate(at),
+            1 => {
+                bytes.drain(at..at + span);
+            }
+            2 => {
+                let part = bytes[at..at + span].to_vec();
+                bytes.splice(at..at, part);
+            }
+            3 => {
+                let word = *r.pick(&[&b"c wish "[..], b"c exch ", b"p cnf ", b"-0 ", b"00012 ", b"0", b"-", b"65 ", b"c", b"\n", b"\0"]);
+                bytes.splice(at..at, word.iter().copied());
+            }
+            _ => {
+                if let Some(b) = bytes.get_mut(at) {
+                    *b = r.next() as u8;
+                }
+            }
+        }
+    }
+}
+
+// ---- one case
+
+struct Case {
+    random: Random,
+    wrong: Vec<String>,
+}
+
+impl Case {
+    fn same<T: PartialEq + std::fmt::Debug>(&mut self, what: &str, got: T, wanted: T) {
+        if got != wanted {
+            let mut line = format!("{what}: got {got:?}, wanted {wanted:?}");
+            line.truncate(400);
+            self.wrong.push(line);
+        }
+    }
+
+    fn holds(&mut self, what: &str, fact: bool) {
+        if !fact {
+            self.wrong.push(format!("does not hold: {what}"));
+        }
+    }
+
+    fn reader(&mut self) {
+        let mut bytes = text(&mut self.random);
+        if self.random.chance(2) {
+            damage(&mut self.random, &mut bytes);
+        }
+        let lengths = [300, self.random.below(40) as usize];
+        let (yes, no) = (*self.random.pick(&lengths), *self.random.pick(&lengths));
+        let before = (self.random.filled(yes), self.random.filled(no));
+        let (mut positive, mut negative) = before.clone();
+        let (mut numbers, mut images, mut reply) = ([3; 5], [3; 1025], [3; 5]);
+        self.same("told", library::read(&bytes, &mut positive, &mut negative, &mut numbers, &mut images, &mut reply), 1);
+        match reference::read(&bytes, yes, no) {
+            Ok(s) => {
+                self.same("reply", reply.to_vec(), vec![4, 0, 0, 0, 3]);
+                self.same("numbers", numbers.to_vec(), vec![u64::from(s.names), u64::from(s.rules), s.wish, u64::from(s.exchanges), 3]);
+                self.same("images", images[..1024].to_vec(), s.bytes.clone());
+                self.same("positive", positive, [&s.yes[..], &before.0[s.yes.len()..]].concat());
+                self.same("negative", negative, [&s.no[..], &before.1[s.no.len()..]].concat());
+            }
+            Err(r) => {
+                self.same("reply", reply.to_vec(), [&refused(r)[..], &[3]].concat());
+                self.holds("no formula after a refusal", numbers == [0, 0, 0, 0, 3] && images[..1024] == [0; 1024]);
+                self.same("slices after a refusal", (positive, negative), before);
+            }
+        }
+    }
+
+    // A search over three slices, compared; the sheet, the reply and the slots.
+    fn builder(&mut self) -> (reference::Sheet, Reply, Vec<Slot>) {
+        let mut s = sheet(&mut self.random);
+        if self.random.chance(4) {
+            bend(&mut self.random, &mut s);
+        }
+        let most = if self.random.chance(400) { 65536 } else { *self.random.pick(&[0, 1, 2, 3, 5, 9, 40, 300, 5000]) };
+        let lengths: Vec<usize> = (0..3).map(|_| most + self.random.below(3) as usize * self.random.below(2) as usize).collect();
+        let (points, numbers, depths) = (self.random.filled(lengths[0]), self.random.filled(lengths[1]), self.random.filled(lengths[2]));
+        let (numbers, depths) = (narrow(&numbers), narrow(&depths));
+        let (mut points₁, mut numbers₁, mut depths₁) = (points.clone(), numbers.clone(), depths.clone());
+        let mut reply = [3; 5];
+        self.same("told", library::search(&lent(&s), &mut points₁, &mut numbers₁, &mut depths₁, &mut reply), 1);
+        let (wanted, slots) = reference::walk(&s, lengths.iter().copied().min().unwrap_or(0));
+        let k = slots.len();
+        self.same("reply", reply.to_vec(), [&words(&wanted)[..], &[3]].concat());
+        self.same("points", points₁, [&slots.iter().map(|t| t.point).collect::<Vec<_>>()[..], &points[k..]].concat());
+        self.same("rule numbers", numbers₁, [&slots.iter().map(|t| t.rule).collect::<Vec<_>>()[..], &numbers[k..]].concat());
+        self.same("depths", depths₁, [&slots.iter().map(|t| t.depth).collect::<Vec<_>>()[..], &depths[k..]].concat());
+        if s.names <= 12 && !matches!(wanted, Reply::Refused(..)) {
+            self.promises(&s, &wanted, lengths.iter().copied().min().unwrap_or(0));
+        }
+        (s, wanted, slots)
+    }
+
+    // Demand 3, by trying every choice.
+    fn promises(&mut self, s: &reference::Sheet, reply: &Reply, slots: usize) {
+        let nearest = reference::nearest(s);
+        match *reply {
+            Reply::Met { choice, changes, .. } => self.holds("met, and nearest", reference::satisfies(s, choice) && nearest == Some(changes)),
+            Reply::Unmet { .. } => self.holds("none meets the rules", nearest.is_none()),
+            Reply::NoRoom { depth, .. } => self.holds("a lower bound, and not enough slots", nearest.is_none_or(|d| d >= depth) && slots < 1 << s.names),
+            Reply::Refused(..) => {}
+        }
+    }
+
+    // The writer and the checker, on what a search left or on something near it.
+    fn certificates(&mut self) {
+        let (mut s, reply, slots) = self.builder();
+        let mut points: Vec<u64> = slots.iter().map(|t| t.point).collect();
+        let mut numbers: Vec<u32> = slots.iter().map(|t| t.rule).collect();
+        let mut count = slots.len() as u32;
+        if self.random.chance(3) {
+            let k = self.random.below(points.len() as u64 + 1) as usize;
+            match self.random.below(4) {
+                0 => count = self.random.below(u64::from(count) + 3) as u32,
+                1 => points.iter_mut().skip(k).take(1).for_each(|x| *x ^= 1),
+                2 => numbers.iter_mut().skip(k).take(1).for_each(|x| *x = x.wrapping_add(1)),
+                _ => bend(&mut self.random, &mut s),
+            }
+        }
+        let depths = vec![0; (points.len() + self.random.below(3) as usize).saturating_sub(self.random.below(2) as usize)];
+        let wanted = reference::write(&s, &points, &numbers, depths.len(), count, usize::MAX);
+        let needed = wanted.as_ref().map_or(40, Vec::len);
+        let room = needed + *self.random.pick(&[0, 0, 1, 9]) - usize::from(self.random.chance(4));
+        let before: Vec<u8> = self.random.filled(room).iter().map(|&x| x as u8).collect();
+        let (mut out, mut told) = (before.clone(), [3; 5]);
+        self.same("told", library::write(&lent(&s), &points, &numbers, &depths, count, &mut out, &mut told), 1);
+        match reference::write(&s, &points, &numbers, depths.len(), count, room) {
+            Ok(file) => {
+                self.same("written", told.to_vec(), vec![5, file.len() as u64, 0, 0, 3]);
+                self.same("output", out, [&file[..], &before[file.len()..]].concat());
+            }
+            Err(r) => {
+                self.same("refused by the writer", told.to_vec(), [&refused(r)[..], &[3]].concat());
+                self.same("output after a refusal", out, before);
+            }
+        }
+        if let Ok(file) = wanted {
+            self.checked(&s, file, matches!(reply, Reply::Unmet { .. }));
+        }
+    }
+
+    // A certificate, and the same with something damaged.
+    fn checked(&mut self, s: &reference::Sheet, mut file: Vec<u8>, whole: bool) {
+        let damaged = self.random.chance(2);
+        if damaged {
+            self.break_file(&mut file);
+        }
+        let mut reply = [3; 5];
+        self.same("told", library::check(&lent(s), &file, &mut reply), 1);
+        let wanted = reference::check(s, &file);
+        let told = wanted.map_or_else(refused, |()| vec![7, 0, 0, 0]);
+        self.same("verdict", reply.to_vec(), [&told[..], &[3]].concat());
+        if whole && !damaged {
+            self.holds("the certificate of a search is accepted", wanted.is_ok());
+        }
+        if wanted.is_ok() && s.names <= 12 {
+            self.holds("an accepted certificate refutes", reference::nearest(s).is_none());
+        }
+        let (mut contents, mut opened) = ([3; 9], [3; 5]);
+        self.same("told", library::open(&file, &mut contents, &mut opened), 1);
+        let (words, numbers) = match reference::open(&file) {
+            Ok(c) => (vec![6, 0, 0, 0, 3], c.iter().map(|&x| u64::from(x)).chain([3]).collect()),
+            Err(r) => ([&refused(r)[..], &[3]].concat(), vec![3; 9]),
+        };
+        self.same("opened", opened.to_vec(), words);
+        self.same("contents", contents.to_vec(), numbers);
+    }
+
+    fn break_file(&mut self, file: &mut Vec<u8>) {
+        if self.random.chance(3) {
+            return damage(&mut self.random, file);
+        }
+        let field = self.random.below(8) as usize * 4;
+        if field + 4 <= file.len() {
+            let x = *self.random.pick(&[0, 1, 2, 17, 32, u32::MAX, 1 << 31, 65537]);
+            file[field..field + 4].copy_from_slice(&x.to_le_bytes());
+        }
+    }
+
+    // From text to checked certificate in one call, and what the program prints.
+    fn solver(&mut self) {
+        let mut bytes = text(&mut self.random);
+        if self.random.chance(4) {
+            damage(&mut self.random, &mut bytes);
+        }
+        let slots = *self.random.pick(&[0, 1, 4, 16, 300]);
+        let before: Vec<u8> = self.random.filled(*self.random.pick(&[0usize, 60, 4000]).max(&0)).iter().map(|&x| x as u8).collect();
+        let (mut points, mut numbers, mut depths) = (vec![5; slots], vec![5; slots], vec![5; slots]);
+        let (mut out, mut reply) = (before.clone(), [3; 5]);
+        self.same("told", library::solve(&bytes, &mut points, &mut numbers, &mut depths, &mut out, &mut reply), 1);
+        let read = reference::read(&bytes, 4096, 4096);
+        let walked = read.as_ref().map(|s| reference::walk(s, slots));
+        let (wanted, output) = match (&read, &walked) {
+            (Ok(s), Ok((Reply::Unmet { slots: k }, left))) => {
+                let xs: Vec<u64> = left.iter().map(|t| t.point).collect();
+                let rs: Vec<u32> = left.iter().map(|t| t.rule).collect();
+                let file = reference::write(s, &xs, &rs, slots, *k as u32, usize::MAX).expect("a certificate");
+                if file.len() <= before.len() {
+                    (vec![8, *k as u64, file.len() as u64, 0], [&file[..], &before[file.len()..]].concat())
+                } else {
+                    (vec![9, *k as u64, file.len() as u64, 0], before.clone())
+                }
+            }
+            (Ok(_), Ok((reply, _))) => (words(reply), before.clone()),
+            (Err(r), _) | (_, Err(r)) => (refused(*r), before.clone()),
+        };
+        self.same("solved", reply.to_vec(), [&wanted[..], &[3]].concat());
+        self.same("output", out, output);
+        let filled = walked.map_or(0, |w| w.1.len());
+        self.holds("slots beyond those filled are unchanged", points[filled..].iter().all(|&x| x == 5) && numbers[filled..].iter().chain(&depths[filled..]).all(|&x| x == 5));
+    }
+}
+
+fn main() {
+    let mut words = std::env::args().skip(1).map(|w| w.parse::<u64>().expect("a number"));
+    let (seed, count) = (words.next().expect("a seed"), words.next().expect("a count"));
+    let kinds: [(&str, fn(&mut Case)); 3] = [("reader", Case::reader), ("search, writer and checker", Case::certificates), ("solver", Case::solver)];
+    let mut failed = 0;
+    for own in seed..seed + count {
+        let kind = kinds[(own % 3) as usize];
+        let mut case = Case { random: Random::new(own), wrong: Vec::new() };
+        (kind.1)(&mut case);
+        if !case.wrong.is_empty() {
+            failed += 1;
+            println!("seed {own} ({}): {}", kind.0, case.wrong.join("; "));
+        }
+    }
+    println!("differential, seeds {seed} to {}: {} passed, {failed} failed", seed + count - 1, count - failed);
+    if failed > 0 {
+        std::process::exit(1);
+    }
+}

@@ -1,0 +1,74 @@
+/* Document 01's worked cases through the C header: texts solved in one call, and the certificate of case A with its exchange byte for byte.
+ * Prints a line for each that is not answered as expected and a count; exit status 1 if there is one. */
+#include "../include/jugbowo.h"
+#include <stdio.h>
+#include <string.h>
+
+static int passed, failed;
+
+static void expect(const char *name, int fact) {
+    if (fact) {
+        passed++;
+    } else {
+        failed++;
+        printf("%s: not as expected\n", name);
+    }
+}
+
+/* Solves a text with so many slots; whether the answer is these words. */
+static void solved(const char *name, const char *text, size_t slots, const uint64_t wanted[4]) {
+    static uint64_t points[4096];
+    static uint32_t falsified[4096], depths[4096];
+    static uint8_t out[65536];
+    uint64_t reply[4];
+    uint32_t told = jugbowo_solve((const uint8_t *)text, strlen(text), points, slots, falsified, slots, depths, slots, out, sizeof out, reply, 4);
+    expect(name, told == 1 && memcmp(reply, wanted, sizeof reply) == 0);
+}
+
+#define CLAUSES_A "1 2 0\n-1 2 0\n1 -2 0\n-1 -2 0\n"
+#define TEXT_B "p cnf 3 2\nc wish 000\n1 2 0\n-1 3 0\n"
+
+static void answers(void) {
+    const uint64_t a[] = {JUGBOWO_CERTIFIED, 4, 80, 0}, swapped[] = {JUGBOWO_CERTIFIED, 3, 70, 0}, room[] = {JUGBOWO_UNKNOWN, 1, 3, 0};
+    const uint64_t b[] = {JUGBOWO_SATISFIABLE, 2, 1, 4}, wish[] = {JUGBOWO_SATISFIABLE, 0, 0, 1}, empty[] = {JUGBOWO_CERTIFIED, 1, 44, 0};
+    const uint64_t large[] = {JUGBOWO_REFUSED, 3, 0, 0}, none[] = {JUGBOWO_REFUSED, 13, 0, 0};
+    solved("A", "p cnf 2 4\n" CLAUSES_A, 4096, a);
+    solved("A with exchange 2 1", "p cnf 2 4\nc exch 2 1\n" CLAUSES_A, 4096, swapped);
+    solved("A, P = 3", "p cnf 2 4\n" CLAUSES_A, 3, room);
+    solved("A, P = 4", "p cnf 2 4\n" CLAUSES_A, 4, a);
+    solved("B", TEXT_B, 4096, b);
+    solved("B, P = 3", TEXT_B, 3, room);
+    solved("C = 0", "p cnf 1 0\n", 1, wish);
+    solved("one empty rule", "p cnf 1 1\n0\n", 1, empty);
+    solved("rule (1 -1)", "p cnf 1 1\n1 -1 0\n", 1, wish);
+    solved("V 65", "p cnf 65 0\n", 1, large);
+    solved("no slot", "p cnf 1 0\n", 0, none);
+}
+
+/* Case A with exchange 2 1, step by step: 00 10 11, rules 1 2 4, depths 0 1 2; bodies at 32, 34, 58. */
+static void steps(void) {
+    const uint8_t images[] = {2, 1};
+    const uint64_t positive[] = {3, 2, 1, 0}, negative[] = {0, 1, 2, 3};
+    const uint8_t file[70] = {2, 0, 0, 0, 4, 0, 0, 0, 1, 0, 0, 0, 32, 0, 0, 0, 3, 0, 0, 0, 34, 0, 0, 0, 3, 0, 0, 0, 58, 0, 0, 0, 2, 1,
+                              0, 0, 0, 0, 0, 0, 0, 0, 1, 0, 0, 0, 0, 0, 0, 0, 3, 0, 0, 0, 0, 0, 0, 0, 1, 0, 0, 0, 2, 0, 0, 0, 4, 0, 0, 0};
+    uint64_t points[5] = {9, 9, 9, 9, 9}, reply[4], contents[8];
+    uint32_t falsified[5] = {9, 9, 9, 9, 9}, depths[5] = {9, 9, 9, 9, 9};
+    uint8_t out[72];
+    memset(out, 9, sizeof out);
+    expect("search", jugbowo_search(2, 4, 0, 1, images, 2, positive, 4, negative, 4, points, 5, falsified, 5, depths, 5, reply, 4) == 1
+                         && reply[0] == JUGBOWO_UNSATISFIABLE && reply[1] == 3);
+    expect("slots", points[0] == 0 && points[1] == 1 && points[2] == 3 && points[3] == 9 && falsified[2] == 4 && depths[2] == 2 && depths[3] == 9);
+    expect("write", jugbowo_write(2, 4, 0, 1, images, 2, positive, 4, negative, 4, points, 5, falsified, 5, depths, 5, 3, out, 72, reply, 4) == 1
+                        && reply[0] == JUGBOWO_WRITTEN && reply[1] == 70);
+    expect("bytes", memcmp(out, file, 70) == 0 && out[70] == 9 && out[71] == 9);
+    expect("open", jugbowo_open(file, 70, contents, 8, reply, 4) == 1 && reply[0] == JUGBOWO_OPENED && contents[3] == 32 && contents[5] == 34 && contents[7] == 58);
+    expect("check", jugbowo_check(2, 4, 0, 0, images, 0, positive, 4, negative, 4, file, 70, reply, 4) == 1 && reply[0] == JUGBOWO_ACCEPTED);
+    expect("no place to reply", jugbowo_check(2, 4, 0, 0, images, 0, positive, 4, negative, 4, file, 70, reply, 3) == 0);
+}
+
+int main(void) {
+    answers();
+    steps();
+    printf("worked cases in C: %d passed, %d failed\n", passed, failed);
+    return failed > 0;
+}
