@@ -1,6 +1,4 @@
 -- What the exported functions take and tell.
-pub mod Words
-pub mod RoomLaws
 pub mod Builder
 pub mod BuilderLaws
 pub mod Reader

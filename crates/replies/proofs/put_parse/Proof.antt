@@ -1,4 +1,4 @@
--- `exports::reader::put_parse` meets its contract: of each answer the words that it carries. Assumes nothing.
+-- `replies::put_parse` meets its contract: of each answer the words that it carries. Assumes nothing.
 use mathlib.Core.List.{List}
 use mathlib.Core.Path.{_≡_, sym, ap, _∙_}
 use Prim.Native.Nat.{ℕ}
@@ -6,9 +6,9 @@ use borrow.Author.Needs.{needs}
 use Rattle.math.specs.Lists.{over}
 use Rattle.answer.specs.declared.Parse.{Parse}
 use Rattle.answer.specs.Answers.{replyOf}
-use Rattle.exports.specs.Words.{wordsOf}
-use Rattle.exports.proofs.reader.put_parse.Statement.{statement}
-use Rattle.exports.proofs.reader.put_parse.Tie as tie
+use Rattle.interface.specs.Words.{wordsOf}
+use Rattle.replies.proofs.put_parse.Statement.{statement}
+use Rattle.replies.proofs.put_parse.Tie as tie
 
 -- of equal answers the words are equal
 told : {r s : Parse} (reply : List ℕ) → r ≡ s → over (wordsOf (replyOf r)) reply ≡ over (wordsOf (replyOf s)) reply

@@ -1,9 +1,9 @@
--- `exports::formula_from` meets its contract. Assumes nothing.
+-- `interface::formula_from` meets its contract. Assumes nothing.
 use mathlib.Core.Path.{refl, sym}
 use borrow.Author.Needs.{needs}
-use Rattle.exports.specs.Words.{formulaFrom}
-use Rattle.exports.proofs.formula_from.Statement.{statement}
-use Rattle.exports.proofs.formula_from.Tie as tie
+use Rattle.interface.specs.Words.{formulaFrom}
+use Rattle.interface.proofs.formula_from.Statement.{statement}
+use Rattle.interface.proofs.formula_from.Tie as tie
 
 images-from-requires : tie.Need-images-from-requires
 images-from-requires c κs = search needs

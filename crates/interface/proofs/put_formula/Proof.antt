@@ -1,12 +1,12 @@
--- `exports::reader::put_formula` meets its contract. Assumes nothing.
+-- `interface::put_formula` meets its contract. Assumes nothing.
 use mathlib.Core.Path.{_≡_, ap, _∙_}
 use native.Mathlib.Omega.{arith}
 use lib.ListN.{length}
 use lib.Seq.{take-all}
 use borrow.Author.Needs.{needs}
 use Rattle.math.specs.Lists.{over}
-use Rattle.exports.proofs.reader.put_formula.Statement.{statement}
-use Rattle.exports.proofs.reader.put_formula.Tie as tie
+use Rattle.interface.proofs.put_formula.Statement.{statement}
+use Rattle.interface.proofs.put_formula.Tie as tie
 
 cast-put-words : tie.Need-cast-put-words
 cast-put-words c = search needs

@@ -1,4 +1,4 @@
--- `exports::images_from` meets its contract: the first 1,024 bytes are all that can be copied. Assumes nothing.
+-- `interface::images_from` meets its contract: the first 1,024 bytes are all that can be copied. Assumes nothing.
 use mathlib.Core.List.{List}
 use mathlib.Core.Path.{_≡_, sym, ap, _∙_}
 use Prim.Native.Nat.{ℕ, _<_, min}
@@ -8,9 +8,9 @@ use lib.ListN.{length, take, replicate}
 use lib.Seq.{take-all}
 use borrow.Author.Needs.{needs}
 use Rattle.math.specs.Lists.{over}
-use Rattle.exports.specs.Words.{imagesFrom}
-use Rattle.exports.proofs.images_from.Statement.{statement}
-use Rattle.exports.proofs.images_from.Tie as tie
+use Rattle.interface.specs.Words.{imagesFrom}
+use Rattle.interface.proofs.images_from.Statement.{statement}
+use Rattle.interface.proofs.images_from.Tie as tie
 
 whole : (bytes : List ℕ) (i : ℕ) → i ≡ min (length bytes) 1024 → take i bytes ≡ take 1024 bytes
 whole bytes i e = by (decLt 1024 (length bytes))

@@ -1,4 +1,4 @@
--- `exports::put_words` meets its contract: four writes are the four words in front of what was there. Assumes nothing.
+-- `interface::put_words` meets its contract: four writes are the four words in front of what was there. Assumes nothing.
 use mathlib.Core.List.{List, [], _∷_}
 use mathlib.Core.Path.{_≡_, refl}
 use Prim.Native.Nat.{ℕ, _≤_}
@@ -7,8 +7,8 @@ use native.Mathlib.Omega.{arith}
 use lib.ListN.{length, set, length-set}
 use borrow.Author.Needs.{needs}
 use Rattle.math.specs.Lists.{over}
-use Rattle.exports.proofs.put_words.Statement.{statement}
-use Rattle.exports.proofs.put_words.Tie as tie
+use Rattle.interface.proofs.put_words.Statement.{statement}
+use Rattle.interface.proofs.put_words.Tie as tie
 
 four : (a b c d : ℕ) (l : List ℕ) → 4 ≤ length l → set (set (set (set l 0 a) 1 b) 2 c) 3 d ≡ over (a ∷ b ∷ c ∷ d ∷ []) l
 unfolding over

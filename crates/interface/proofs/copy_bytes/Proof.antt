@@ -1,4 +1,4 @@
--- `exports::copy_bytes` meets its contract: before byte i the first i are copied. Assumes nothing.
+-- `interface::copy_bytes` meets its contract: before byte i the first i are copied. Assumes nothing.
 use mathlib.Core.Path.{_≡_, refl, sym, ap, _∙_}
 use Prim.Native.Nat.{ℕ, _-_, _≤_, zero-le}
 use native.Mathlib.Omega.{arith}
@@ -6,8 +6,8 @@ use lib.ListN.{length, getD, set, take, length-set}
 use borrow.Author.Needs.{needs}
 use Rattle.math.specs.Lists.{over}
 use Rattle.math.specs.OverLaws.{over-none, over-take-next}
-use Rattle.exports.proofs.copy_bytes.Statement.{statement}
-use Rattle.exports.proofs.copy_bytes.Tie as tie
+use Rattle.interface.proofs.copy_bytes.Statement.{statement}
+use Rattle.interface.proofs.copy_bytes.Tie as tie
 
 abbrev Inv-loop : tie.InvT-loop
 Inv-loop to₀ from count i₀ to i = (i ≤ count) × (length to ≡ length to₀) × (to ≡ over (take i from) to₀)

@@ -1,4 +1,4 @@
--- `exports::writing::put_written` meets its contract: of each answer the words that it carries. Assumes nothing.
+-- `replies::put_written` meets its contract: of each answer the words that it carries. Assumes nothing.
 use mathlib.Core.List.{List}
 use mathlib.Core.Path.{_≡_, sym, ap, _∙_}
 use Prim.Native.Nat.{ℕ}
@@ -6,9 +6,9 @@ use borrow.Author.Needs.{needs}
 use Rattle.math.specs.Lists.{over}
 use Rattle.certificate.specs.declared.Written.{Written}
 use Rattle.certificate.specs.Writer.{replyOf}
-use Rattle.exports.specs.Words.{wordsOf}
-use Rattle.exports.proofs.writing.put_written.Statement.{statement}
-use Rattle.exports.proofs.writing.put_written.Tie as tie
+use Rattle.interface.specs.Words.{wordsOf}
+use Rattle.replies.proofs.put_written.Statement.{statement}
+use Rattle.replies.proofs.put_written.Tie as tie
 
 -- of equal answers the words are equal
 told : {r s : Written} (reply : List ℕ) → r ≡ s → over (wordsOf (replyOf r)) reply ≡ over (wordsOf (replyOf s)) reply
