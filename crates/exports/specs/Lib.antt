@@ -5,3 +5,7 @@ pub mod Reader
 pub mod ReaderLaws
 pub mod Writer
 pub mod WriterLaws
+pub mod Certificates
+pub mod CertificateLaws
+pub mod Solving
+pub mod SolvingLaws

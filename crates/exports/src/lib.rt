@@ -1,4 +1,6 @@
 // The entry points for programs in other languages: a formula as numbers and slices, an answer as words in a lent slice.
 mod builder;
+mod certificates;
 mod reader;
+mod solving;
 mod writing;

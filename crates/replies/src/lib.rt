@@ -21,6 +21,11 @@ ghost use Rattle.checker.specs.Checker.{replyOf as verdictReply};
 ghost use Rattle.interface.specs.Words.{wordsOf};
 ghost use Rattle.replies.specs.Replies.{entryWords, contentsWords, solutionWords};
 
+// How many words an entry of a body takes, and how many a file's contents.
+pub const ENTRY: usize = 2;
+
+pub const CONTENTS: usize = 8;
+
 // Writes the words of the reader's answer; the callers see to the room for them.
 pub fn put_parse(reply: &mut [u64], r: Parse)
     requires { ⌜ 4 ≤ length (now reply) ⌝ }
