@@ -8,7 +8,7 @@ use Rattle.slices.specs.Slices.{pointsOf}
 use Rattle.formula.specs.declared.Formula.{Formula}
 use Rattle.search.specs.Builder.{lentBy, searchReply, searchSlice}
 use Rattle.traversal.specs.Walk.{Slot}
-use Rattle.exports.specs.Words.{wordsOf, hasRoom}
+use Rattle.interface.specs.Words.{wordsOf, hasRoom}
 
 -- D2.2 for a caller in another language: with room for the answer, it and the three slices are the search's; without, nothing changes
 pub record SearchTold (f : Formula) (positive negative points₀ falsified₀ depths₀ reply₀ : List ℕ) (r : ℕ) (points₁ falsified₁ depths₁ reply₁ : List ℕ) : Type 0 where

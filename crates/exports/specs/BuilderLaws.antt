@@ -10,8 +10,8 @@ use Rattle.formula.specs.Reply.{Reply}
 use Rattle.search.specs.declared.Outcome.{Outcome}
 use Rattle.search.specs.Builder.{replyOf, Searched}
 use Rattle.exports.specs.Builder.{SearchTold}
-use Rattle.exports.specs.RoomLaws.{roomy, tight}
-use Rattle.exports.specs.Words.{wordsOf}
+use Rattle.interface.specs.RoomLaws.{roomy, tight}
+use Rattle.interface.specs.Words.{wordsOf}
 
 module _ (f : Formula) (positive negative points falsified depths reply : List ℕ) where
   pub tells-nothing : length reply < 4 → SearchTold f positive negative points falsified depths reply 0 points falsified depths reply

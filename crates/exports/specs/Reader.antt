@@ -7,7 +7,7 @@ use lib.Dec.{leb}
 use lib.ListN.{length}
 use Rattle.math.specs.Lists.{over}
 use Rattle.text.specs.Reader.{readReply, readFormula, readPositive, readNegative}
-use Rattle.exports.specs.Words.{wordsOf, hasRoom, numbersOf}
+use Rattle.interface.specs.Words.{wordsOf, hasRoom, numbersOf}
 
 -- whether there is room for an answer's words and for a formula's numbers and images
 abbrev pub hasFormulaRoom : List ℕ → List ℕ → List ℕ → Bool

@@ -13,8 +13,8 @@ use Rattle.answer.specs.declared.Parsed.{Parsed}
 use Rattle.answer.specs.Answers.{replyOf}
 use Rattle.dimacs.specs.Contract.{Read}
 use Rattle.exports.specs.Reader.{hasFormulaRoom, ReadTold}
-use Rattle.exports.specs.RoomLaws.{roomy, tight}
-use Rattle.exports.specs.Words.{wordsOf, hasRoom, numbersOf}
+use Rattle.interface.specs.RoomLaws.{roomy, tight}
+use Rattle.interface.specs.Words.{wordsOf, hasRoom, numbersOf}
 
 module _ (text positive negative numbers images reply : List ℕ) where
   rooms : {a b c : Bool} → hasRoom reply ≡ a → hasRoom numbers ≡ b → leb 1024 (length images) ≡ c → hasFormulaRoom numbers images reply ≡ (a && b && c)

@@ -6,7 +6,7 @@ use Prim.Native.Nat.{ℕ}
 use Rattle.math.specs.Lists.{over}
 use Rattle.formula.specs.declared.Formula.{Formula}
 use Rattle.certificate.specs.Writer.{writeReply, writeOutput}
-use Rattle.exports.specs.Words.{wordsOf, hasRoom}
+use Rattle.interface.specs.Words.{wordsOf, hasRoom}
 
 -- D2.4 for a caller in another language: with room for the answer, it and the output are the writer's; without, nothing changes
 pub record WriteTold (f : Formula) (positive negative points falsified depths : List ℕ) (count : ℕ) (out₀ reply₀ : List ℕ) (r : ℕ) (out₁ reply₁ : List ℕ) : Type 0 where

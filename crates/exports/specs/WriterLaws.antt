@@ -9,8 +9,8 @@ use Rattle.formula.specs.declared.Formula.{Formula}
 use Rattle.formula.specs.Reply.{Reply}
 use Rattle.certificate.specs.declared.Written.{Written}
 use Rattle.certificate.specs.Writer.{replyOf, Wrote}
-use Rattle.exports.specs.RoomLaws.{roomy, tight}
-use Rattle.exports.specs.Words.{wordsOf}
+use Rattle.interface.specs.RoomLaws.{roomy, tight}
+use Rattle.interface.specs.Words.{wordsOf}
 use Rattle.exports.specs.Writer.{WriteTold}
 
 module _ (f : Formula) (positive negative points falsified depths : List ℕ) (count : ℕ) (out reply : List ℕ) where

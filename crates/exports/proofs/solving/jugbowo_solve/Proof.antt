@@ -1,0 +1,54 @@
+-- `exports::solving::jugbowo_solve` meets its contract: with room for the answer it tells what the solver answers. Assumes nothing.
+use borrow.Author.Needs.{needs}
+use Rattle.exports.specs.SolvingLaws.{tells-nothing, tells-solution}
+use Rattle.exports.proofs.solving.jugbowo_solve.Statement.{statement}
+use Rattle.exports.proofs.solving.jugbowo_solve.Tie as tie
+
+returns : tie.Need-returns
+returns c =
+    let a = c .before .before .before .before .before .before .before .args in
+    tells-nothing (a .text .now) (a .points .now) (a .falsified .now) (a .depths .now) (a .out .now) (a .reply .now) (c .if1 .taken)
+
+solve-requires : tie.Need-solve-requires
+solve-requires c κs = tt
+
+put-solution-requires : tie.Need-put-solution-requires
+put-solution-requires c κs = c .before .before .before .before .before .before .before .before .before .before .before .before .before .before .if1 .left
+
+same-length : tie.Need-same-length
+same-length c = search needs
+
+same-length-2 : tie.Need-same-length-2
+same-length-2 c = search needs
+
+same-length-3 : tie.Need-same-length-3
+same-length-3 c = search needs
+
+same-length-4 : tie.Need-same-length-4
+same-length-4 c = search needs
+
+same-length-5 : tie.Need-same-length-5
+same-length-5 c = c .before .before .put-solution .kept .0
+
+returns-2 : tie.Need-returns-2
+returns-2 c =
+    let put = c .before .before in
+    let answered = put .before .before .before .before .before .before .before .before .before .before in
+    let roomy = answered .before .before .before .before .before in
+    let a = roomy .before .before .before .before .before .before .before .args in
+    tells-solution (a .text .now) (a .points .now) (a .falsified .now) (a .depths .now) (a .out .now) (a .reply .now) (answered .solve .result) _ _ _ _ _
+    (roomy .if1 .left) (answered .solve .ensures) (put .put-solution .ensures)
+
+pub jugbowo-solve-spec : {M : Type 1} → statement M
+jugbowo-solve-spec =
+    tie.close
+    (tie.spec
+    returns
+    solve-requires
+    put-solution-requires
+    same-length
+    same-length-2
+    same-length-3
+    same-length-4
+    same-length-5
+    returns-2)

@@ -1,0 +1,27 @@
+// The solver as an exported function.
+use interface::WORDS;
+use replies::put_solution;
+use solver::solve;
+ghost use Rattle.exports.specs.Solving.{SolveTold};
+
+// The solver: a text read, searched and, where it cannot be met, its certificate written to `out` and checked. Its answer is told in the first four
+// words of `reply`. It returns 1; where `reply` has no room it returns 0 and changes nothing.
+#[no_mangle]
+pub extern "C" fn jugbowo_solve(
+    text: &[u8],
+    points: &mut [u64],
+    falsified: &mut [u32],
+    depths: &mut [u32],
+    out: &mut [u8],
+    reply: &mut [u64],
+) -> u32
+    ensures { λ r. ⌜ SolveTold (now (text .entry)) (now (points .entry)) (now (falsified .entry)) (now (depths .entry)) (now (out .entry)) (now (reply .entry)) r
+        (now (points .exit)) (now (falsified .exit)) (now (depths .exit)) (now (out .exit)) (now (reply .exit)) ⌝ }
+{
+    if reply.len() < WORDS {
+        return 0;
+    }
+    let r = solve(text, points, falsified, depths, out);
+    put_solution(reply, r);
+    1
+}
