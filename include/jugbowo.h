@@ -22,7 +22,8 @@
  * 1,024 bytes count, and 0 for those that are not lent. A clause is the same place of `positive` and of `negative`, sets of variables: bit i
  * is variable i + 1. A point is such a set too: the variables that are yes.
  *
- * No function keeps anything between calls or uses memory but the stack. The most that a call takes of it stands at each function. */
+ * No function keeps anything between calls or uses memory but the stack. A call takes less of it than stands at its function; benches/run
+ * measures how much. */
 #ifndef JUGBOWO_H
 #define JUGBOWO_H
 
@@ -49,7 +50,7 @@ enum {
 /* Reads a DIMACS text. Takes the text; leaves the clauses in the first places of `positive` and `negative`, the formula's four numbers
  * (variables, clauses, target, permutations) in the first four words of `numbers`, its images in the first 1,024 bytes of `images`, the answer
  * in the first four words of `reply`: refusals 1 to 9, or parsed. After a refusal both clause slices are as they were, numbers and images 0.
- * Stack: 128 KiB. */
+ * Stack: 96 KiB. */
 uint32_t jugbowo_read(const uint8_t *text, size_t text_len,
                       uint64_t *positive, size_t positive_len,
                       uint64_t *negative, size_t negative_len,
@@ -107,7 +108,7 @@ uint32_t jugbowo_number_at(const uint8_t *body, size_t body_len, size_t i, uint6
 
 /* Reads a text, searches and, where no point satisfies the clauses, writes and checks the certificate. Takes the text; fills slots as the
  * search does, and leaves a certificate at the front of `out`. Answers: refusals 1 to 3 and 5 to 9 of the reader, 12 and 13 of the search,
- * satisfiable, unknown, certified or uncertified. Stack: 1.25 MiB. */
+ * satisfiable, unknown, certified or uncertified. Stack: 1 MiB. */
 uint32_t jugbowo_solve(const uint8_t *text, size_t text_len,
                        uint64_t *points, size_t points_len,
                        uint32_t *falsified, size_t falsified_len,

@@ -1,6 +1,8 @@
 // The compiled library against the implementation of reference.rs, on random and damaged inputs: replies and all memory lent are compared and,
 // for at most 12 names, the promises are tried by brute force. Usage: differential SEED COUNT. Each case has a seed of its own, which is printed
 // where something differs: `differential SEED 1` runs that case again. Exit status 1 if anything differs.
+use std::collections::BTreeMap;
+
 mod library;
 mod reference;
 use reference::{Reply, Slot};
@@ -169,7 +171,8 @@ fn text(r: &mut Random) -> Vec<u8> {
     while r.chance(3) {
         out.extend(*r.pick(&[&b"c a remark\n"[..], b"\n", b" \t\r\n", b"c wish 01\n", b"c exch 1\n", b"cnf 2 2\n"]));
     }
-    out.extend(format!("p cnf {} {}\n", s.names, s.rules).bytes());
+    let names = if r.chance(40) { *r.pick(&[0, 65, 9999]) } else { s.names };
+    out.extend(format!("p cnf {names} {}\n", s.rules).bytes());
     let n = s.names as usize;
     let mut comments: Vec<Vec<u8>> = (0..s.exchanges as usize)
         .map(|k| [&b"c exch "[..], s.bytes[k * n..(k + 1) * n].iter().map(|b| b.to_string()).collect::<Vec<_>>().join(" ").as_bytes(), b"\n"].concat())
@@ -227,7 +230,11 @@ fn damage(r: &mut Random, bytes: &mut Vec<u8>) {
 struct Case {
     random: Random,
     wrong: Vec<String>,
+    seen: Vec<Answer>,
 }
+
+// Which function answered, its first word and, for a refusal, the number.
+type Answer = (&'static str, u64, u64);
 
 impl Case {
     fn same<T: PartialEq + std::fmt::Debug>(&mut self, what: &str, got: T, wanted: T) {
@@ -236,6 +243,10 @@ impl Case {
             line.truncate(400);
             self.wrong.push(line);
         }
+    }
+
+    fn saw(&mut self, function: &'static str, reply: &[u64]) {
+        self.seen.push((function, reply[0], if reply[0] == 0 { reply[1] } else { 0 }));
     }
 
     fn holds(&mut self, what: &str, fact: bool) {
@@ -249,12 +260,17 @@ impl Case {
         if self.random.chance(2) {
             damage(&mut self.random, &mut bytes);
         }
+        if self.random.chance(400) {
+            let filler = *self.random.pick(&[b'\n', b'c', b' ', b'1', b'-', b'p']);
+            bytes.resize((1 << 20) + self.random.below(2) as usize, filler);
+        }
         let lengths = [300, self.random.below(40) as usize];
         let (yes, no) = (*self.random.pick(&lengths), *self.random.pick(&lengths));
         let before = (self.random.filled(yes), self.random.filled(no));
         let (mut positive, mut negative) = before.clone();
         let (mut numbers, mut images, mut reply) = ([3; 5], [3; 1025], [3; 5]);
         self.same("told", library::read(&bytes, &mut positive, &mut negative, &mut numbers, &mut images, &mut reply), 1);
+        self.saw("read", &reply);
         match reference::read(&bytes, yes, no) {
             Ok(s) => {
                 self.same("reply", reply.to_vec(), vec![4, 0, 0, 0, 3]);
@@ -281,15 +297,16 @@ impl Case {
         let lengths: Vec<usize> = (0..3).map(|_| most + self.random.below(3) as usize * self.random.below(2) as usize).collect();
         let (points, numbers, depths) = (self.random.filled(lengths[0]), self.random.filled(lengths[1]), self.random.filled(lengths[2]));
         let (numbers, depths) = (narrow(&numbers), narrow(&depths));
-        let (mut points₁, mut numbers₁, mut depths₁) = (points.clone(), numbers.clone(), depths.clone());
+        let (mut left_points, mut left_numbers, mut left_depths) = (points.clone(), numbers.clone(), depths.clone());
         let mut reply = [3; 5];
-        self.same("told", library::search(&lent(&s), &mut points₁, &mut numbers₁, &mut depths₁, &mut reply), 1);
+        self.same("told", library::search(&lent(&s), &mut left_points, &mut left_numbers, &mut left_depths, &mut reply), 1);
+        self.saw("search", &reply);
         let (wanted, slots) = reference::walk(&s, lengths.iter().copied().min().unwrap_or(0));
         let k = slots.len();
         self.same("reply", reply.to_vec(), [&words(&wanted)[..], &[3]].concat());
-        self.same("points", points₁, [&slots.iter().map(|t| t.point).collect::<Vec<_>>()[..], &points[k..]].concat());
-        self.same("rule numbers", numbers₁, [&slots.iter().map(|t| t.rule).collect::<Vec<_>>()[..], &numbers[k..]].concat());
-        self.same("depths", depths₁, [&slots.iter().map(|t| t.depth).collect::<Vec<_>>()[..], &depths[k..]].concat());
+        self.same("points", left_points, [&slots.iter().map(|t| t.point).collect::<Vec<_>>()[..], &points[k..]].concat());
+        self.same("rule numbers", left_numbers, [&slots.iter().map(|t| t.rule).collect::<Vec<_>>()[..], &numbers[k..]].concat());
+        self.same("depths", left_depths, [&slots.iter().map(|t| t.depth).collect::<Vec<_>>()[..], &depths[k..]].concat());
         if s.names <= 12 && !matches!(wanted, Reply::Refused(..)) {
             self.promises(&s, &wanted, lengths.iter().copied().min().unwrap_or(0));
         }
@@ -313,7 +330,8 @@ impl Case {
         let mut points: Vec<u64> = slots.iter().map(|t| t.point).collect();
         let mut numbers: Vec<u32> = slots.iter().map(|t| t.rule).collect();
         let mut count = slots.len() as u32;
-        if self.random.chance(3) {
+        let altered = self.random.chance(3);
+        if altered {
             let k = self.random.below(points.len() as u64 + 1) as usize;
             match self.random.below(4) {
                 0 => count = self.random.below(u64::from(count) + 3) as u32,
@@ -329,6 +347,7 @@ impl Case {
         let before: Vec<u8> = self.random.filled(room).iter().map(|&x| x as u8).collect();
         let (mut out, mut told) = (before.clone(), [3; 5]);
         self.same("told", library::write(&lent(&s), &points, &numbers, &depths, count, &mut out, &mut told), 1);
+        self.saw("write", &told);
         match reference::write(&s, &points, &numbers, depths.len(), count, room) {
             Ok(file) => {
                 self.same("written", told.to_vec(), vec![5, file.len() as u64, 0, 0, 3]);
@@ -340,18 +359,23 @@ impl Case {
             }
         }
         if let Ok(file) = wanted {
-            self.checked(&s, file, matches!(reply, Reply::Unmet { .. }));
+            self.checked(&s, file, !altered && matches!(reply, Reply::Unmet { .. }));
         }
     }
 
     // A certificate, and the same with something damaged.
-    fn checked(&mut self, s: &reference::Sheet, mut file: Vec<u8>, whole: bool) {
+    fn checked(&mut self, sheet: &reference::Sheet, mut file: Vec<u8>, whole: bool) {
+        let mut other = sheet.clone();
         let damaged = self.random.chance(2);
-        if damaged {
+        if damaged && self.random.chance(4) {
+            bend(&mut self.random, &mut other);
+        } else if damaged {
             self.break_file(&mut file);
         }
+        let s = &other;
         let mut reply = [3; 5];
         self.same("told", library::check(&lent(s), &file, &mut reply), 1);
+        self.saw("check", &reply);
         let wanted = reference::check(s, &file);
         let told = wanted.map_or_else(refused, |()| vec![7, 0, 0, 0]);
         self.same("verdict", reply.to_vec(), [&told[..], &[3]].concat());
@@ -363,6 +387,7 @@ impl Case {
         }
         let (mut contents, mut opened) = ([3; 9], [3; 5]);
         self.same("told", library::open(&file, &mut contents, &mut opened), 1);
+        self.saw("open", &opened);
         let (words, numbers) = match reference::open(&file) {
             Ok(c) => (vec![6, 0, 0, 0, 3], c.iter().map(|&x| u64::from(x)).chain([3]).collect()),
             Err(r) => ([&refused(r)[..], &[3]].concat(), vec![3; 9]),
@@ -374,6 +399,12 @@ impl Case {
     fn break_file(&mut self, file: &mut Vec<u8>) {
         if self.random.chance(3) {
             return damage(&mut self.random, file);
+        }
+        let (n, listed) = (u64::from(file[0]), u64::from(file[8]));
+        if n * listed > 1 && self.random.chance(2) {
+            let own = 32 + self.random.below(listed) * n;
+            let (a, b) = (own + self.random.below(n), own + self.random.below(n));
+            return file.swap(a as usize, b as usize);
         }
         let field = self.random.below(8) as usize * 4;
         if field + 4 <= file.len() {
@@ -389,12 +420,16 @@ impl Case {
             damage(&mut self.random, &mut bytes);
         }
         let slots = *self.random.pick(&[0, 1, 4, 16, 300]);
-        let before: Vec<u8> = self.random.filled(*self.random.pick(&[0usize, 60, 4000]).max(&0)).iter().map(|&x| x as u8).collect();
+        let before: Vec<u8> = {
+            let room = *self.random.pick(&[0, 60, 4000]);
+            self.random.filled(room)
+        }.iter().map(|&x| x as u8).collect();
         let (mut points, mut numbers, mut depths) = (vec![5; slots], vec![5; slots], vec![5; slots]);
         let (mut out, mut reply) = (before.clone(), [3; 5]);
         self.same("told", library::solve(&bytes, &mut points, &mut numbers, &mut depths, &mut out, &mut reply), 1);
+        self.saw("solve", &reply);
         let read = reference::read(&bytes, 4096, 4096);
-        let walked = read.as_ref().map(|s| reference::walk(s, slots));
+        let walked = read.as_ref().map(|s| reference::walk(s, slots)).map_err(|&r| r);
         let (wanted, output) = match (&read, &walked) {
             (Ok(s), Ok((Reply::Unmet { slots: k }, left))) => {
                 let xs: Vec<u64> = left.iter().map(|t| t.point).collect();
@@ -421,15 +456,19 @@ fn main() {
     let (seed, count) = (words.next().expect("a seed"), words.next().expect("a count"));
     let kinds: [(&str, fn(&mut Case)); 3] = [("reader", Case::reader), ("search, writer and checker", Case::certificates), ("solver", Case::solver)];
     let mut failed = 0;
+    let mut seen: BTreeMap<Answer, u64> = BTreeMap::new();
     for own in seed..seed + count {
         let kind = kinds[(own % 3) as usize];
-        let mut case = Case { random: Random::new(own), wrong: Vec::new() };
+        let mut case = Case { random: Random::new(own), wrong: Vec::new(), seen: Vec::new() };
         (kind.1)(&mut case);
+        case.seen.iter().for_each(|a| *seen.entry(*a).or_default() += 1);
         if !case.wrong.is_empty() {
             failed += 1;
             println!("seed {own} ({}): {}", kind.0, case.wrong.join("; "));
         }
     }
+    let told = |((function, word, number), times): (Answer, u64)| if word == 0 { format!("{function} refused {number}: {times}") } else { format!("{function} {word}: {times}") };
+    println!("answers by first word: {}", seen.into_iter().map(told).collect::<Vec<_>>().join(", "));
     println!("differential, seeds {seed} to {}: {} passed, {failed} failed", seed + count - 1, count - failed);
     if failed > 0 {
         std::process::exit(1);
