@@ -37,6 +37,17 @@ pub fn search(s: &Sheet, slots: usize) -> Found {
     Found { reply, points, numbers, depths }
 }
 
+// Document 002, example 2: seven clauses over six variables, and its 14 points, written variable 1 first, each with the clause that it falsifies.
+pub fn paper() -> (Vec<(u64, u64)>, Vec<(u64, u32)>) {
+    let clauses = [&[1, 2][..], &[-2, 3], &[-3, 4], &[-4, 1], &[-1, 5], &[-5, 6], &[-6, -1]].map(clause);
+    let listed = [
+        ("000000", 1), ("010000", 2), ("011000", 3), ("011100", 4), ("111100", 5), ("111110", 6), ("111111", 7),
+        ("011111", 4), ("011011", 3), ("010011", 2), ("000011", 1), ("100011", 7), ("100010", 6), ("100000", 5),
+    ];
+    let point = |digits: &str| digits.bytes().rev().fold(0u64, |x, b| x * 2 + (b - 48) as u64);
+    (clauses.to_vec(), listed.iter().map(|(p, c)| (point(p), *c)).collect())
+}
+
 // PH(m + 1, m): each of m + 1 pigeons sits in a hole, and no two in one; variable (i - 1) m + k says that pigeon i sits in hole k.
 pub fn pigeons(m: usize) -> Vec<(u64, u64)> {
     let seat = |i: usize, k: usize| (i * m + k + 1) as i32;
