@@ -1,4 +1,5 @@
 // Formulas that tests and benchmarks share, and a search over fresh slots.
+#![allow(dead_code)] // a program uses some of them
 use crate::library;
 use crate::library::Sheet;
 
@@ -20,6 +21,19 @@ pub fn sheet(variables: u32, clauses: &[(u64, u64)], permutations: &[Vec<u8>]) -
         positive: clauses.iter().map(|c| c.0).collect(),
         negative: clauses.iter().map(|c| c.1).collect(),
     }
+}
+
+// The same formula as a text, with its permutations as `c exch` lines.
+pub fn text(variables: u32, clauses: &[(u64, u64)], permutations: &[Vec<u8>]) -> Vec<u8> {
+    let mut lines = vec![format!("p cnf {variables} {}", clauses.len())];
+    let joined = |words: Vec<String>| words.join(" ");
+    lines.extend(permutations.iter().map(|e| format!("c exch {}", joined(e.iter().map(|x| x.to_string()).collect()))));
+    for (positive, negative) in clauses {
+        let literals = |set: u64, sign: &'static str| (1..=64).filter(move |i| set >> (i - 1) & 1 == 1).map(move |i| format!("{sign}{i}"));
+        let words = literals(*positive, "").chain(literals(*negative, "-")).chain(["0".to_string()]);
+        lines.push(joined(words.collect()));
+    }
+    (lines.join("\n") + "\n").into_bytes()
 }
 
 // What a search answers and leaves in the slots that it filled.
