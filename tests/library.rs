@@ -13,18 +13,28 @@ pub struct Sheet {
     pub negative: Vec<u64>,
 }
 
+// Declares an exported function that takes a formula with its clauses first.
+macro_rules! takes_sheet {
+    ($function:ident, $($rest:ident: $kind:ty),*) => {
+        fn $function(
+            variables: u32,
+            clauses: u32,
+            target: u64,
+            permutations: u32,
+            images: *const u8,
+            images_len: usize,
+            positive: *const u64,
+            positive_len: usize,
+            negative: *const u64,
+            negative_len: usize,
+            $($rest: $kind),*
+        ) -> u32;
+    };
+}
+
 extern "C" {
-    fn jugbowo_search(
-        variables: u32,
-        clauses: u32,
-        target: u64,
-        permutations: u32,
-        images: *const u8,
-        images_len: usize,
-        positive: *const u64,
-        positive_len: usize,
-        negative: *const u64,
-        negative_len: usize,
+    takes_sheet!(
+        jugbowo_search,
         points: *mut u64,
         points_len: usize,
         falsified: *mut u32,
@@ -32,8 +42,25 @@ extern "C" {
         depths: *mut u32,
         depths_len: usize,
         reply: *mut u64,
-        reply_len: usize,
-    ) -> u32;
+        reply_len: usize
+    );
+
+    takes_sheet!(
+        jugbowo_write,
+        points: *const u64,
+        points_len: usize,
+        falsified: *const u32,
+        falsified_len: usize,
+        depths: *const u32,
+        depths_len: usize,
+        count: u32,
+        out: *mut u8,
+        out_len: usize,
+        reply: *mut u64,
+        reply_len: usize
+    );
+
+    takes_sheet!(jugbowo_check, file: *const u8, file_len: usize, reply: *mut u64, reply_len: usize);
 
     fn jugbowo_read(
         text: *const u8,
@@ -46,47 +73,6 @@ extern "C" {
         numbers_len: usize,
         images: *mut u8,
         images_len: usize,
-        reply: *mut u64,
-        reply_len: usize,
-    ) -> u32;
-
-    fn jugbowo_write(
-        variables: u32,
-        clauses: u32,
-        target: u64,
-        permutations: u32,
-        images: *const u8,
-        images_len: usize,
-        positive: *const u64,
-        positive_len: usize,
-        negative: *const u64,
-        negative_len: usize,
-        points: *const u64,
-        points_len: usize,
-        falsified: *const u32,
-        falsified_len: usize,
-        depths: *const u32,
-        depths_len: usize,
-        count: u32,
-        out: *mut u8,
-        out_len: usize,
-        reply: *mut u64,
-        reply_len: usize,
-    ) -> u32;
-
-    fn jugbowo_check(
-        variables: u32,
-        clauses: u32,
-        target: u64,
-        permutations: u32,
-        images: *const u8,
-        images_len: usize,
-        positive: *const u64,
-        positive_len: usize,
-        negative: *const u64,
-        negative_len: usize,
-        file: *const u8,
-        file_len: usize,
         reply: *mut u64,
         reply_len: usize,
     ) -> u32;
