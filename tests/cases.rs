@@ -2,38 +2,17 @@
 // a case and a count; exit status 1 if one is not as expected.
 mod library;
 mod sheets;
-use sheets::{clause, pigeons, search, sheet, swaps};
+use library::Count;
+use sheets::{clause, paper, pigeons, search, sheet, swaps};
 
 const REFUSED: u64 = 0;
 const SATISFIABLE: u64 = 1;
 const UNSATISFIABLE: u64 = 2;
 const UNKNOWN: u64 = 3;
 
-struct Count {
-    passed: usize,
-    failed: usize,
-}
-
-impl Count {
-    fn expect(&mut self, name: &str, ok: bool) {
-        println!("{name}: {}", if ok { "as expected" } else { "NOT as expected" });
-        if ok {
-            self.passed += 1;
-        } else {
-            self.failed += 1;
-        }
-    }
-}
-
-// Document 002, example 2: seven clauses over six variables; a point is written variable 1 first.
-fn paper(count: &mut Count) {
-    let clauses = [&[1, 2][..], &[-2, 3], &[-3, 4], &[-4, 1], &[-1, 5], &[-5, 6], &[-6, -1]].map(clause);
-    let listed = [
-        ("000000", 1), ("010000", 2), ("011000", 3), ("011100", 4), ("111100", 5), ("111110", 6), ("111111", 7),
-        ("011111", 4), ("011011", 3), ("010011", 2), ("000011", 1), ("100011", 7), ("100010", 6), ("100000", 5),
-    ];
-    let point = |digits: &str| digits.bytes().rev().fold(0u64, |x, b| x * 2 + (b - 48) as u64);
-    let mut wanted: Vec<(u64, u32)> = listed.iter().map(|(p, c)| (point(p), *c)).collect();
+// Document 002, example 2.
+fn example(count: &mut Count) {
+    let (clauses, mut wanted) = paper();
     let found = search(&sheet(6, &clauses, &[]), 20);
     let mut got: Vec<(u64, u32)> = found.points[..14].iter().copied().zip(found.numbers[..14].iter().copied()).collect();
     got.sort();
@@ -75,12 +54,9 @@ fn limits(count: &mut Count) {
 }
 
 fn main() {
-    let mut count = Count { passed: 0, failed: 0 };
-    paper(&mut count);
+    let mut count = Count::new();
+    example(&mut count);
     pigeon_holes(&mut count);
     limits(&mut count);
-    println!("cases: {} passed, {} failed", count.passed, count.failed);
-    if count.failed > 0 {
-        std::process::exit(1);
-    }
+    count.finish("cases");
 }

@@ -1,4 +1,5 @@
 // Formulas that tests and benchmarks share, and a search over fresh slots.
+#![allow(dead_code)] // a program uses some of them
 use crate::library;
 use crate::library::Sheet;
 
@@ -22,6 +23,19 @@ pub fn sheet(variables: u32, clauses: &[(u64, u64)], permutations: &[Vec<u8>]) -
     }
 }
 
+// The same formula as a text, with its permutations as `c exch` lines.
+pub fn text(variables: u32, clauses: &[(u64, u64)], permutations: &[Vec<u8>]) -> Vec<u8> {
+    let mut lines = vec![format!("p cnf {variables} {}", clauses.len())];
+    let joined = |words: Vec<String>| words.join(" ");
+    lines.extend(permutations.iter().map(|e| format!("c exch {}", joined(e.iter().map(|x| x.to_string()).collect()))));
+    for (positive, negative) in clauses {
+        let literals = |set: u64, sign: &'static str| (1..=64).filter(move |i| set >> (i - 1) & 1 == 1).map(move |i| format!("{sign}{i}"));
+        let words = literals(*positive, "").chain(literals(*negative, "-")).chain(["0".to_string()]);
+        lines.push(joined(words.collect()));
+    }
+    (lines.join("\n") + "\n").into_bytes()
+}
+
 // What a search answers and leaves in the slots that it filled.
 pub struct Found {
     pub reply: [u64; 4],
@@ -35,6 +49,17 @@ pub fn search(s: &Sheet, slots: usize) -> Found {
     let mut reply = [9; 4];
     assert_eq!(library::search(s, &mut points, &mut numbers, &mut depths, &mut reply), 1);
     Found { reply, points, numbers, depths }
+}
+
+// Document 002, example 2: seven clauses over six variables, and its 14 points, written variable 1 first, each with the clause that it falsifies.
+pub fn paper() -> (Vec<(u64, u64)>, Vec<(u64, u32)>) {
+    let clauses = [&[1, 2][..], &[-2, 3], &[-3, 4], &[-4, 1], &[-1, 5], &[-5, 6], &[-6, -1]].map(clause);
+    let listed = [
+        ("000000", 1), ("010000", 2), ("011000", 3), ("011100", 4), ("111100", 5), ("111110", 6), ("111111", 7),
+        ("011111", 4), ("011011", 3), ("010011", 2), ("000011", 1), ("100011", 7), ("100010", 6), ("100000", 5),
+    ];
+    let point = |digits: &str| digits.bytes().rev().fold(0u64, |x, b| x * 2 + (b - 48) as u64);
+    (clauses.to_vec(), listed.iter().map(|(p, c)| (point(p), *c)).collect())
 }
 
 // PH(m + 1, m): each of m + 1 pigeons sits in a hole, and no two in one; variable (i - 1) m + k says that pigeon i sits in hole k.

@@ -1,6 +1,7 @@
 // Texts for the reader: document 01's executed cases (G.d), each refusal number, each rule of precedence, and hostile texts of 1 MiB. Prints a
 // line a text and a count; exit status 1 if one is not answered as expected.
 mod library;
+use library::Count;
 
 const MIB: usize = 1 << 20;
 
@@ -28,26 +29,17 @@ fn read(variables: u64, clauses: u64, target: u64, permutations: u64) -> Said {
     Said::Read { variables, clauses, target, permutations }
 }
 
-struct Count {
-    passed: usize,
-    failed: usize,
-}
+// The texts that came out as expected.
+struct Texts(Count);
 
-impl Count {
+impl Texts {
     fn expect(&mut self, name: &str, text: &[u8], lent: usize, wanted: Said) {
-        let got = said(text, lent);
-        if got == wanted {
-            println!("{name}: as expected");
-            self.passed += 1;
-        } else {
-            println!("{name}: NOT as expected: {got:?} for {wanted:?}");
-            self.failed += 1;
-        }
+        self.0.compare(name, said(text, lent), wanted);
     }
 }
 
 // V 64 and 65, C 4,096 and 4,097, 16 and 17 permutations.
-fn limits(count: &mut Count) {
+fn limits(count: &mut Texts) {
     count.expect("V 64", b"p cnf 64 0\n", 0, read(64, 0, 0, 0));
     count.expect("V 65", b"p cnf 65 0\n", 0, Said::Refused(3, 0));
     let clauses = [b"p cnf 1 4096\n".to_vec(), b"0 ".repeat(4096)].concat();
@@ -58,7 +50,7 @@ fn limits(count: &mut Count) {
     count.expect("17 permutations", &permutations(17), 0, Said::Refused(9, 10 + 16 * 11));
 }
 
-fn refusals(count: &mut Count) {
+fn refusals(count: &mut Texts) {
     count.expect("1: a text too long", &vec![10; MIB + 1], 0, Said::Refused(1, MIB as u64));
     count.expect("2: no text", b"", 0, Said::Refused(2, 0));
     count.expect("2: no problem line", b"c x\n \t\r\n", 0, Said::Refused(2, 8));
@@ -78,7 +70,7 @@ fn refusals(count: &mut Count) {
     count.expect("9: no permutation", b"p cnf 2 0\nc exch 1 1\n", 0, Said::Refused(9, 10));
 }
 
-fn precedence(count: &mut Count) {
+fn precedence(count: &mut Texts) {
     count.expect("1 before 2", &vec![b'x'; MIB + 1], 0, Said::Refused(1, MIB as u64));
     count.expect("2 before 3", b"p cnf 65 0 x\n", 0, Said::Refused(2, 0));
     count.expect("3 before 4", b"p cnf 65 9\n", 0, Said::Refused(3, 0));
@@ -92,7 +84,7 @@ fn precedence(count: &mut Count) {
     count.expect("a target inside a clause has", b"p cnf 2 1\n1\nc wish 01\n2 0\n", 1, read(2, 1, 2, 0));
 }
 
-fn hostile(count: &mut Count) {
+fn hostile(count: &mut Texts) {
     let long = |head: &[u8], part: &[u8]| [head.to_vec(), part.repeat((MIB - head.len()) / part.len())].concat();
     let end = |text: &[u8]| text.len() as u64;
     let newlines = long(b"", b"\n");
@@ -108,13 +100,10 @@ fn hostile(count: &mut Count) {
 }
 
 fn main() {
-    let mut count = Count { passed: 0, failed: 0 };
+    let mut count = Texts(Count::new());
     limits(&mut count);
     refusals(&mut count);
     precedence(&mut count);
     hostile(&mut count);
-    println!("texts: {} passed, {} failed", count.passed, count.failed);
-    if count.failed > 0 {
-        std::process::exit(1);
-    }
+    count.0.finish("texts");
 }

@@ -93,7 +93,7 @@ impl Differences {
     }
 }
 
-// The words of a reply: 0 refused, 1 satisfiable, 2 unsatisfiable, 3 unknown, 4 read, 5 written, each with its numbers.
+// The words of a reply: 0 refused, 1 satisfiable, 2 unsatisfiable, 3 unknown, 4 read, 5 written, 6 opened, 7 accepted, each with its numbers.
 fn reply_words(answer: &[&str]) -> Vec<u64> {
     let (kind, carried) = match answer[0] {
         "refused" => (0, &answer[1..]),
@@ -102,6 +102,8 @@ fn reply_words(answer: &[&str]) -> Vec<u64> {
         "room" => (3, &answer[1..]),
         "read" => (4, &answer[..0]),
         "written" => (5, &answer[1..]),
+        "opened" => (6, &answer[..0]),
+        "accepted" => (7, &answer[..0]),
         other => panic!("no reply: {other}"),
     };
     let mut words = vec![kind];
@@ -158,6 +160,62 @@ fn writer(v: &Vector, d: &mut Differences) {
     d.compare("output", out, over(v.bytes("after-bytes"), &before));
 }
 
+fn checker(v: &Vector, d: &mut Differences) {
+    let file = v.bytes("bytes");
+    let mut reply = vec![7u64; 5];
+    let told = library::check(&v.sheet(), &file, &mut reply);
+    d.compare("told", told, 1);
+    d.compare("reply", reply, over(reply_words(v.words("answer")), &[7; 5]));
+    if v.told.contains_key("reading") {
+        reading(v, &file, d);
+    }
+}
+
+// The reading of a file without checking it: its contents, then each body, cut by the contents' offsets.
+fn reading(v: &Vector, file: &[u8], d: &mut Differences) {
+    let words = v.words("reading");
+    let (images, points, numbers) = (v.bytes("read-images"), v.numbers("read-points"), v.numbers("read-numbers"));
+    let mut wanted = vec![7u64; 9];
+    if words[0] == "opened" {
+        let told: Vec<u64> = words[1..].iter().map(|w| w.parse().expect("a number")).collect();
+        let (second, count) = (32 + images.len() as u64, points.len() as u64);
+        let third = second + 8 * count;
+        wanted = over(vec![told[0], told[1], told[2], 32, count, second, count, third], &wanted);
+    }
+    let (mut contents, mut reply) = (vec![7u64; 9], vec![7u64; 5]);
+    let told = library::open(file, &mut contents, &mut reply);
+    d.compare("opened", told, 1);
+    d.compare("reply to opening", reply, over(reply_words(words), &[7; 5]));
+    d.compare("contents", &contents, &wanted);
+    if words[0] == "opened" && contents == wanted {
+        let part = |from: u64, to: u64| &file[from as usize..to as usize];
+        let n = contents[0] as usize;
+        read_images(part(contents[3], contents[5]), n, &images, d);
+        read_body("point", &points, d, |i, reply| library::point_at(part(contents[5], contents[7]), i, reply));
+        read_body("number", &numbers, d, |i, reply| library::number_at(part(contents[7], file.len() as u64), i, reply));
+    }
+}
+
+// Every entry of a body, and the one past its end, which lies outside.
+fn read_body(what: &str, wanted: &[u64], d: &mut Differences, at: impl Fn(usize, &mut [u64]) -> u32) {
+    for i in 0..=wanted.len() {
+        let entry = wanted.get(i).map_or([0, 0, 7], |&x| [1, x, 7]);
+        let mut reply = [7; 3];
+        let told = at(i, &mut reply);
+        d.compare(&format!("{what} of index {i}"), (told, reply), (1, entry));
+    }
+}
+
+// Every image; outside lie the first one of a further permutation and one of a further variable.
+fn read_images(body: &[u8], n: usize, wanted: &[u8], d: &mut Differences) {
+    let wanted: Vec<u64> = wanted.iter().map(|&x| x as u64).collect();
+    let width = n.max(1);
+    read_body("image", &wanted, d, |k, reply| library::image_at(body, n, k / width, k % width, reply));
+    let mut reply = [7; 3];
+    let told = library::image_at(body, n, 0, n, &mut reply);
+    d.compare("image of a variable above n", (told, reply), (1, [0, 0, 7]));
+}
+
 fn vectors(text: &str) -> Vec<Vector<'_>> {
     let blocks = text.split("\n\n").filter(|b| !b.trim().is_empty());
     blocks
@@ -176,7 +234,8 @@ fn vectors(text: &str) -> Vec<Vector<'_>> {
 fn main() {
     let path = std::env::args().nth(1).expect("a file of vectors");
     let text = std::fs::read_to_string(path).expect("the vectors");
-    let kinds: [(&str, fn(&Vector, &mut Differences)); 3] = [("reader", reader), ("builder", builder), ("writer", writer)];
+    let kinds: [(&str, fn(&Vector, &mut Differences)); 4] =
+        [("reader", reader), ("builder", builder), ("checker", checker), ("writer", writer)];
     let all = vectors(&text);
     let (mut passed, mut failed) = (0, 0);
     for (kind, test) in kinds {

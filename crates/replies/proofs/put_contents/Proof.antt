@@ -75,6 +75,11 @@ all (s ∷ t ∷ u ∷ v ∷ w ∷ x ∷ []) c le = absurd (omega arith)
 all (s ∷ t ∷ u ∷ v ∷ w ∷ x ∷ y ∷ []) c le = absurd (omega arith)
 all (s ∷ t ∷ u ∷ v ∷ w ∷ x ∷ y ∷ z ∷ l) c le = refl
 
+returns : tie.Need-returns
+returns c =
+    let s = c .before .before .before .before .before .before .before .before in
+    all (s .args .to .now) (s .args .c) (s .pre)
+
 cast-to : tie.Need-cast-to
 cast-to c = search needs
 
@@ -141,11 +146,6 @@ same-length : tie.Need-same-length
 same-length c =
     let s = c .before .before .before .before .before .before .before .before in
     kept8 (s .args .to .now) (s .args .c)
-
-returns : tie.Need-returns
-returns c =
-    let s = c .before .before .before .before .before .before .before .before in
-    all (s .args .to .now) (s .args .c) (s .pre)
 
 pub put-contents-spec : {M : Type 1} → statement M
 put-contents-spec =
