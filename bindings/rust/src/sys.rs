@@ -145,6 +145,12 @@ extern "C" {
         reply: *mut u64,
         reply_len: usize,
     ) -> u32;
+    fn jugbowo_nearest(
+        text: *const u8,
+        text_len: usize,
+        out: *mut u8,
+        out_len: usize,
+    ) -> usize;
 }
 
 // Reads a text into two lent clause slices; `numbers`, `images` and `reply` take the formula and the answer.
@@ -282,4 +288,9 @@ pub fn solve(text: &[u8], points: &mut [u64], falsified: &mut [u32], depths: &mu
             reply.len(),
         )
     }
+}
+
+// Puts what the program `nearest` prints for a text to the front of `out`; how many bytes, or 0 where `out` has fewer than 312.
+pub fn nearest(text: &[u8], out: &mut [u8]) -> usize {
+    unsafe { jugbowo_nearest(text.as_ptr(), text.len(), out.as_mut_ptr(), out.len()) }
 }
