@@ -7,9 +7,10 @@ use native.Mathlib.Nat.{le-of-eq}
 use native.Mathlib.Numerals.{add-one}
 use native.Mathlib.Omega.{arith}
 use lib.Dec.{leb}
-use lib.ListN.{length, length-append}
+use lib.ListN.{length, drop, length-append}
 use borrow.Author.Tests.{leb-true, leb-false}
 use Rattle.math.specs.Bits.{bit}
+use Rattle.math.specs.Lists.{over}
 use Rattle.math.specs.SpliceLaws.{spliced-front}
 use Rattle.decimals.specs.Decimal.{decimal, lineEnd, field, line}
 use Rattle.decimals.specs.DecimalLaws.{decimal-length, line-length}
@@ -19,6 +20,11 @@ use Rattle.report.specs.Report.{sign, literal, literals, satisfiableHead
 -- put at the front of the output
 pub put-front : (text out₀ : List ℕ) (r : ℕ) (out₁ : List ℕ) → Put 0 text out₀ r out₁ → Printed text out₀ r out₁
 put-front text out₀ r out₁ p = record { counted = omega (arith, p .behind); output = p .stored ∙ spliced-front text out₀ }
+
+-- what was put lies within the output
+pub put-within : (text out₀ : List ℕ) (r : ℕ) (out₁ : List ℕ) → Printed text out₀ r out₁ → r ≤ length out₁
+unfolding over
+put-within text out₀ r out₁ p = omega (arith, p .counted, ap length (p .output), length-append text (drop (length text) out₀))
 
 -- ---- names
 

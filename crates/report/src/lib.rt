@@ -76,8 +76,8 @@ fn put_unknown(out: &mut [u8], bound: u32, filled: u32) -> usize
     )
 }
 
-// Puts the line of a refusal.
-fn put_refused(out: &mut [u8], code: u32, place: usize) -> usize
+// Puts the line of a refusal. Callers see to the room.
+pub fn put_refused(out: &mut [u8], code: u32, place: usize) -> usize
     requires { ⌜ 312 ≤ length (now out) ⌝ }
     ensures { λ r. ⌜ Printed (refusedText code place) (now (out .entry)) r (now (out .exit)) ⌝ }
 {
