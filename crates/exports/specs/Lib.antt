@@ -5,3 +5,5 @@ pub mod Builder
 pub mod BuilderLaws
 pub mod Reader
 pub mod ReaderLaws
+pub mod Nearest
+pub mod NearestLaws

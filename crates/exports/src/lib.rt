@@ -9,6 +9,7 @@ ghost use Rattle.math.specs.Lists.{over};
 ghost use Rattle.exports.specs.Words.{imagesFrom, formulaFrom};
 
 mod builder;
+mod nearest;
 mod reader;
 
 // How many words an answer takes.
