@@ -48,6 +48,8 @@ extern "C" {
         reply: *mut u64,
         reply_len: usize,
     ) -> u32;
+
+    fn jugbowo_nearest(text: *const u8, text_len: usize, out: *mut u8, out_len: usize) -> usize;
 }
 
 // Searches over three lent slices; four words of `reply` take the answer, and the result is 1, or 0 where they have no place.
@@ -95,4 +97,9 @@ pub fn read(text: &[u8], positive: &mut [u64], negative: &mut [u64], numbers: &m
             reply.len(),
         )
     }
+}
+
+// Puts what the program `nearest` prints for a text to the front of `out`; the result is how many bytes, or 0 where `out` has no place for 312.
+pub fn nearest(text: &[u8], out: &mut [u8]) -> usize {
+    unsafe { jugbowo_nearest(text.as_ptr(), text.len(), out.as_mut_ptr(), out.len()) }
 }
