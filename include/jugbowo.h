@@ -116,6 +116,10 @@ uint32_t jugbowo_solve(const uint8_t *text, size_t text_len,
                        uint8_t *out, size_t out_len,
                        uint64_t *reply, size_t reply_len);
 
+/* What the program `nearest` prints for a text, to the front of `out`; the bytes behind it are left alone. Returns how many bytes, at most 312;
+ * where `out` has fewer than 312 it returns 0 and changes nothing. Stack: 256 KiB. */
+size_t jugbowo_nearest(const uint8_t *text, size_t text_len, uint8_t *out, size_t out_len);
+
 #ifdef __cplusplus
 }
 #endif

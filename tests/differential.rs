@@ -444,6 +444,9 @@ impl Case {
             (Ok(_), Ok((reply, _))) => (words(reply), before.clone()),
             (Err(r), _) | (_, Err(r)) => (refused(*r), before.clone()),
         };
+        let mut printed = vec![3; 320];
+        let count = library::nearest(&bytes, &mut printed);
+        self.same("printed", String::from_utf8_lossy(&printed[..count]).into_owned(), reference::printed(&bytes));
         self.same("solved", reply.to_vec(), [&wanted[..], &[3]].concat());
         self.same("output", out, output);
         let filled = walked.map_or(0, |w| w.1.len());

@@ -1,7 +1,9 @@
-// Runs outside vectors against the compiled library: compares each reply and all memory lent, prints a line for each disagreement and a
-// count for each kind. Exit status 1 if anything differs. Usage: vectors FILE.
+// Runs outside vectors against the compiled library, and those of the program `nearest` against the program too: compares each reply and all
+// memory lent, prints a line for each disagreement and a count for each kind. Exit status 1 if anything differs. Usage: vectors FILE PROGRAM.
 use std::collections::HashMap;
 use std::fmt::Debug;
+use std::io::{Read, Write};
+use std::process::{Command, Stdio};
 
 mod library;
 use library::Sheet;
@@ -216,6 +218,37 @@ fn read_images(body: &[u8], n: usize, wanted: &[u8], d: &mut Differences) {
     d.compare("image of a variable above n", (told, reply), (1, [0, 0, 7]));
 }
 
+fn nearest(v: &Vector, d: &mut Differences) {
+    let text = v.bytes("bytes");
+    let wanted = v.bytes("after-bytes");
+    let mut out = vec![7u8; 313];
+    let count = library::nearest(&text, &mut out);
+    d.compare("count", count, wanted.len());
+    d.compare("output", out, over(wanted.clone(), &[7; 313]));
+    let mut short = vec![7u8; 311];
+    d.compare("count without room", library::nearest(&text, &mut short), 0);
+    d.compare("output without room", short, vec![7u8; 311]);
+    let program = std::env::args().nth(2).expect("the program");
+    d.compare("standard output", run_program(&program, &text), wanted);
+}
+
+// What the program prints for an input that it is handed in two pieces, so that it sees short reads.
+fn run_program(program: &str, input: &[u8]) -> Vec<u8> {
+    let mut child = Command::new(program).stdin(Stdio::piped()).stdout(Stdio::piped()).spawn().expect("the program");
+    let mut stdin = child.stdin.take().expect("its standard input");
+    let (front, back) = input.split_at(input.len() / 2);
+    for piece in [front, back] {
+        // the program stops reading an input that is too long, and that is no fault
+        let _ = stdin.write_all(piece);
+        let _ = stdin.flush();
+    }
+    drop(stdin);
+    let mut printed = Vec::new();
+    child.stdout.take().expect("its standard output").read_to_end(&mut printed).expect("what it prints");
+    child.wait().expect("its end");
+    printed
+}
+
 fn vectors(text: &str) -> Vec<Vector<'_>> {
     let blocks = text.split("\n\n").filter(|b| !b.trim().is_empty());
     blocks
@@ -234,8 +267,8 @@ fn vectors(text: &str) -> Vec<Vector<'_>> {
 fn main() {
     let path = std::env::args().nth(1).expect("a file of vectors");
     let text = std::fs::read_to_string(path).expect("the vectors");
-    let kinds: [(&str, fn(&Vector, &mut Differences)); 4] =
-        [("reader", reader), ("builder", builder), ("checker", checker), ("writer", writer)];
+    let kinds: [(&str, fn(&Vector, &mut Differences)); 5] =
+        [("reader", reader), ("builder", builder), ("checker", checker), ("writer", writer), ("nearest", nearest)];
     let all = vectors(&text);
     let (mut passed, mut failed) = (0, 0);
     for (kind, test) in kinds {

@@ -9,3 +9,5 @@ pub mod Certificates
 pub mod CertificateLaws
 pub mod Solving
 pub mod SolvingLaws
+pub mod Nearest
+pub mod NearestLaws

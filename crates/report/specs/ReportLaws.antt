@@ -1,0 +1,95 @@
+-- Laws of the printed text: its names one by one, and how long it is at most. Assumes nothing.
+use mathlib.Core.Bool.{Bool, true, false}
+use mathlib.Core.List.{List, _++_}
+use mathlib.Core.Path.{_≡_, refl, ap, _∙_}
+use Prim.Native.Nat.{ℕ, zero, suc, _+_, _*_, _^_, _≤_, _<_}
+use native.Mathlib.Nat.{le-of-eq}
+use native.Mathlib.Numerals.{add-one}
+use native.Mathlib.Omega.{arith}
+use lib.Dec.{leb}
+use lib.ListN.{length, drop, length-append}
+use borrow.Author.Tests.{leb-true, leb-false}
+use Rattle.math.specs.Bits.{bit}
+use Rattle.math.specs.Lists.{over}
+use Rattle.math.specs.SpliceLaws.{spliced-front}
+use Rattle.decimals.specs.Decimal.{decimal, lineEnd, field, line}
+use Rattle.decimals.specs.DecimalLaws.{decimal-length, line-length}
+use Rattle.decimals.specs.Putting.{Put}
+use Rattle.report.specs.Report.{sign, literal, literals, satisfiableHead, valuesEnd, changesHead, slotsBetween, unsatisfiableHead, unknownHead, refusedHead, space, satisfiableText, unsatisfiableText, unknownText, refusedText, Printed}
+
+-- put at the front of the output
+pub put-front : (text out₀ : List ℕ) (r : ℕ) (out₁ : List ℕ) → Put 0 text out₀ r out₁ → Printed text out₀ r out₁
+put-front text out₀ r out₁ p = record { counted = omega (arith, p .behind); output = p .stored ∙ spliced-front text out₀ }
+
+-- what was put lies within the output
+pub put-within : (text out₀ : List ℕ) (r : ℕ) (out₁ : List ℕ) → Printed text out₀ r out₁ → r ≤ length out₁
+unfolding over
+put-within text out₀ r out₁ p = omega (arith, p .counted, ap length (p .output), length-append text (drop (length text) out₀))
+
+-- ---- names
+
+-- one name more
+pub literals-next : (x i : ℕ) → literals x (i + 1) ≡ literals x i ++ literal x i
+unfolding literals
+literals-next x i = ap (literals x) (add-one i)
+
+-- the first names take no more room than all
+pub literals-grow : (x i n : ℕ) → i ≤ n → length (literals x i) ≤ length (literals x n)
+unfolding literals
+literals-grow x i zero le = le-of-eq (ap (λ (j : ℕ). length (literals x j)) (let z : i ≡ 0 = omega arith in z))
+literals-grow x i (suc n) le = by (leb i n) refl (literals-grow x i n)
+  where
+    by : (b : Bool) → leb i n ≡ b → (i ≤ n → length (literals x i) ≤ length (literals x n)) → length (literals x i) ≤ length (literals x n ++ literal x n)
+    by true e grow = omega (arith, grow (leb-true i n e), length-append (literals x n) (literal x n))
+    by false e grow = le-of-eq (ap (λ (j : ℕ). length (literals x j)) (let z : i ≡ suc n = omega (arith, leb-false i n e) in z))
+
+-- where there is room for all, there is for the next one
+pub literal-room : (at x i n : ℕ) (out : List ℕ) → at + length (literals x n) ≤ length out → i < n → at + length (literals x i ++ literal x i) ≤ length out
+literal-room at x i n out room more = omega (arith, literals-grow x (i + 1) n (omega arith), ap length (literals-next x i))
+
+sign-length : (b : Bool) → length (sign b) ≤ 2
+unfolding sign
+sign-length true = omega arith
+sign-length false = omega arith
+
+-- of at most 64 names each takes four bytes at most
+pub literals-length : (x n : ℕ) → n ≤ 64 → length (literals x n) ≤ 4 * n
+unfolding literals
+literals-length x zero le = omega arith
+literals-length x (suc n) le =
+    omega (
+      arith,
+      literals-length x n (omega arith),
+      length-append (literals x n) (literal x n),
+      length-append (sign (bit x n)) (decimal (n + 1)),
+      sign-length (bit x n),
+      decimal-length 1 (n + 1) (omega arith),
+    )
+
+-- ---- no text is longer than 312 bytes where there are at most 64 names
+
+-- 15 in front of the names, four a name, 3 behind them, 38 in the last line
+pub satisfiable-length : (n x d k : ℕ) → n ≤ 64 → d < 10 ^ 10 → k < 10 ^ 10 → length (satisfiableText n x d k) ≤ 312
+unfolding satisfiableText
+satisfiable-length n x d k few p q =
+    omega (
+      arith,
+      length-append (satisfiableHead ++ literals x n ++ valuesEnd) (line changesHead d slotsBetween k),
+      length-append (satisfiableHead ++ literals x n) valuesEnd,
+      length-append satisfiableHead (literals x n),
+      literals-length x n few,
+      line-length changesHead slotsBetween 9 9 d k p q,
+    )
+
+pub unsatisfiable-length : (k : ℕ) → k < 10 ^ 10 → length (unsatisfiableText k) ≤ 312
+unfolding unsatisfiableText
+unsatisfiable-length k p =
+    omega (arith, length-append (field unsatisfiableHead k) lineEnd, length-append unsatisfiableHead (decimal k), decimal-length 9 k p)
+
+pub unknown-length : (b k : ℕ) → b < 10 ^ 10 → k < 10 ^ 10 → length (unknownText b k) ≤ 312
+unfolding unknownText
+unknown-length b k p q = omega (arith, line-length unknownHead space 9 9 b k p q)
+
+pub refused-length : (code place : ℕ) → code < 10 ^ 10 → place < 10 ^ 20 → length (refusedText code place) ≤ 312
+unfolding refusedText
+refused-length code place p q = omega (arith, line-length refusedHead space 9 19 code place p q)
