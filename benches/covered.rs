@@ -5,7 +5,6 @@
 #[path = "../tests/library.rs"]
 mod library;
 #[path = "../tests/sheets.rs"]
-#[allow(dead_code)] // of what a search leaves, the benchmark reads the reply and the clause numbers
 mod sheets;
 mod clock;
 use clock::spent;

@@ -4,7 +4,7 @@
 mod library;
 mod sheets;
 use library::{Count, Sheet};
-use sheets::{clause, paper, pigeons, search, sheet, swaps, text};
+use sheets::{clause, paper, pigeons, search, sheet, swaps, text, Found};
 
 const REFUSED: u64 = 0;
 const SATISFIABLE: u64 = 1;
@@ -197,12 +197,13 @@ fn without(file: &File, index: usize) -> File {
     File::new(file.contents[0], file.contents[1], &file.images, &points, &numbers)
 }
 
-// What a solver answers over fresh slots, and its output, of which every byte was 9.
-fn solved(text: &[u8], slots: usize, room: usize) -> ([u64; 4], Vec<u8>) {
-    let (mut points, mut numbers, mut depths) = (vec![9; slots], vec![9; slots], vec![9; slots]);
-    let (mut out, mut reply) = (vec![9; room], [9; 4]);
-    assert_eq!(library::solve(text, &mut points, &mut numbers, &mut depths, &mut out, &mut reply), 1);
-    (reply, out)
+// What the solver answers and leaves in fresh slots, and the output, of which every byte was 9.
+fn solved(text: &[u8], slots: usize, room: usize) -> (Found, Vec<u8>) {
+    let mut found = Found { reply: [9; 4], points: vec![9; slots], numbers: vec![9; slots], depths: vec![9; slots] };
+    let mut out = vec![9; room];
+    let told = library::solve(text, &mut found.points, &mut found.numbers, &mut found.depths, &mut out, &mut found.reply);
+    assert_eq!(told, 1);
+    (found, out)
 }
 
 // The formula that the reader makes of a text, with its clauses in slices of their length.
@@ -219,16 +220,19 @@ fn read(text: &[u8]) -> Sheet {
 
 // From a text to a checked certificate, in one call and step by step, and the same with one byte too few.
 fn unsatisfiable(count: &mut Count, name: &str, text: &[u8], slots: u64, size: usize) -> Vec<u8> {
-    let (reply, out) = solved(text, 4096, size + 3);
-    count.compare(&format!("{name}: solved"), reply, [CERTIFIED, slots, size as u64, 0]);
+    let (solution, out) = solved(text, 4096, size + 3);
+    count.compare(&format!("{name}: solved"), solution.reply, [CERTIFIED, slots, size as u64, 0]);
     let s = read(text);
-    count.compare(&format!("{name}: searched"), search(&s, 4096).reply, [UNSATISFIABLE, slots, 0, 0]);
+    let found = search(&s, 4096);
+    count.compare(&format!("{name}: searched"), found.reply, [UNSATISFIABLE, slots, 0, 0]);
+    let same = (&solution.points, &solution.numbers, &solution.depths) == (&found.points, &found.numbers, &found.depths);
+    count.expect(&format!("{name}: the same slots, those behind them unchanged"), same && found.points[slots as usize..].iter().all(|&x| x == 9));
     let (reply, again) = written(&s, 4096, size + 3);
     count.compare(&format!("{name}: written"), reply, [WRITTEN, size as u64, 0, 0]);
     count.expect(&format!("{name}: the same output, the bytes behind it unchanged"), out == again && out[size..] == [9; 3]);
     count.compare(&format!("{name}: checked"), checked(&s, &out[..size]), [ACCEPTED, 0, 0, 0]);
-    let short = solved(text, 4096, size - 1);
-    count.compare(&format!("{name}: an output one byte too short"), short, ([UNCERTIFIED, slots, size as u64, 0], vec![9; size - 1]));
+    let (short, unwritten) = solved(text, 4096, size - 1);
+    count.compare(&format!("{name}: an output one byte too short"), (short.reply, unwritten), ([UNCERTIFIED, slots, size as u64, 0], vec![9; size - 1]));
     out[..size].to_vec()
 }
 
@@ -251,16 +255,24 @@ fn end_to_end(count: &mut Count) {
     }
 }
 
-// Every other answer of the solver leaves the output as it was.
+// Every other answer of the solver leaves the output as it was, and a refusal the slots too.
 fn other_answers(count: &mut Count) {
     let a = text(2, &formula_a(), &[]);
-    count.compare("A with 3 slots", solved(&a, 3, 100), ([UNKNOWN, 1, 3, 0], vec![9; 100]));
-    count.compare("A with no slot", solved(&a, 0, 100), ([REFUSED, 13, 0, 0], vec![9; 100]));
     let b = b"p cnf 3 2\nc wish 000\n1 2 0\n-1 3 0\n";
-    count.compare("B", solved(b, 4096, 100), ([SATISFIABLE, 2, 1, 4], vec![9; 100]));
-    count.compare("B with 3 slots", solved(b, 3, 100), ([UNKNOWN, 1, 3, 0], vec![9; 100]));
-    count.compare("a text that is refused", solved(b"p cnf 2 1\n-3 0\n", 8, 100), ([REFUSED, 6, 10, 0], vec![9; 100]));
-    count.compare("a permutation that does not keep the clauses", solved(b"p cnf 2 1\nc exch 2 1\n1 0\n", 8, 100), ([REFUSED, 12, 1, 0], vec![9; 100]));
+    let cases = [
+        ("A with 3 slots", &a[..], 3, [UNKNOWN, 1, 3, 0]),
+        ("A with no slot", &a, 0, [REFUSED, 13, 0, 0]),
+        ("B", b, 8, [SATISFIABLE, 2, 1, 4]),
+        ("B with 3 slots", b, 3, [UNKNOWN, 1, 3, 0]),
+        ("a variable above n", b"p cnf 2 1\n-3 0\n", 8, [REFUSED, 6, 10, 0]),
+        ("a permutation that does not keep the clauses", b"p cnf 2 1\nc exch 2 1\n1 0\n", 8, [REFUSED, 12, 1, 0]),
+    ];
+    for (name, text, slots, wanted) in cases {
+        let (found, out) = solved(text, slots, 100);
+        count.compare(&format!("{name}: solved"), (found.reply, out), (wanted, vec![9; 100]));
+        let unchanged = found.points.iter().all(|&x| x == 9) && found.numbers.iter().chain(&found.depths).all(|&x| x == 9);
+        count.compare(&format!("{name}: slots unchanged"), unchanged, wanted[0] == REFUSED);
+    }
 }
 
 // Where the words have no place, 0 is returned and nothing changes.

@@ -1,5 +1,4 @@
 -- `exports::builder::jugbowo_search` meets its contract: with room for the answer it tells what the search answers. Assumes nothing.
-use borrow.Author.Needs.{needs}
 use Rattle.exports.specs.BuilderLaws.{tells-nothing, tells-search}
 use Rattle.exports.proofs.builder.jugbowo_search.Statement.{statement}
 use Rattle.exports.proofs.builder.jugbowo_search.Tie as tie
@@ -10,25 +9,25 @@ returns c =
     tells-nothing _ (a .positive .now) (a .negative .now) (a .points .now) (a .falsified .now) (a .depths .now) (a .reply .now) (c .if1 .taken)
 
 formula-from-requires : tie.Need-formula-from-requires
-formula-from-requires c κs = search needs
+formula-from-requires c κs = tt
 
 search-requires : tie.Need-search-requires
-search-requires c κs = search needs
+search-requires c κs = tt
 
 put-outcome-requires : tie.Need-put-outcome-requires
-put-outcome-requires c κs = search needs
+put-outcome-requires c κs = c .before .before .before .before .before .before .before .before .before .before .before .before .if1 .left
 
 same-length : tie.Need-same-length
-same-length c = search needs
+same-length c = c .before .before .before .before .before .before .before .before .before .before .search .kept .1 .1 .1 .0
 
 same-length-2 : tie.Need-same-length-2
-same-length-2 c = search needs
+same-length-2 c = c .before .before .before .before .before .before .before .before .before .before .search .kept .1 .1 .1 .1 .0
 
 same-length-3 : tie.Need-same-length-3
-same-length-3 c = search needs
+same-length-3 c = c .before .before .before .before .before .before .before .before .before .before .search .kept .1 .1 .1 .1 .1 .0
 
 same-length-4 : tie.Need-same-length-4
-same-length-4 c = search needs
+same-length-4 c = c .before .before .put-outcome .kept .0
 
 returns-2 : tie.Need-returns-2
 returns-2 c =

@@ -1,5 +1,4 @@
 -- `exports::certificates::jugbowo_open` meets its contract: with room for the answer it tells what the reader of a file answers. Assumes nothing.
-use borrow.Author.Needs.{needs}
 use Rattle.exports.specs.CertificateLaws.{without-reply, without-contents, tells-opening}
 use Rattle.exports.proofs.certificates.jugbowo_open.Statement.{statement}
 use Rattle.exports.proofs.certificates.jugbowo_open.Tie as tie
@@ -21,10 +20,10 @@ put-opened-requires : tie.Need-put-opened-requires
 put-opened-requires c κs = (c .before .before .before .if2 .left, c .before .before .before .before .if1 .left)
 
 same-length : tie.Need-same-length
-same-length c = search needs
+same-length c = c .before .before .before .before .put-opened .kept .0
 
 same-length-2 : tie.Need-same-length-2
-same-length-2 c = search needs
+same-length-2 c = c .before .before .before .before .put-opened .kept .1 .0
 
 returns-3 : tie.Need-returns-3
 returns-3 c =

@@ -1,5 +1,4 @@
 -- `exports::reader::jugbowo_read` meets its contract: with room for the answer it tells what the reader answers. Assumes nothing.
-use borrow.Author.Needs.{needs}
 use Rattle.exports.specs.ReaderLaws.{without-reply, without-numbers, without-images, tells-reading}
 use Rattle.exports.proofs.reader.jugbowo_read.Statement.{statement}
 use Rattle.exports.proofs.reader.jugbowo_read.Tie as tie
@@ -20,28 +19,30 @@ returns-3 c =
     without-images (a .text .now) (a .positive .now) (a .negative .now) (a .numbers .now) (a .images .now) (a .reply .now) (c .before .before .if1 .left) (c .before .if2 .left) (c .if3 .taken)
 
 read-requires : tie.Need-read-requires
-read-requires c κs = search needs
+read-requires c κs = tt
 
 put-formula-requires : tie.Need-put-formula-requires
-put-formula-requires c κs = search needs
+put-formula-requires c κs =
+    let roomy = c .before .before .before .before .before .before .before .before .before .before in
+    (roomy .before .if2 .left, roomy .if3 .left)
 
 put-parse-requires : tie.Need-put-parse-requires
-put-parse-requires c κs = search needs
+put-parse-requires c κs = c .before .before .before .before .before .before .before .before .before .before .before .before .before .before .before .before .before .before .if1 .left
 
 same-length : tie.Need-same-length
-same-length c = search needs
+same-length c = c .before .before .before .before .before .before .before .before .before .before .before .before .before .before .before .before .read .kept .1 .0
 
 same-length-2 : tie.Need-same-length-2
-same-length-2 c = search needs
+same-length-2 c = c .before .before .before .before .before .before .before .before .before .before .before .before .before .before .before .before .read .kept .1 .1 .0
 
 same-length-3 : tie.Need-same-length-3
-same-length-3 c = search needs
+same-length-3 c = c .before .before .before .before .before .before .before .before .put-formula .kept .0
 
 same-length-4 : tie.Need-same-length-4
-same-length-4 c = search needs
+same-length-4 c = c .before .before .before .before .before .before .before .before .put-formula .kept .1 .0
 
 same-length-5 : tie.Need-same-length-5
-same-length-5 c = search needs
+same-length-5 c = c .before .before .put-parse .kept .0
 
 returns-4 : tie.Need-returns-4
 returns-4 c =

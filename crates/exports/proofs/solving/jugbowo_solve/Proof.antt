@@ -1,5 +1,4 @@
 -- `exports::solving::jugbowo_solve` meets its contract: with room for the answer it tells what the solver answers. Assumes nothing.
-use borrow.Author.Needs.{needs}
 use Rattle.exports.specs.SolvingLaws.{tells-nothing, tells-solution}
 use Rattle.exports.proofs.solving.jugbowo_solve.Statement.{statement}
 use Rattle.exports.proofs.solving.jugbowo_solve.Tie as tie
@@ -16,16 +15,16 @@ put-solution-requires : tie.Need-put-solution-requires
 put-solution-requires c κs = c .before .before .before .before .before .before .before .before .before .before .before .before .before .before .if1 .left
 
 same-length : tie.Need-same-length
-same-length c = search needs
+same-length c = c .before .before .before .before .before .before .before .before .before .before .before .before .solve .kept .1 .0
 
 same-length-2 : tie.Need-same-length-2
-same-length-2 c = search needs
+same-length-2 c = c .before .before .before .before .before .before .before .before .before .before .before .before .solve .kept .1 .1 .0
 
 same-length-3 : tie.Need-same-length-3
-same-length-3 c = search needs
+same-length-3 c = c .before .before .before .before .before .before .before .before .before .before .before .before .solve .kept .1 .1 .1 .0
 
 same-length-4 : tie.Need-same-length-4
-same-length-4 c = search needs
+same-length-4 c = c .before .before .before .before .before .before .before .before .before .before .before .before .solve .kept .1 .1 .1 .1 .0
 
 same-length-5 : tie.Need-same-length-5
 same-length-5 c = c .before .before .put-solution .kept .0
