@@ -1,4 +1,4 @@
-// The program `nearest`: a sheet from standard input; to standard output what document 01 fixes, and nothing else. Where standard input
+// P1: the program `nearest`: a sheet from standard input; to standard output what document 01 fixes, and nothing else. Where standard input
 // cannot be read it prints nothing there and says so on standard error: a failed read is not the end of a sheet, and no number of 01 means it.
 // The language gives a program no exit status, so that is 0 in every case.
 use response::answer;

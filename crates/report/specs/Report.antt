@@ -12,7 +12,7 @@ use Rattle.formula.specs.Reply.{Reply, refused, satisfiable, unsatisfiable, unk
 
 -- ---- names
 
--- "minus for no": a space, and a minus behind it for no
+-- P3: "minus for no": a space, and a minus behind it for no
 unfoldable pub sign : Bool → List ℕ
 sign true = 32 ∷ []
 sign false = 32 ∷ 45 ∷ []
@@ -21,7 +21,7 @@ sign false = 32 ∷ 45 ∷ []
 abbrev pub literal : ℕ → ℕ → List ℕ
 literal x i = field (sign (bit x i)) (i + 1)
 
--- "`v` gives each name ascending": the first k names
+-- P3: "`v` gives each name ascending": the first k names
 unfoldable pub literals : ℕ → ℕ → List ℕ
 unfolding decimal sign bit
 literals x zero = []
@@ -33,7 +33,7 @@ literals x (suc k) = literals x k ++ literal x k
 abbrev pub satisfiableHead : List ℕ
 satisfiableHead = 115 ∷ 32 ∷ 83 ∷ 65 ∷ 84 ∷ 73 ∷ 83 ∷ 70 ∷ 73 ∷ 65 ∷ 66 ∷ 76 ∷ 69 ∷ 10 ∷ 118 ∷ []
 
--- "then 0"
+-- P3: "then 0"
 abbrev pub valuesEnd : List ℕ
 valuesEnd = 32 ∷ 48 ∷ 10 ∷ []
 
@@ -61,22 +61,22 @@ refusedHead = 99 ∷ 32 ∷ 114 ∷ 101 ∷ 102 ∷ 117 ∷ 115 ∷ 101 ∷ 100 
 abbrev pub space : List ℕ
 space = 32 ∷ []
 
--- "`v` gives each name ascending, minus for no, then 0."; the last line has the changes and the slots
+-- P3: "`v` gives each name ascending, minus for no, then 0."; the last line has the changes and the slots
 unfoldable pub satisfiableText : ℕ → ℕ → ℕ → ℕ → List ℕ
 unfolding decimal literals
 satisfiableText n x d k = satisfiableHead ++ literals x n ++ valuesEnd ++ line changesHead d slotsBetween k
 
--- "two lines, `s UNSATISFIABLE` and `c slots` with the slots filled"
+-- P4: "two lines, `s UNSATISFIABLE` and `c slots` with the slots filled"
 unfoldable pub unsatisfiableText : ℕ → List ℕ
 unfolding decimal
 unsatisfiableText k = field unsatisfiableHead k ++ lineEnd
 
--- "or `s UNKNOWN` and `c room` with d and the slots filled"
+-- P4: "or `s UNKNOWN` and `c room` with d and the slots filled"
 unfoldable pub unknownText : ℕ → ℕ → List ℕ
 unfolding decimal
 unknownText b k = line unknownHead b space k
 
--- "or the one line `c refused` with number and place"
+-- P4: "or the one line `c refused` with number and place"
 unfoldable pub refusedText : ℕ → ℕ → List ℕ
 unfolding decimal
 refusedText code place = line refusedHead code space place

@@ -10,7 +10,7 @@ use Rattle.claims.specs.Claim.{Sheet, from-text, formulaIn}
 use Rattle.solver.specs.Solver.{blank, sheetReply}
 use Rattle.report.specs.Report.{reportOf}
 
--- "The program `nearest` reads standard input, a sheet of at most 65,536 bytes, with 4,096 slots."
+-- P1: "The program `nearest` reads standard input, a sheet of at most 65,536 bytes, with 4,096 slots."
 abbrev pub maxInput : ℕ
 maxInput = 65536
 
@@ -21,12 +21,12 @@ slots = 4096
 abbrev pub sheetIn : List ℕ → Sheet
 sheetIn input = from-text input blank blank
 
--- "(1 and 65536 for a longer input)"
+-- P4: "(1 and 65536 for a longer input)"
 unfoldable pub replyTo : List ℕ → Reply
 unfolding sheetReply
 replyTo input = cond (ltb maxInput (length input)) (refused 1 maxInput) (sheetReply (sheetIn input) slots)
 
--- "it prints just": the text of the reply
+-- P2: "it prints just": the text of the reply
 unfoldable pub printed : List ℕ → List ℕ
 unfolding replyTo reportOf
 printed input = reportOf (formulaIn (sheetIn input) .variables) (replyTo input)
