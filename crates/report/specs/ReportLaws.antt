@@ -9,8 +9,8 @@ use lib.ListN.{length, drop, length-append}
 use Rattle.math.specs.Bits.{bit}
 use Rattle.math.specs.Lists.{over}
 use Rattle.math.specs.SpliceLaws.{spliced-front}
-use Rattle.decimals.specs.Decimal.{decimal, lineEnd, field, line}
-use Rattle.decimals.specs.DecimalLaws.{decimal-length, line-length}
+use Rattle.decimals.specs.Decimal.{numeral, lineEnd, field, line}
+use Rattle.decimals.specs.DecimalLaws.{numeral-length, line-length}
 use Rattle.decimals.specs.Putting.{Put}
 use Rattle.report.specs.Report.{sign, literal, literals, satisfiableHead, valuesEnd, changesHead, slotsBetween, unsatisfiableHead, unknownHead, refusedHead, space, satisfiableText, unsatisfiableText, unknownText, refusedText, Printed}
 
@@ -44,9 +44,9 @@ literals-length x (suc n) le =
       arith,
       literals-length x n (omega arith),
       length-append (literals x n) (literal x n),
-      length-append (sign (bit x n)) (decimal (n + 1)),
+      length-append (sign (bit x n)) (numeral (n + 1)),
       sign-length (bit x n),
-      decimal-length 1 (n + 1) (omega arith),
+      numeral-length 1 (n + 1) (omega arith),
     )
 
 -- there is room for the next one
@@ -71,7 +71,7 @@ satisfiable-length n x d k few p q =
 pub unsatisfiable-length : (k : ℕ) → k < 10 ^ 10 → length (unsatisfiableText k) ≤ 312
 unfolding unsatisfiableText
 unsatisfiable-length k p =
-    omega (arith, length-append (field unsatisfiableHead k) lineEnd, length-append unsatisfiableHead (decimal k), decimal-length 9 k p)
+    omega (arith, length-append (field unsatisfiableHead k) lineEnd, length-append unsatisfiableHead (numeral k), numeral-length 9 k p)
 
 pub unknown-length : (b k : ℕ) → b < 10 ^ 10 → k < 10 ^ 10 → length (unknownText b k) ≤ 312
 unfolding unknownText

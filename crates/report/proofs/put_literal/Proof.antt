@@ -5,7 +5,7 @@ use Prim.Native.Nat.{_+_, _<_}
 use native.Mathlib.Omega.{arith}
 use borrow.Author.Needs.{needs}
 use Rattle.decimals.specs.Decimal.{field}
-use Rattle.decimals.specs.DecimalLaws.{decimal-length}
+use Rattle.decimals.specs.DecimalLaws.{numeral-length}
 use Rattle.decimals.specs.Putting.{Put}
 use Rattle.report.specs.Report.{sign}
 use Rattle.report.proofs.put_literal.Statement.{statement}
@@ -23,7 +23,7 @@ slice-aggregate-put-field c = search needs
 put-field-requires : tie.Need-put-field-requires
 put-field-requires c κs =
     let s = c .before .before .before .before .before in
-    omega (arith, decimal-length 1 (s .args .i + 1) (let z : s .args .i + 1 < 100 = omega (arith, s .pre .0) in z), s .pre .1)
+    omega (arith, numeral-length 1 (s .args .i + 1) (let z : s .args .i + 1 < 100 = omega (arith, s .pre .0) in z), s .pre .1)
 
 same-length : tie.Need-same-length
 same-length c = search needs
@@ -41,7 +41,7 @@ slice-aggregate-put-field-2 c = search needs
 put-field-requires-2 : tie.Need-put-field-requires-2
 put-field-requires-2 c κs =
     let s = c .before .before .before .before .before in
-    omega (arith, decimal-length 1 (s .args .i + 1) (let z : s .args .i + 1 < 100 = omega (arith, s .pre .0) in z), s .pre .1)
+    omega (arith, numeral-length 1 (s .args .i + 1) (let z : s .args .i + 1 < 100 = omega (arith, s .pre .0) in z), s .pre .1)
 
 same-length-2 : tie.Need-same-length-2
 same-length-2 c = search needs
