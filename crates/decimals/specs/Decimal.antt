@@ -9,9 +9,9 @@ digits (suc fuel) zero = []
 digits (suc fuel) (suc q) = digits fuel (suc q / 10) ++ (48 + suc q % 10) ∷ []
 
 -- a number as text: its decimal digits, at least one, and no zero in front of others
-unfoldable pub decimal : ℕ → List ℕ
+unfoldable pub numeral : ℕ → List ℕ
 unfolding digits
-decimal x = digits x (x / 10) ++ (48 + x % 10) ∷ []
+numeral x = digits x (x / 10) ++ (48 + x % 10) ∷ []
 
 -- a line end
 abbrev pub lineEnd : List ℕ
@@ -19,7 +19,7 @@ lineEnd = 10 ∷ []
 
 -- a text, and a number behind it
 abbrev pub field : List ℕ → ℕ → List ℕ
-field head x = head ++ decimal x
+field head x = head ++ numeral x
 
 -- a line with two numbers
 abbrev pub line : List ℕ → ℕ → List ℕ → ℕ → List ℕ

@@ -3,7 +3,7 @@ use output::put_bytes;
 ghost use mathlib.Core.List.{[], _∷_};
 ghost use Prim.Native.Nat.{_+_, _≤_, _<_};
 ghost use lib.ListN.{length};
-ghost use Rattle.decimals.specs.Decimal.{decimal, field, line};
+ghost use Rattle.decimals.specs.Decimal.{numeral, field, line};
 ghost use Rattle.decimals.specs.Putting.{Put};
 
 // Puts one digit, and answers the place behind it.
@@ -16,10 +16,10 @@ fn put_digit(out: &mut [u8], at: usize, d: u64) -> usize
     at + 1
 }
 
-// Puts the decimal digits of a number, and answers the place behind them. One call a digit.
+// Puts the decimal digits of a number, and answers the place behind them. One call a digit, so at most 20 deep.
 fn put_decimal(out: &mut [u8], at: usize, x: u64) -> usize
-    requires { ⌜ at + length (decimal x) ≤ length (now out) ⌝ }
-    ensures { λ r. ⌜ Put at (decimal x) (now (out .entry)) r (now (out .exit)) ⌝ }
+    requires { ⌜ at + length (numeral x) ≤ length (now out) ⌝ }
+    ensures { λ r. ⌜ Put at (numeral x) (now (out .entry)) r (now (out .exit)) ⌝ }
 {
     if x < 10 {
         return put_digit(out, at, x);

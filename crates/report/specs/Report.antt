@@ -7,12 +7,12 @@ use Prim.Native.Nat.{ℕ, zero, suc, _+_}
 use lib.ListN.{length}
 use Rattle.math.specs.Bits.{bit}
 use Rattle.math.specs.Lists.{over}
-use Rattle.decimals.specs.Decimal.{lineEnd, decimal, field, line}
+use Rattle.decimals.specs.Decimal.{lineEnd, numeral, field, line}
 use Rattle.formula.specs.Reply.{Reply, refused, satisfiable, unsatisfiable, unknown, parsed, written, opened, accepted}
 
 -- ---- names
 
--- "minus for no": a space, and a minus behind it for no
+-- P3: "minus for no": a space, and a minus behind it for no
 unfoldable pub sign : Bool → List ℕ
 sign true = 32 ∷ []
 sign false = 32 ∷ 45 ∷ []
@@ -23,7 +23,7 @@ literal x i = field (sign (bit x i)) (i + 1)
 
 -- P3: "`v` gives each name ascending": the first k names
 unfoldable pub literals : ℕ → ℕ → List ℕ
-unfolding decimal sign bit
+unfolding numeral sign bit
 literals x zero = []
 literals x (suc k) = literals x k ++ literal x k
 
@@ -33,7 +33,7 @@ literals x (suc k) = literals x k ++ literal x k
 abbrev pub satisfiableHead : List ℕ
 satisfiableHead = 115 ∷ 32 ∷ 83 ∷ 65 ∷ 84 ∷ 73 ∷ 83 ∷ 70 ∷ 73 ∷ 65 ∷ 66 ∷ 76 ∷ 69 ∷ 10 ∷ 118 ∷ []
 
--- "then 0"
+-- P3: "then 0"
 abbrev pub valuesEnd : List ℕ
 valuesEnd = 32 ∷ 48 ∷ 10 ∷ []
 
@@ -63,22 +63,22 @@ space = 32 ∷ []
 
 -- P3: "`v` gives each name ascending, minus for no, then 0."; the last line has the changes and the slots
 unfoldable pub satisfiableText : ℕ → ℕ → ℕ → ℕ → List ℕ
-unfolding decimal literals
+unfolding numeral literals
 satisfiableText n x d k = satisfiableHead ++ literals x n ++ valuesEnd ++ line changesHead d slotsBetween k
 
 -- P4: "two lines, `s UNSATISFIABLE` and `c slots` with the slots filled"
 unfoldable pub unsatisfiableText : ℕ → List ℕ
-unfolding decimal
+unfolding numeral
 unsatisfiableText k = field unsatisfiableHead k ++ lineEnd
 
 -- P4: "or `s UNKNOWN` and `c room` with d and the slots filled"
 unfoldable pub unknownText : ℕ → ℕ → List ℕ
-unfolding decimal
+unfolding numeral
 unknownText b k = line unknownHead b space k
 
 -- P4: "or the one line `c refused` with number and place"
 unfoldable pub refusedText : ℕ → ℕ → List ℕ
-unfolding decimal
+unfolding numeral
 refusedText code place = line refusedHead code space place
 
 -- what the program prints for a reply, with n names in the sheet; the other replies are never the program's

@@ -1,19 +1,16 @@
 -- Laws of the printed text: its names one by one, and how long it is at most. Assumes nothing.
 use mathlib.Core.Bool.{Bool, true, false}
 use mathlib.Core.List.{List, _++_}
-use mathlib.Core.Path.{_≡_, refl, ap, _∙_}
+use mathlib.Core.Path.{_≡_, ap, _∙_}
 use Prim.Native.Nat.{ℕ, zero, suc, _+_, _*_, _^_, _≤_, _<_}
-use native.Mathlib.Nat.{le-of-eq}
 use native.Mathlib.Numerals.{add-one}
 use native.Mathlib.Omega.{arith}
-use lib.Dec.{leb}
 use lib.ListN.{length, drop, length-append}
-use borrow.Author.Tests.{leb-true, leb-false}
 use Rattle.math.specs.Bits.{bit}
 use Rattle.math.specs.Lists.{over}
 use Rattle.math.specs.SpliceLaws.{spliced-front}
-use Rattle.decimals.specs.Decimal.{decimal, lineEnd, field, line}
-use Rattle.decimals.specs.DecimalLaws.{decimal-length, line-length}
+use Rattle.decimals.specs.Decimal.{numeral, lineEnd, field, line}
+use Rattle.decimals.specs.DecimalLaws.{numeral-length, line-length}
 use Rattle.decimals.specs.Putting.{Put}
 use Rattle.report.specs.Report.{sign, literal, literals, satisfiableHead, valuesEnd, changesHead, slotsBetween, unsatisfiableHead, unknownHead, refusedHead, space, satisfiableText, unsatisfiableText, unknownText, refusedText, Printed}
 
@@ -33,20 +30,6 @@ pub literals-next : (x i : ℕ) → literals x (i + 1) ≡ literals x i ++ liter
 unfolding literals
 literals-next x i = ap (literals x) (add-one i)
 
--- the first names take no more room than all
-pub literals-grow : (x i n : ℕ) → i ≤ n → length (literals x i) ≤ length (literals x n)
-unfolding literals
-literals-grow x i zero le = le-of-eq (ap (λ (j : ℕ). length (literals x j)) (let z : i ≡ 0 = omega arith in z))
-literals-grow x i (suc n) le = by (leb i n) refl (literals-grow x i n)
-  where
-    by : (b : Bool) → leb i n ≡ b → (i ≤ n → length (literals x i) ≤ length (literals x n)) → length (literals x i) ≤ length (literals x n ++ literal x n)
-    by true e grow = omega (arith, grow (leb-true i n e), length-append (literals x n) (literal x n))
-    by false e grow = le-of-eq (ap (λ (j : ℕ). length (literals x j)) (let z : i ≡ suc n = omega (arith, leb-false i n e) in z))
-
--- where there is room for all, there is for the next one
-pub literal-room : (at x i n : ℕ) (out : List ℕ) → at + length (literals x n) ≤ length out → i < n → at + length (literals x i ++ literal x i) ≤ length out
-literal-room at x i n out room more = omega (arith, literals-grow x (i + 1) n (omega arith), ap length (literals-next x i))
-
 sign-length : (b : Bool) → length (sign b) ≤ 2
 unfolding sign
 sign-length true = omega arith
@@ -61,10 +44,14 @@ literals-length x (suc n) le =
       arith,
       literals-length x n (omega arith),
       length-append (literals x n) (literal x n),
-      length-append (sign (bit x n)) (decimal (n + 1)),
+      length-append (sign (bit x n)) (numeral (n + 1)),
       sign-length (bit x n),
-      decimal-length 1 (n + 1) (omega arith),
+      numeral-length 1 (n + 1) (omega arith),
     )
+
+-- there is room for the next one
+pub literal-room : (at x i n : ℕ) (out : List ℕ) → n ≤ 64 → at + 4 * n ≤ length out → i < n → at + length (literals x i ++ literal x i) ≤ length out
+literal-room at x i n out few room more = omega (arith, literals-length x (i + 1) (omega arith), ap length (literals-next x i))
 
 -- ---- no text is longer than 312 bytes where there are at most 64 names
 
@@ -84,7 +71,7 @@ satisfiable-length n x d k few p q =
 pub unsatisfiable-length : (k : ℕ) → k < 10 ^ 10 → length (unsatisfiableText k) ≤ 312
 unfolding unsatisfiableText
 unsatisfiable-length k p =
-    omega (arith, length-append (field unsatisfiableHead k) lineEnd, length-append unsatisfiableHead (decimal k), decimal-length 9 k p)
+    omega (arith, length-append (field unsatisfiableHead k) lineEnd, length-append unsatisfiableHead (numeral k), numeral-length 9 k p)
 
 pub unknown-length : (b k : ℕ) → b < 10 ^ 10 → k < 10 ^ 10 → length (unknownText b k) ≤ 312
 unfolding unknownText

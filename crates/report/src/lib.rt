@@ -5,15 +5,15 @@ use decimals::put_text;
 use points::Point;
 use points::member;
 use search::Outcome;
-ghost use Prim.Native.Nat.{_+_, _≤_};
+ghost use Prim.Native.Nat.{_+_, _*_, _≤_, _<_};
 ghost use lib.ListN.{length};
 ghost use Rattle.decimals.specs.Putting.{Put};
 ghost use Rattle.search.specs.Builder.{replyOf};
 ghost use Rattle.report.specs.Report.{literal, literals, satisfiableText, unsatisfiableText, unknownText, refusedText, reportOf, Printed};
 
-// Puts the name of bit i of a point, with a minus where the bit is 0.
+// P3: puts the name of bit i of a point, with a minus where the bit is 0. That takes four bytes at most; `put_literals` sees to them.
 fn put_literal(out: &mut [u8], at: usize, x: Point, i: u32) -> usize
-    requires { ⌜ at + length (literal x i) ≤ length (now out) ⌝ }
+    requires { ⌜ (i < 64) × (at + 4 ≤ length (now out)) ⌝ }
     ensures { λ r. ⌜ Put at (literal x i) (now (out .entry)) r (now (out .exit)) ⌝ }
 {
     let name = i as u64 + 1;
@@ -24,9 +24,9 @@ fn put_literal(out: &mut [u8], at: usize, x: Point, i: u32) -> usize
     put_field(out, at, b" -", name)
 }
 
-// Puts the first n names of a point, ascending. One step a name.
+// P3: puts the first n names of a point, ascending. One step a name. `put_satisfiable` sees to the room.
 fn put_literals(out: &mut [u8], at: usize, x: Point, n: u32) -> usize
-    requires { ⌜ at + length (literals x n) ≤ length (now out) ⌝ }
+    requires { ⌜ (n ≤ 64) × (at + 4 * n ≤ length (now out)) ⌝ }
     ensures { λ r. ⌜ Put at (literals x n) (now (out .entry)) r (now (out .exit)) ⌝ }
 {
     let mut place = at;

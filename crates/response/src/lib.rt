@@ -11,7 +11,7 @@ ghost use Rattle.solver.specs.Solver.{sheetReply};
 ghost use Rattle.report.specs.Report.{reportOf, Printed};
 ghost use Rattle.response.specs.Response.{slots, sheetIn, printed};
 
-// "a sheet of at most 65,536 bytes"
+// P1: "a sheet of at most 65,536 bytes"
 pub const MAX_INPUT: usize = 65536;
 
 // Searches with the slots in three lent slices and puts the text of the answer. The clauses stand at the front of two slices, as the reader
@@ -37,7 +37,7 @@ fn search_with(
     put_report(out, n, outcome)
 }
 
-// "with 4,096 slots": they stand in local arrays, 64 KiB.
+// P1: "with 4,096 slots": they stand in local arrays, 64 KiB.
 fn search_sheet(f: Formula, positive: &[u64], negative: &[u64], out: &mut [u8]) -> usize
     requires { ⌜ (f .clauses ≤ length (now positive)) × (f .clauses ≤ length (now negative)) × (f .variables ≤ 64) × (312 ≤ length (now out)) ⌝ }
     ensures { λ r. ⌜ Printed (reportOf (f .variables) (searchReply f (take (f .clauses) (now (positive .entry))) (take (f .clauses) (now (negative .entry))) slots)) (now (out .entry)) r (now (out .exit)) ⌝ }
@@ -72,7 +72,7 @@ fn read_sheet(text: &[u8], out: &mut [u8]) -> usize
     }
 }
 
-// What the program prints for an input: the bytes are put to the front of the output, and the answer is their number. The program's output
+// P1, P4: what the program prints for an input: the bytes are put to the front of the output, and the answer is their number. The program's output
 // array has the 312 bytes that the longest text takes.
 pub fn answer(text: &[u8], out: &mut [u8]) -> usize
     requires { ⌜ 312 ≤ length (now out) ⌝ }

@@ -6,7 +6,7 @@ use borrow.Author.Needs.{needs}
 use borrow.Fn.Kinds.{In}
 use borrow.Fn.PlainCycle.{Measures, is, falls, and}
 use Rattle.decimals.specs.Putting.{Put}
-use Rattle.decimals.specs.DecimalLaws.{decimal-small, small-room, tenth-room, last-room, put-last}
+use Rattle.decimals.specs.DecimalLaws.{numeral-small, small-room, tenth-room, last-room, put-last}
 use Rattle.decimals.proofs.put_decimal.Reads as put-decimal
 use Rattle.decimals.proofs.put_decimal.Kinds as put-decimal-kinds
 use Rattle.decimals.proofs.put_digit.Reads as put-digit
@@ -34,7 +34,7 @@ module _ (t : ℕ) where
   returns : lts.Need-returns (put-digit.Asked, put-digit.Learnt, asked-below t, put-decimal.Post) (given-at t) put-decimal.Post
   returns c =
       let a = c .before .before .before .before .before .before .args in
-      subst (λ l. Put (a .at) l (a .out .now) (c .before .before .put-digit .result) (c .before .before .put-digit .last .0)) (sym (decimal-small (a .x) (c .before .before .before .before .if1 .taken))) (c .before .before .put-digit .ensures)
+      subst (λ l. Put (a .at) l (a .out .now) (c .before .before .put-digit .result) (c .before .before .put-digit .last .0)) (sym (numeral-small (a .x) (c .before .before .before .before .if1 .taken))) (c .before .before .put-digit .ensures)
 
   put-decimal-requires : lts.Need-put-decimal-requires (put-digit.Asked, put-digit.Learnt, asked-below t, put-decimal.Post) (given-at t) put-decimal.Post
   put-decimal-requires c =

@@ -1,10 +1,11 @@
 -- `report::put_literal` meets its contract: the sign is that of the bit. Assumes nothing.
 use mathlib.Core.Bool.{Bool}
 use mathlib.Core.Path.{sym, _∙_, subst}
-use Prim.Native.Nat.{_+_, _≤_}
-use lib.ListN.{length}
+use Prim.Native.Nat.{_+_, _<_}
+use native.Mathlib.Omega.{arith}
 use borrow.Author.Needs.{needs}
 use Rattle.decimals.specs.Decimal.{field}
+use Rattle.decimals.specs.DecimalLaws.{numeral-length}
 use Rattle.decimals.specs.Putting.{Put}
 use Rattle.report.specs.Report.{sign}
 use Rattle.report.proofs.put_literal.Statement.{statement}
@@ -20,10 +21,9 @@ slice-aggregate-put-field : tie.Need-slice-aggregate-put-field
 slice-aggregate-put-field c = search needs
 
 put-field-requires : tie.Need-put-field-requires
-unfolding sign
 put-field-requires c κs =
     let s = c .before .before .before .before .before in
-    subst (λ (b : Bool). s .args .at + length (field (sign b) (s .args .i + 1)) ≤ length (s .args .out .now)) (sym (c .before .before .before .member .ensures) ∙ c .before .before .if1 .taken) (s .pre)
+    omega (arith, numeral-length 1 (s .args .i + 1) (let z : s .args .i + 1 < 100 = omega (arith, s .pre .0) in z), s .pre .1)
 
 same-length : tie.Need-same-length
 same-length c = search needs
@@ -39,10 +39,9 @@ slice-aggregate-put-field-2 : tie.Need-slice-aggregate-put-field-2
 slice-aggregate-put-field-2 c = search needs
 
 put-field-requires-2 : tie.Need-put-field-requires-2
-unfolding sign
 put-field-requires-2 c κs =
     let s = c .before .before .before .before .before in
-    subst (λ (b : Bool). s .args .at + length (field (sign b) (s .args .i + 1)) ≤ length (s .args .out .now)) (sym (c .before .before .before .member .ensures) ∙ c .before .before .if1 .left) (s .pre)
+    omega (arith, numeral-length 1 (s .args .i + 1) (let z : s .args .i + 1 < 100 = omega (arith, s .pre .0) in z), s .pre .1)
 
 same-length-2 : tie.Need-same-length-2
 same-length-2 c = search needs

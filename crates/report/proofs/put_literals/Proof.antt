@@ -5,9 +5,9 @@ use Prim.Native.Nat.{ℕ, _-_, _≤_}
 use native.Mathlib.Omega.{arith}
 use lib.ListN.{length}
 use borrow.Author.Needs.{needs}
-use Rattle.decimals.specs.Putting.{Put, put-none, back-room, put-both}
+use Rattle.decimals.specs.Putting.{Put, put-none, put-both}
 use Rattle.report.specs.Report.{literal, literals}
-use Rattle.report.specs.ReportLaws.{literals-next, literal-room}
+use Rattle.report.specs.ReportLaws.{literals-next, literals-length, literal-room}
 use Rattle.report.proofs.put_literals.Statement.{statement}
 use Rattle.report.proofs.put_literals.Tie as tie
 
@@ -30,8 +30,7 @@ put-literal-requires : tie.Need-put-literal-requires Inv-loop μ-loop
 put-literal-requires c κs =
     let l = c .before .before .loop in
     let s = c .before .before .before .before in
-    let i = s .args .n - l .left in
-    back-room (s .args .at) (literals (s .args .x) i) (literal (s .args .x) i) (s .args .out .now) (literal-room _ (s .args .x) i (s .args .n) (s .args .out .now) (s .pre) (omega arith)) _ _ (l .inv .2) (l .inv .1)
+    (omega (arith, s .pre .0), omega (arith, literals-length (s .args .x) (s .args .n - l .left) (omega (arith, s .pre .0)), l .inv .2 .behind, s .pre .1))
 
 sub-left : tie.Need-sub-left Inv-loop μ-loop
 sub-left c = search needs
@@ -45,7 +44,7 @@ loop-again c =
     let l = put .before .before .before .loop in
     let s = put .before .before .before .before .before in
     let i = s .args .n - l .left in
-    let both = put-both (s .args .at) (literals (s .args .x) i) (literal (s .args .x) i) (s .args .out .now) (literal-room _ (s .args .x) i (s .args .n) (s .args .out .now) (s .pre) (omega arith)) _ _ (l .inv .2) _ _ (put .put-literal .ensures) in
+    let both = put-both (s .args .at) (literals (s .args .x) i) (literal (s .args .x) i) (s .args .out .now) (literal-room _ (s .args .x) i (s .args .n) (s .args .out .now) (s .pre .0) (s .pre .1) (omega arith)) _ _ (l .inv .2) _ _ (put .put-literal .ensures) in
     let next : literals (s .args .x) i ++ literal (s .args .x) i ≡ literals (s .args .x) (s .args .n - (l .left - 1)) =
     sym (literals-next (s .args .x) i) ∙ ap (literals (s .args .x)) (omega arith) in
     (omega arith, put .put-literal .kept .0 ∙ l .inv .1, subst (λ t. Put (s .args .at) t (s .args .out .now) (put .put-literal .result) (put .put-literal .last .0)) next both)

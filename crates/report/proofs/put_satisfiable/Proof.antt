@@ -27,17 +27,10 @@ put-text-requires c κs =
     front-room 0 satisfiableHead names (a .out .now) room2
 
 put-literals-requires : tie.Need-put-literals-requires
-unfolding satisfiableText
 put-literals-requires c κs =
     let one = c .before .before .before in
     let s = one .before .before .before .before in
-    let a = s .args in
-    let names = literals (a .x) (a .n) in
-    let last = line changesHead (a .distance) slotsBetween (a .filled) in
-    let room4 = at-front (satisfiableText (a .n) (a .x) (a .distance) (a .filled)) (a .out .now) (le-trans (satisfiable-length (a .n) (a .x) (a .distance) (a .filled) (s .pre .0) (omega arith) (omega arith)) (s .pre .1)) in
-    let room3 = front-room 0 (satisfiableHead ++ names ++ valuesEnd) last (a .out .now) room4 in
-    let room2 = front-room 0 (satisfiableHead ++ names) valuesEnd (a .out .now) room3 in
-    back-room 0 satisfiableHead names (a .out .now) room2 _ _ (one .put-text .ensures) (one .put-text .kept .0)
+    (s .pre .0, omega (arith, one .put-text .ensures .behind, s .pre .0, s .pre .1))
 
 slice-aggregate-put-text-2 : tie.Need-slice-aggregate-put-text-2
 slice-aggregate-put-text-2 c = search needs
