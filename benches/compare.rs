@@ -4,11 +4,14 @@
 // measurement goes on repeating a step at most).
 #[path = "../tests/library.rs"]
 mod library;
+#[path = "../tests/lending.rs"]
+mod lending;
 #[allow(dead_code)] // the benchmark needs the functions that it times
 #[path = "../tests/reference.rs"]
 mod reference;
 mod clock;
 use clock::spent;
+use lending::lent;
 
 // The fastest of some runs, in microseconds.
 fn fastest(limit: f64, mut step: impl FnMut()) -> f64 {
@@ -27,18 +30,6 @@ fn fastest(limit: f64, mut step: impl FnMut()) -> f64 {
 
 fn row(name: &str, step: &str, library: f64, reference: f64) {
     println!("| {name} | {step} | {library:.1} | {reference:.1} | {:.2} |", library / reference);
-}
-
-fn lent(s: &reference::Sheet) -> library::Sheet {
-    library::Sheet {
-        variables: s.names,
-        clauses: s.rules,
-        target: s.wish,
-        permutations: s.exchanges,
-        images: s.bytes.clone(),
-        positive: s.yes.clone(),
-        negative: s.no.clone(),
-    }
 }
 
 fn reading(name: &str, text: &[u8], limit: f64) {

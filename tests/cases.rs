@@ -2,13 +2,8 @@
 // a case and a count; exit status 1 if one is not as expected.
 mod library;
 mod sheets;
-use library::Count;
+use library::{Count, REFUSED, SATISFIABLE, UNKNOWN, UNSATISFIABLE};
 use sheets::{clause, paper, pigeons, search, sheet, swaps};
-
-const REFUSED: u64 = 0;
-const SATISFIABLE: u64 = 1;
-const UNSATISFIABLE: u64 = 2;
-const UNKNOWN: u64 = 3;
 
 // Document 002, example 2.
 fn example(count: &mut Count) {

@@ -3,19 +3,8 @@
 // exit status 1 if one is not as expected.
 mod library;
 mod sheets;
-use library::{Count, Sheet};
+use library::{Count, Sheet, ACCEPTED, CERTIFIED, OPENED, PARSED, REFUSED, SATISFIABLE, UNCERTIFIED, UNKNOWN, UNSATISFIABLE, WRITTEN};
 use sheets::{clause, paper, pigeons, search, sheet, swaps, text, Found};
-
-const REFUSED: u64 = 0;
-const SATISFIABLE: u64 = 1;
-const UNSATISFIABLE: u64 = 2;
-const UNKNOWN: u64 = 3;
-const READ: u64 = 4;
-const WRITTEN: u64 = 5;
-const OPENED: u64 = 6;
-const ACCEPTED: u64 = 7;
-const CERTIFIED: u64 = 8;
-const UNCERTIFIED: u64 = 9;
 
 // A certificate by hand: the eight 32-bit numbers of the contents, then the bodies.
 struct File {
@@ -211,7 +200,7 @@ fn read(text: &[u8]) -> Sheet {
     let (mut positive, mut negative) = (vec![9; 4096], vec![9; 4096]);
     let (mut numbers, mut images, mut reply) = ([9; 4], vec![9; 1024], [9; 4]);
     assert_eq!(library::read(text, &mut positive, &mut negative, &mut numbers, &mut images, &mut reply), 1);
-    assert_eq!(reply, [READ, 0, 0, 0]);
+    assert_eq!(reply, [PARSED, 0, 0, 0]);
     positive.truncate(numbers[1] as usize);
     negative.truncate(numbers[1] as usize);
     let [variables, clauses, target, permutations] = numbers;

@@ -4,7 +4,9 @@
 use std::collections::BTreeMap;
 
 mod library;
+mod lending;
 mod reference;
+use lending::lent;
 use reference::{Reply, Slot};
 
 // Random numbers (xorshift), the same on every machine.
@@ -56,18 +58,6 @@ impl Random {
 
 fn narrow(xs: &[u64]) -> Vec<u32> {
     xs.iter().map(|&x| x as u32).collect()
-}
-
-fn lent(s: &reference::Sheet) -> library::Sheet {
-    library::Sheet {
-        variables: s.names,
-        clauses: s.rules,
-        target: s.wish,
-        permutations: s.exchanges,
-        images: s.bytes.clone(),
-        positive: s.yes.clone(),
-        negative: s.no.clone(),
-    }
 }
 
 // The words of a reply as the exported functions tell it.

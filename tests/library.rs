@@ -5,6 +5,7 @@ use std::fmt::Debug;
 #[path = "../bindings/rust/src/sys.rs"]
 mod sys;
 pub use sys::{image_at, nearest, number_at, open, point_at, read, solve};
+pub use sys::{ACCEPTED, CERTIFIED, OPENED, PARSED, REFUSED, SATISFIABLE, UNCERTIFIED, UNKNOWN, UNSATISFIABLE, WRITTEN};
 
 // A formula with its clauses.
 pub struct Sheet {
