@@ -4,10 +4,11 @@ use mathlib.Core.List.{List, [], _∷_, _++_}
 use mathlib.Core.Path.{_≡_, refl, sym, ap, _∙_, subst}
 use Prim.Native.Nat.{ℕ, suc, _+_, _*_, _-_, _^_, _≤_, _<_}
 use native.Mathlib.Nat.{not-suc-le-zero}
+use native.Mathlib.Decide.{decLt, ℕ-discrete}
 use native.Mathlib.Numerals.{add-one}
 use native.Mathlib.Omega.{arith}
 use lib.Dec.{eqb}
-use lib.ListN.{length, take, set, length-set, List·getD-append}
+use lib.ListN.{length, take, set, length-set, List·getD-append, List·getD-eq-default}
 use lib.Seq.{length-take-le, take-set-le, take-suc-set, getD-append-seam, getD-set-same, getD-set-other}
 use borrow.Author.Tests.{eq-eqb, ne-eqb, eqb-true, eqb-false}
 use Rattle.math.specs.Bits.{bit}
@@ -16,11 +17,11 @@ use Rattle.math.specs.Lists.{_∈_, has}
 use Rattle.math.specs.QueueLaws.{length-snoc}
 use Rattle.math.specs.ScanLaws.{getD-prefix}
 use Rattle.index.specs.Index.{headOf, childOf, entry, Indexes, Indexed}
-use Rattle.index.specs.Looking.{Looking, Seeking, Askable, Addable, Ends, Adds}
+use Rattle.index.specs.Looking.{AllZero, Looking, Seeking, Askable, Addable, Ends, Adds}
 use Rattle.index.specs.TreeLaws.{looking-begins, looking-ends, looking-meets, looking-less, looking-goes-on, stands-lt, indexes-more}
 
 -- links that are all 0 are an index of no points
-pub index-empty : (heads n : ℕ) (links : List ℕ) → 1 ≤ heads → heads ≤ length links → ((s : ℕ) → entry links s ≡ 0) → Indexed heads n [] links
+pub index-empty : (heads n : ℕ) (links : List ℕ) → 1 ≤ heads → heads ≤ length links → AllZero links → Indexed heads n [] links
 index-empty heads n links pos le zeros =
     record {
       headed = pos;
@@ -36,6 +37,24 @@ index-empty heads n links pos le zeros =
   where
     apart : (v j : ℕ) → v ≡ 0 → v ≡ suc j → ⊥
     apart v j z e = omega arith
+
+-- ---- the links made 0, lowest first
+
+pub zeros-more : (links : List ℕ) (i : ℕ) → i < length links → ((s : ℕ) → s < i → entry links s ≡ 0) → (s : ℕ) → s < i + 1 → entry (set links i 0) s ≡ 0
+zeros-more links i within zeros s lt = by (ℕ-discrete s i)
+  where
+    by : Dec (s ≡ i) → entry (set links i 0) s ≡ 0
+    by (yes e) = ap (entry (set links i 0)) e ∙ getD-set-same links i 0 0 within
+    by (no ne) = getD-set-other links i s 0 0 ne ∙ zeros s (omega arith)
+
+pub zeros-all : (links : List ℕ) (i : ℕ) → length links ≤ i → ((s : ℕ) → s < i → entry links s ≡ 0) → AllZero links
+zeros-all links i past zeros s = by (decLt s i)
+  where
+    by : Dec (s < i) → entry links s ≡ 0
+    by (yes lt) = zeros s lt
+    by (no ge) = List·getD-eq-default links 0 (omega arith)
+
+-- ---- where a look-up ended
 
 -- the depths with that of one more point
 deeper : ℕ → ℕ → (ℕ → ℕ) → ℕ → ℕ

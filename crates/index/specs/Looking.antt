@@ -7,6 +7,10 @@ use lib.ListN.{length, set, take}
 use Rattle.math.specs.Lists.{has}
 use Rattle.index.specs.Index.{headOf, entry, MayStand, Finds, Indexes, Indexed}
 
+-- every link is 0
+abbrev pub AllZero : List ℕ → Type 0
+AllZero links = (s : ℕ) → entry links s ≡ 0
+
 -- links and points that keep every link which is not 0, and the point that it names
 abbrev pub Extends : (ℕ → ℕ) → (ℕ → ℕ) → (ℕ → ℕ) → (ℕ → ℕ) → Type 0
 Extends point link point′ link′ = (s j : ℕ) → link s ≡ suc j → (link′ s ≡ suc j) × (point′ j ≡ point j)

@@ -11,7 +11,7 @@ ghost use Rattle.math.specs.Bits.{bit};
 ghost use Rattle.math.specs.Lists.{has};
 ghost use Rattle.slices.specs.Slices.{pointsOf};
 ghost use Rattle.index.specs.Index.{headOf, childOf};
-ghost use Rattle.index.specs.Looking.{Askable, Addable, Ends, Adds};
+ghost use Rattle.index.specs.Looking.{AllZero, Askable, Addable, Ends, Adds};
 
 // Where a look-up ended: whether at the point itself, and the link.
 pub struct Spot {
@@ -56,6 +56,17 @@ fn put_link(links: &mut [u32], s: usize, value: u32)
     }
 }
 
+// Makes every link 0: an index of no points (`index-empty`). One store a link.
+pub fn clear(links: &mut [u32])
+    ensures { λ _. ⌜ AllZero (now (links .exit)) ⌝ }
+{
+    let mut s = 0;
+    while s < links.len() {
+        links[s] = 0;
+        s += 1;
+    }
+}
+
 // Looks x up among the first k points: at most n + 1 comparisons.
 pub fn find(links: &[u32], heads: usize, points: &[u64], n: u32, k: usize, x: Point) -> Spot
     requires { ⌜ Askable heads n (take k (pointsOf (now points))) (now links) x ⌝ }
@@ -89,8 +100,8 @@ pub fn contains(links: &[u32], heads: usize, points: &[u64], n: u32, k: usize, x
     requires { ⌜ Askable heads n (take k (pointsOf (now points))) (now links) x ⌝ }
     ensures { λ r. ⌜ r ≡ has x (take k (pointsOf (now (points .entry)))) ⌝ }
 {
-    let spot = find(links, heads, points, n, k, x);
-    spot.held
+    let found = find(links, heads, points, n, k, x);
+    found.held
 }
 
 // Adds x behind the first k points, where the caller stores it, and answers whether it was among them; then nothing is stored. At most n + 1
