@@ -1,15 +1,13 @@
 // P1: the program `nearest`: a sheet from standard input; to standard output what document 01 fixes, and nothing else. Where standard input
 // cannot be read it prints nothing there and says so on standard error: a failed read is not the end of a sheet, and no number of 01 means it.
-// The language gives a program no exit status, so that is 0 in every case.
+// The language gives a program no exit status, so that is 0 wherever the program ends by itself. At a write into a pipe that nobody reads any
+// more the system ends it by a signal, which the language cannot change.
+use libc::STDERR_FILENO;
+use libc::STDIN_FILENO;
+use libc::STDOUT_FILENO;
 use response::answer;
 ghost use Prim.Native.Nat.{_≤_};
 ghost use lib.ListN.{length};
-
-const STDIN: i32 = 0;
-
-const STDOUT: i32 = 1;
-
-const STDERR: i32 = 2;
 
 // How many bytes were read, and whether a read failed.
 struct Got {
@@ -21,7 +19,7 @@ struct Got {
 fn read_some(buffer: &mut [u8]) -> Got
     ensures { λ r. ⌜ r .count ≤ length (now (buffer .exit)) ⌝ }
 {
-    let got = libc::read(STDIN, buffer);
+    let got = libc::read(STDIN_FILENO, buffer);
     let failed = got < 0;
     let count = io::count(got, buffer);
     Got { count, failed }
@@ -58,14 +56,14 @@ fn respond(input: &mut [u8], out: &mut [u8])
 {
     let got = read_input(input);
     if got.failed {
-        io::write_all(STDERR, b"nearest: cannot read standard input\n");
+        io::write_all(STDERR_FILENO, b"nearest: cannot read standard input\n");
         return;
     }
     let count = got.count;
     let size = answer(&input[0..count], out);
-    let written = io::write_all(STDOUT, &out[0..size]);
+    let written = io::write_all(STDOUT_FILENO, &out[0..size]);
     if !written {
-        io::write_all(STDERR, b"nearest: cannot write standard output\n");
+        io::write_all(STDERR_FILENO, b"nearest: cannot write standard output\n");
     }
 }
 
