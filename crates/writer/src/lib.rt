@@ -12,7 +12,6 @@ use transport::numbers_refusal;
 use transport::points_refusal;
 ghost use mathlib.Core.Path.{_≡_};
 ghost use Prim.Native.Nat.{_≤_};
-ghost use lib.ListN.{length};
 ghost use Rattle.math.specs.Lists.{over};
 ghost use Rattle.points.specs.Points.{numbered};
 ghost use Rattle.slices.specs.Slices.{pointsOf, clausesOf};
