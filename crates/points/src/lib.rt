@@ -1,4 +1,4 @@
-// Points and clauses: the leaf functions. Outside this crate no operator touches a point.
+// Points and clauses: the leaf functions. Outside this crate no operator touches a point, but for the hash in `index::head_of`.
 ghost use mathlib.Core.Path.{_≡_};
 ghost use Prim.Native.Nat.{_<_, _*_, _/_, _%_, _^_};
 ghost use lib.Bits.{bitOr};
