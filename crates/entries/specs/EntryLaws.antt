@@ -1,12 +1,17 @@
--- Laws of the rows 16, 17 and 18 of the first entries of two slices, and of entries copied to an array. Assumes nothing.
+-- Laws of the rows 16, 17 and 18 of the first entries of two slices, of entries copied to an array, and of arrays of zeros. Assumes nothing.
 use mathlib.Core.List.{List}
 use mathlib.Core.Path.{_≡_, sym, ap, _∙_}
-use Prim.Native.Nat.{ℕ, _≤_}
-use lib.ListN.{length, take}
+use Prim.Native.Nat.{ℕ, _+_, _*_, _≤_, _<_}
+use native.Mathlib.Decide.{decLt}
+use native.Mathlib.Nat.{le-of-eq, le-trans}
+use native.Mathlib.Omega.{arith}
+use lib.ListN.{length, take, replicate, length-replicate, getD-replicate, List·getD-eq-default}
 use lib.Seq.{length-take-le}
 use Rattle.math.specs.Lists.{over}
 use Rattle.math.specs.PartLaws.{over-front}
 use Rattle.points.specs.Points.{Numbered}
+use Rattle.index.specs.Index.{entry}
+use Rattle.index.specs.Looking.{AllZero}
 use Rattle.permutations.specs.Permutations.{Permutation}
 use Rattle.formula.specs.Limits.{maxSlots}
 use Rattle.formula.specs.Reply.{Fault, sound}
@@ -17,7 +22,9 @@ use Rattle.certificate.specs.RowLaws.{points-fault-take, numbers-fault-take}
 use Rattle.certificate.specs.Rows.{pointsFault, numbersFault}
 use Rattle.flips.specs.FlipLaws.{flips-fault-take}
 use Rattle.flips.specs.Flips.{flipsFault}
-use Rattle.entries.specs.Entries.{listsFault}
+use Rattle.flips.specs.Loops.{Testable}
+use Rattle.indexing.specs.Indexing.{Indexable, Refuses}
+use Rattle.entries.specs.Entries.{listsFault, Ready, Lent}
 
 -- ---- the rows 16, 17 and 18, of the first entries of two slices
 
@@ -55,3 +62,38 @@ module _ (n : ℕ) (cs : List Numbered) (es : List Permutation) (points numbers 
 -- they are its first
 pub copied : (w count : ℕ) (body old new : List ℕ) → new ≡ over (numbersIn w count body) old → take count new ≡ numbersIn w count body
 copied w count body old new e = ap (take count) e ∙ over-front count (numbersIn w count body) old (length-entries numberFrom w count body)
+
+-- ---- what each function hands on
+
+module _ {n permutations : ℕ} {images positive negative : List ℕ} {count : ℕ} {points : List ℕ} {heads : ℕ} {links : List ℕ}
+    (r : Ready n permutations images positive negative count points heads links) where
+  pub ready-indexable : Indexable heads n count points links
+  ready-indexable =
+      let most = r .most in
+      record { few = r .given .few; headed = r .headed; enough = r .enough; small = omega arith; room = r .room; zeros = r .zeros }
+
+  -- row 16 has left an index of the points
+  pub ready-testable : {f : Fault} {links′ : List ℕ} → Refuses heads n count maxSlots points f links′ → f ≡ sound → Testable n permutations images positive negative count points heads links′
+  ready-testable w e =
+      record { few = r .given .few; listed = r .given .listed; proper = r .given .proper; below = r .given .below; enough = r .enough; indexed = w .full e }
+
+-- ---- arrays of zeros
+
+zeros-replicate : (k : ℕ) → AllZero (replicate k 0)
+zeros-replicate k s = by (decLt s k)
+  where
+    by : Dec (s < k) → entry (replicate k 0) s ≡ 0
+    by (yes lt) = getD-replicate k s 0 0 lt
+    by (no ge) = List·getD-eq-default (replicate k 0) 0 (le-trans (le-of-eq (length-replicate {A = ℕ} k 0)) (omega arith))
+
+pub zeros-lent : (limit k : ℕ) → 1 ≤ limit → limit ≤ maxSlots → limit + 2 * limit ≡ k → Lent limit (replicate limit 0) (replicate limit 0) (replicate k 0)
+zeros-lent limit k headed most size =
+    let long : limit ≤ length (replicate {A = ℕ} limit 0) = le-of-eq (sym (length-replicate {A = ℕ} limit 0)) in
+    record {
+      headed = headed;
+      most = most;
+      held-long = long;
+      named-long = long;
+      room = le-of-eq (size ∙ sym (length-replicate {A = ℕ} k 0));
+      zeros = zeros-replicate k;
+    }

@@ -8,7 +8,7 @@ use native.Mathlib.Nat.{le-of-eq}
 use lib.Bits.{or-lt}
 use lib.ListN.{length, getD, take}
 use lib.Pow.{pow-pos}
-use lib.Seq.{getD-take}
+use lib.Seq.{getD-take, length-take-le}
 use Rattle.math.specs.BitLaws.{flip-lt}
 use Rattle.math.specs.Bits.{flip, members}
 use Rattle.math.specs.Lists.{all, firstFailing, below}
@@ -20,12 +20,13 @@ use Rattle.points.specs.Points.{Clause, Numbered, listed, variables, numbered}
 use Rattle.slices.specs.Slices.{noLiterals}
 use Rattle.theory.specs.Notions.{ClausesBelow}
 use Rattle.permutations.specs.Permutations.{Permutation, covered}
+use Rattle.coverage.specs.Coverage.{Coverable}
 use Rattle.formula.specs.Reply.{faultAt}
 use Rattle.certificate.specs.RowLaws.{clause-found}
 use Rattle.certificate.specs.Rows.{clauseNumbered}
 use Rattle.transport.specs.TransportLaws.{numbered-at, numbered-below}
 use Rattle.flips.specs.Flips.{flipsOf, flipsPass, flipsFault}
-use Rattle.flips.specs.Loops.{listedBy, allFlips, Flipping}
+use Rattle.flips.specs.Loops.{listedBy, allFlips, Testable, Flipping}
 
 -- ---- the variables of the clause of a number
 
@@ -93,6 +94,40 @@ module _ (t : ℕ → Bool) (n x s : ℕ) (few : n ≤ 64) where
     pub flipping-ends : n ≤ v → true ≡ allFlips t n x s
     unfolding all
     flipping-ends ge = sym (f .decides ∙ ap (λ (vs : List ℕ). all t (map (flip x) vs)) (next-none n left v few (f .next) (f .within) ge))
+
+-- ---- what can be looked up
+
+-- a point that is indexed can be, and so can its images
+pub tested-coverable : {n permutations : ℕ} {images positive negative : List ℕ} {count : ℕ} {points : List ℕ} {heads : ℕ} {links : List ℕ}
+    → Testable n permutations images positive negative count points heads links → (i x : ℕ) → i < count → x ≡ getD points i 0
+    → Coverable heads n count points links permutations images x
+tested-coverable {n} {count = count} {points = points} t i x lt at =
+    record {
+      askable =
+          record {
+            few = t .few;
+            indexed = t .indexed;
+            narrow =
+                subst (λ (y : ℕ). y < 2 ^ n) (getD-take count points i 0 lt ∙ sym at)
+                (t .indexed .indexes .narrow i (subst (λ (m : ℕ). i < m) (sym (length-take-le count points (t .enough))) lt));
+          };
+      listed = t .listed;
+      proper = t .proper;
+    }
+
+-- a flip by a variable below n can be where the point can
+pub flip-coverable : {heads n count : ℕ} {points links : List ℕ} {permutations : ℕ} {images : List ℕ} {x : ℕ} → Coverable heads n count points links permutations images x
+    → (v y : ℕ) → v < n → y ≡ flip x v → Coverable heads n count points links permutations images y
+flip-coverable {n = n} {x = x} c v y lt e =
+    record {
+      askable = record {
+        few = c .askable .few;
+        indexed = c .askable .indexed;
+        narrow = subst (λ (z : ℕ). z < 2 ^ n) (sym e) (flip-lt n x v (c .askable .narrow) lt);
+      };
+      listed = c .listed;
+      proper = c .proper;
+    }
 
 -- ---- the test of one point, and the row
 

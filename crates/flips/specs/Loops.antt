@@ -4,14 +4,16 @@ use mathlib.Core.List.{List, map}
 use mathlib.Core.Option.{Option, some, none}
 use mathlib.Core.Path.{_≡_}
 use Prim.Native.Nat.{ℕ, _≤_, _<_, _^_}
-use lib.ListN.{length}
+use lib.ListN.{length, take}
 use Rattle.math.specs.Bits.{flip, members}
-use Rattle.math.specs.Lists.{all}
+use Rattle.math.specs.Lists.{_∈_, all}
 use Rattle.points.specs.Contracts.{NextVariable}
 use Rattle.points.specs.Points.{Clause, listed, numbered}
 use Rattle.slices.specs.Slices.{pointsOf, clausesOf}
 use Rattle.theory.specs.Notions.{ClausesBelow}
+use Rattle.permutations.specs.Permutations.{Permutation, IsPermutation, permutationsIn}
 use Rattle.images.specs.Contracts.{Listed}
+use Rattle.index.specs.Index.{Indexed}
 use Rattle.formula.specs.Limits.{maxVariables}
 
 -- the variables that a clause lists, as a set; none without a clause
@@ -23,13 +25,15 @@ listedBy (some c) = listed c
 abbrev pub allFlips : (ℕ → Bool) → ℕ → ℕ → ℕ → Bool
 allFlips t n x s = all t (map (flip x) (members n s))
 
--- what lets flips be looked up: the images hold `count` permutations of n variables, no clause lists a variable at n or above, and there are
--- as many points as are to be tested
-pub record Testable (n count : ℕ) (images positive negative : List ℕ) (tested : ℕ) (points : List ℕ) : Type 0 where
+-- what lets flips be looked up: the images hold `count` permutations of n variables, no clause lists a variable at n or above, there are
+-- as many points as are to be tested, and the links are an index of them
+pub record Testable (n count : ℕ) (images positive negative : List ℕ) (tested : ℕ) (points : List ℕ) (heads : ℕ) (links : List ℕ) : Type 0 where
   pub few : n ≤ maxVariables
   pub listed : Listed n count images
+  pub proper : (e : Permutation) → e ∈ permutationsIn n count images → IsPermutation n e
   pub below : ClausesBelow n (numbered (clausesOf positive negative))
   pub enough : tested ≤ length (pointsOf points)
+  pub indexed : Indexed heads n (take tested (pointsOf points)) links
 
 -- the loop over the variables of the set s: those of `left` are still to be tested, v the lowest of them, and they decide
 pub record Flipping (t : ℕ → Bool) (n x s left v : ℕ) : Type 0 where

@@ -1,19 +1,19 @@
 // Refusal 18: whether each flip of a point by a variable of its clause is covered by the points, modulo the listed permutations.
+use coverage::covered;
 use formula::Checked;
 use points::Point;
 use slices::clause_at;
 use slices::clause_count;
 use slices::point_at;
-use symmetry::cover::covered;
 use transport::number_at;
 ghost use mathlib.Core.Path.{_≡_};
-ghost use Prim.Native.Nat.{_≤_, _<_, _^_};
+ghost use Prim.Native.Nat.{_<_, _^_};
 ghost use lib.ListN.{take};
 ghost use Rattle.math.specs.Lists.{firstFailing, below};
 ghost use Rattle.points.specs.Points.{numbered};
 ghost use Rattle.slices.specs.Slices.{pointsOf, clausesOf};
-ghost use Rattle.images.specs.Contracts.{Listed};
 ghost use Rattle.permutations.specs.Permutations.{covered, permutationsIn};
+ghost use Rattle.coverage.specs.Coverage.{Coverable};
 ghost use Rattle.formula.specs.Refusals.{faultOf};
 ghost use Rattle.certificate.specs.Rows.{clauseNumbered};
 ghost use Rattle.flips.specs.Flips.{flipsPass, flipsFault};
@@ -35,9 +35,11 @@ fn variables_of(positive: &[u64], negative: &[u64], k: u32) -> Point
     points::listed(c)
 }
 
-// Whether each flip of x by a variable of the set is covered by the first `count` points, variables lowest first. At most n look-ups, each
-// of at most (permutations + 1) · count comparisons, and n steps for each image. `flips_pass` sees to what it requires.
+// Whether each flip of x by a variable of the set is covered by the first `count` points, variables lowest first. At most n times
+// permutations + 1 look-ups, each of at most n + 1 comparisons, and n steps for each image. `flips_pass` sees to what it requires.
 fn flips_covered(
+    links: &[u32],
+    heads: usize,
     points: &[u64],
     count: usize,
     images: &[u8],
@@ -46,16 +48,14 @@ fn flips_covered(
     x: Point,
     listed: Point,
 ) -> bool
-    requires { ⌜ (n ≤ 64) × Listed n permutations (now images) × (listed < 2 ^ n) ⌝ }
+    requires { ⌜ Coverable heads n count (pointsOf (now points)) (now links) permutations (now images) x × (listed < 2 ^ n) ⌝ }
     ensures { λ r. ⌜ r ≡ allFlips (covered (permutationsIn n permutations (now (images .entry))) (take count (pointsOf (now (points .entry))))) n x listed ⌝ }
 {
-    let size = n as usize;
-    let group = permutations as usize;
     let mut left = listed;
     let mut v = points::next_variable(left);
     while v < n {
         let y = points::flip(x, v);
-        let known = covered(points, count, images, size, group, y);
+        let known = covered(links, heads, points, n, count, images, permutations, y);
         if !known {
             return false;
         }
@@ -72,19 +72,31 @@ fn flips_pass(
     points: &[u64],
     numbers: &[u32],
     count: usize,
+    links: &[u32],
+    heads: usize,
     images: &[u8],
     n: u32,
     permutations: u32,
     i: usize,
 ) -> bool
-    requires { ⌜ Testable n permutations (now images) (now positive) (now negative) count (now points) × (i < count) ⌝ }
+    requires { ⌜ Testable n permutations (now images) (now positive) (now negative) count (now points) heads (now links) × (i < count) ⌝ }
     ensures { λ r. ⌜ r ≡ flipsPass n (numbered (clausesOf (now (positive .entry)) (now (negative .entry)))) (permutationsIn n permutations (now (images .entry)))
         (take count (pointsOf (now (points .entry)))) (now (numbers .entry)) i ⌝ }
 {
     let k = number_at(numbers, i);
     let x = point_at(points, i);
     let listed = variables_of(positive, negative, k);
-    flips_covered(points, count, images, n, permutations, x, listed)
+    flips_covered(
+        links,
+        heads,
+        points,
+        count,
+        images,
+        n,
+        permutations,
+        x,
+        listed,
+    )
 }
 
 // The number, from 1, of the first of `count` points with a flip that is not covered; 0 if there is none.
@@ -94,11 +106,13 @@ fn first_uncovered(
     points: &[u64],
     numbers: &[u32],
     count: usize,
+    links: &[u32],
+    heads: usize,
     images: &[u8],
     n: u32,
     permutations: u32,
 ) -> usize
-    requires { ⌜ Testable n permutations (now images) (now positive) (now negative) count (now points) ⌝ }
+    requires { ⌜ Testable n permutations (now images) (now positive) (now negative) count (now points) heads (now links) ⌝ }
     ensures { λ r. ⌜ r ≡ firstFailing (flipsPass n (numbered (clausesOf (now (positive .entry)) (now (negative .entry)))) (permutationsIn n permutations (now (images .entry)))
         (take count (pointsOf (now (points .entry)))) (now (numbers .entry))) (below count) ⌝ }
 {
@@ -110,6 +124,8 @@ fn first_uncovered(
             points,
             numbers,
             count,
+            links,
+            heads,
             images,
             n,
             permutations,
@@ -123,18 +139,20 @@ fn first_uncovered(
     0
 }
 
-// R18: refusal 18, of the first `count` points and numbers: at most count · n look-ups. Refusals 10, 11 and 16 see to what it requires.
+// R18: refusal 18, of the first `count` points and numbers: the flips of count points by at most n variables each. Refusals 10, 11 and 16 see to what it requires.
 pub fn flips_refusal(
     positive: &[u64],
     negative: &[u64],
     points: &[u64],
     numbers: &[u32],
     count: usize,
+    links: &[u32],
+    heads: usize,
     images: &[u8],
     n: u32,
     permutations: u32,
 ) -> Checked
-    requires { ⌜ Testable n permutations (now images) (now positive) (now negative) count (now points) ⌝ }
+    requires { ⌜ Testable n permutations (now images) (now positive) (now negative) count (now points) heads (now links) ⌝ }
     ensures { λ r. ⌜ faultOf r ≡ flipsFault n (numbered (clausesOf (now (positive .entry)) (now (negative .entry)))) (permutationsIn n permutations (now (images .entry)))
         (take count (pointsOf (now (points .entry)))) (now (numbers .entry)) ⌝ }
 {
@@ -144,6 +162,8 @@ pub fn flips_refusal(
         points,
         numbers,
         count,
+        links,
+        heads,
         images,
         n,
         permutations,

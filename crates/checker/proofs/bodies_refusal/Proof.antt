@@ -7,11 +7,10 @@ use borrow.Author.Needs.{needs}
 use Rattle.points.specs.Points.{numbered}
 use Rattle.slices.specs.Slices.{clausesOf}
 use Rattle.permutations.specs.Permutations.{permutationsIn}
-use Rattle.formula.specs.RefusalLaws.{fits-below}
 use Rattle.formula.specs.Refusals.{permutationFault, symmetryFault, faultOf}
 use Rattle.formula.specs.Reply.{sound}
 use Rattle.formula.specs.ReplyLaws.{IsFault}
-use Rattle.checker.specs.PartLaws.{Laid, laid, images-listed, stops-11, stops-12, too-many-points, ends-decoded}
+use Rattle.checker.specs.PartLaws.{Laid, laid, images-listed, images-proper, stops-11, stops-12, too-many-points, ends-decoded}
 use Rattle.checker.proofs.bodies_refusal.Statement.{statement}
 use Rattle.checker.proofs.bodies_refusal.Tie as tie
 
@@ -107,14 +106,13 @@ part-numbers-end c = search needs
 decoded-refusal-requires : tie.Need-decoded-refusal-requires
 decoded-refusal-requires c κs =
     let s = c .before .before .before .before .before .before .before .before .before .before .before .before .before .before .before .before .before .before in
-    let l = lies s in (
-      s .pre .fitting .few-variables,
-      images-listed (s .args .c) (s .args .positive .now) (s .args .negative .now) (s .args .file .now) (s .pre) (eleven (c .before .before .before .before .before .before .before .before)),
-      fits-below (s .args .c .variables) (s .args .c .clauses) (s .args .positive .now) (s .args .negative .now) (s .pre .fitting),
-      c .before .before .before .if1 .left,
-      l .points-long,
-      l .numbers-long,
-    )
+    let l = lies s in
+    record {
+      given = images-proper (s .args .c) (s .args .positive .now) (s .args .negative .now) (s .args .file .now) (s .pre) (eleven (c .before .before .before .before .before .before .before .before));
+      most = c .before .before .before .if1 .left;
+      points-long = l .points-long;
+      numbers-long = l .numbers-long;
+    }
 
 returns-4 : tie.Need-returns-4
 returns-4 c =

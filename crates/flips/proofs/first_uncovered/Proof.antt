@@ -14,18 +14,18 @@ use Rattle.flips.proofs.first_uncovered.Statement.{statement}
 use Rattle.flips.proofs.first_uncovered.Tie as tie
 
 abbrev Inv-loop : tie.InvT-loop
-Inv-loop positive negative points numbers count images n permutations i₀ i =
+Inv-loop positive negative points numbers count links heads images n permutations i₀ i =
     firstFailing (flipsPass n (numbered (clausesOf positive negative)) (permutationsIn n permutations images) (take count points) numbers) (below count)
     ≡ onFrom i (firstFailing (flipsPass n (numbered (clausesOf positive negative)) (permutationsIn n permutations images) (take count points) numbers) (drop i (below count)))
 
 abbrev μ-loop : tie.MeasureT-loop
-μ-loop positive negative points numbers count images n permutations i₀ i = count - i
+μ-loop positive negative points numbers count links heads images n permutations i₀ i = count - i
 
 loop-holds : tie.Need-loop-holds Inv-loop μ-loop
 loop-holds c = failing-begins _ _ 0
 
 flips-pass-requires : tie.Need-flips-pass-requires Inv-loop μ-loop
-flips-pass-requires c κs = (c .before .before .before .before .before .before .before .pre, c .loop-test .taken)
+flips-pass-requires c κs = (c .before .before .before .before .before .before .before .before .pre, c .loop-test .taken)
 
 add-result : tie.Need-add-result Inv-loop μ-loop
 add-result c = search needs

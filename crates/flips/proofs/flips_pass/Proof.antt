@@ -5,7 +5,7 @@ use borrow.Author.Needs.{needs}
 use Rattle.points.specs.Points.{numbered}
 use Rattle.slices.specs.Slices.{clausesOf}
 use Rattle.certificate.specs.Rows.{clauseNumbered}
-use Rattle.flips.specs.FlipLaws.{listed-within, flips-passed}
+use Rattle.flips.specs.FlipLaws.{tested-coverable, listed-within, flips-passed}
 use Rattle.flips.specs.Loops.{listedBy}
 use Rattle.flips.proofs.flips_pass.Statement.{statement}
 use Rattle.flips.proofs.flips_pass.Tie as tie
@@ -21,13 +21,13 @@ variables-of-requires c κs = search needs
 
 flips-covered-requires : tie.Need-flips-covered-requires
 flips-covered-requires c κs =
-    let start = c .before .before .before .before .before .before .before .before in
+    let start = c .before .before .before .before .before .before .before .before .before in
     let t = start .pre .0 in
-    (t .few, t .listed, subst (λ (s : ℕ). s < 2 ^ start .args .n) (sym (c .variables-of .ensures)) (listed-within _ _ (t .below) _))
+    (tested-coverable t (start .args .i) _ (start .pre .1) (c .before .point-at .ensures), subst (λ (s : ℕ). s < 2 ^ start .args .n) (sym (c .variables-of .ensures)) (listed-within _ _ (t .below) _))
 
 returns : tie.Need-returns
 returns c =
-    let start = c .before .before .before .before .before .before .before .before .before in
+    let start = c .before .before .before .before .before .before .before .before .before .before in
     let a = start .args in
     c .flips-covered .ensures
     ∙ flips-passed _ _ _ (a .points .now) (a .numbers .now) (a .count) (a .i) _ _ (start .pre .1) (c .before .before .point-at .ensures)

@@ -19,10 +19,10 @@ first-uncovered-requires c κs = search needs
 -- the row is the fault of the number found
 row : (c : tie.After-first-uncovered)
     → faultAt 18 (c .first-uncovered .result)
-    ≡ flipsFault (c .before .before .before .before .before .before .args .n) (numbered (clausesOf (c .before .before .before .before .before .before .args .positive .now) (c .before .before .before .before .before .before .args .negative .now)))
-    (permutationsIn (c .before .before .before .before .before .before .args .n) (c .before .before .before .before .before .before .args .permutations) (c .before .before .before .before .before .before .args .images .now)) (take (c .before .before .before .before .before .before .args .count) (c .before .before .before .before .before .before .args .points .now)) (c .before .before .before .before .before .before .args .numbers .now)
+    ≡ flipsFault (c .before .before .before .before .before .before .before .args .n) (numbered (clausesOf (c .before .before .before .before .before .before .before .args .positive .now) (c .before .before .before .before .before .before .before .args .negative .now)))
+    (permutationsIn (c .before .before .before .before .before .before .before .args .n) (c .before .before .before .before .before .before .before .args .permutations) (c .before .before .before .before .before .before .before .args .images .now)) (take (c .before .before .before .before .before .before .before .args .count) (c .before .before .before .before .before .before .before .args .points .now)) (c .before .before .before .before .before .before .before .args .numbers .now)
 row c =
-    let start = c .before .before .before .before .before .before in
+    let start = c .before .before .before .before .before .before .before in
     let a = start .args in
     ap (faultAt 18) (c .first-uncovered .ensures) ∙ flips-row _ _ _ _ _ (a .count) (length-take-le (a .count) (a .points .now) (start .pre .enough))
 

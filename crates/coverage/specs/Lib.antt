@@ -1,0 +1,3 @@
+-- What look-ups of points and their images go by.
+pub mod Coverage
+pub mod CoverageLaws

@@ -1,0 +1,111 @@
+-- Laws of tests of points that index them: the test of one point, the loop over all, and row 16. Assumes nothing.
+use mathlib.Core.Bool.{Bool, true, false, not, true≢false}
+use mathlib.Core.List.{List, [], _∷_, _++_}
+use mathlib.Core.Path.{_≡_, sym, ap, _∙_, subst}
+use Prim.Native.Nat.{ℕ, _+_, _^_, _≤_, _<_}
+use native.Mathlib.Nat.{le-antisymm}
+use native.Mathlib.Numerals.{add-one}
+use native.Mathlib.Omega.{arith}
+use lib.Dec.{ltb}
+use lib.ListN.{length, getD, take}
+use lib.Seq.{take-suc}
+use borrow.Author.Tests.{ltb-true, not-true}
+use Rattle.math.specs.Lists.{below}
+use Rattle.math.specs.ScanLaws.{failing-begins, below-ends, below-stops, below-goes-on}
+use Rattle.formula.specs.Reply.{Fault, fault, faultAt}
+use Rattle.formula.specs.ReplyLaws.{fault-not-sound, faultAt-sound}
+use Rattle.certificate.specs.Rows.{pointPasses, pointsFault}
+use Rattle.transport.specs.TransportLaws.{no-point, over-limit, counted, passes-new, fails-bit}
+use Rattle.index.specs.Index.{Indexed}
+use Rattle.index.specs.IndexLaws.{index-empty}
+use Rattle.index.specs.Looking.{Addable, Adds}
+use Rattle.indexing.specs.Indexing.{Growable, Grows, Indexable, Sifting, Sifts, Refuses}
+
+-- ---- the test of one point
+
+module _ {heads n i : ℕ} {points links : List ℕ} (g : Growable heads n i points links) (x : ℕ) (at : x ≡ getD points i 0) (small : Bool) (test : small ≡ ltb x (2 ^ n)) where
+  pub grow-addable : small ≡ true → Addable heads n i points links x
+  grow-addable inside =
+      let lt = g .enough in
+      record {
+        askable = record { few = g .few; indexed = g .indexed; narrow = ltb-true x (2 ^ n) (sym test ∙ inside) };
+        enough = omega arith;
+        small = g .small;
+        room = g .room;
+      }
+
+  pub grow-tested : small ≡ true → (repeated : Bool) (links′ : List ℕ) → Adds heads n (take i points) links x repeated links′ → Grows heads n i points (not repeated) links′
+  grow-tested inside repeated links′ a =
+      record {
+        tells = passes-new n points i x at small test inside repeated (a .tells);
+        grown = λ h. subst (λ (l : List ℕ). Indexed heads n l links′) (sym more) (a .grown (not-true repeated h));
+      }
+    where
+      more : take (i + 1) points ≡ take i points ++ x ∷ []
+      more = ap (λ (j : ℕ). take j points) (add-one i) ∙ take-suc points i 0 (g .enough) ∙ ap (λ (y : ℕ). take i points ++ y ∷ []) (sym at)
+
+  pub grow-fails : small ≡ false → Grows heads n i points false links
+  grow-fails out = record { tells = fails-bit n points i x at small test out; grown = λ h. absurd (true≢false (sym h)) }
+
+-- ---- the loop over the points
+
+module _ {heads n count : ℕ} {points links₀ : List ℕ} (p : Indexable heads n count points links₀) where
+  pub sifting-begins : Sifting heads n count points links₀ 0
+  sifting-begins =
+      let room = p .room in
+      record {
+        indexed = index-empty heads n links₀ (p .headed) (omega arith) (p .zeros);
+        room = room;
+        most = omega arith;
+        decides = failing-begins (pointPasses n points) (below count) 0;
+      }
+
+  module _ {links : List ℕ} {i : ℕ} (s : Sifting heads n count points links i) where
+    pub sifting-growable : i < count → Growable heads n i points links
+    sifting-growable lt =
+        let enough = p .enough in
+        let small = p .small in
+        let room = s .room in
+        record { few = p .few; indexed = s .indexed; enough = omega arith; small = omega arith; room = omega arith }
+
+    module _ (lt : i < count) (passes : Bool) (links′ : List ℕ) (g : Grows heads n i points passes links′) where
+      pub sifting-stops : passes ≡ false → Sifts heads n count points (i + 1) links′
+      sifting-stops e =
+          record {
+            tells = sym (s .decides ∙ below-stops (pointPasses n points) count i lt (sym (g .tells) ∙ e));
+            full = λ z. let w : ⊥ = omega arith in absurd w;
+          }
+
+      pub sifting-goes-on : passes ≡ true → length links′ ≡ length links → Sifting heads n count points links′ (i + 1)
+      sifting-goes-on e same =
+          let room = s .room in
+          record {
+            indexed = g .grown e;
+            room = omega arith;
+            most = omega arith;
+            decides = s .decides ∙ below-goes-on (pointPasses n points) count i lt (sym (g .tells) ∙ e);
+          }
+
+    pub sifting-ends : count ≤ i → Sifts heads n count points 0 links
+    sifting-ends ge =
+        record {
+          tells = sym (s .decides ∙ below-ends (pointPasses n points) count i ge);
+          full = λ _. subst (λ (k : ℕ). Indexed heads n (take k points) links) (le-antisymm (s .most) ge) (s .indexed);
+        }
+
+-- ---- row 16
+
+module _ {heads n count limit : ℕ} {points : List ℕ} (links : List ℕ) where
+  pub refuses-none : count < 1 → Refuses heads n count limit points (fault 16 0) links
+  refuses-none h = record { tells = no-point limit n count points h; full = λ e. absurd (fault-not-sound 16 0 e) }
+
+  pub refuses-many : limit < count → Refuses heads n count limit points (fault 16 0) links
+  refuses-many h = record { tells = over-limit limit n count points h; full = λ e. absurd (fault-not-sound 16 0 e) }
+
+  module _ (some : 1 ≤ count) (few : count ≤ limit) {k : ℕ} (s : Sifts heads n count points k links) where
+    -- past the tests of the count the fault is that of the first point which fails
+    each : faultAt 16 k ≡ pointsFault limit n count points
+    each = sym (counted limit n count points some few ∙ ap (faultAt 16) (sym (s .tells)))
+
+    pub refuses-first : (r : Fault) → r ≡ faultAt 16 k → Refuses heads n count limit points r links
+    refuses-first r e = record { tells = e ∙ each; full = λ h. s .full (faultAt-sound 16 k (sym e ∙ h)) }
