@@ -1,0 +1,36 @@
+// The slots as one lent slice of structs (01: 'Walk'): thin functions over the search and the writer, which take three slices.
+use points::Point;
+ghost use mathlib.Core.Path.{_≡_};
+ghost use Prim.Native.Nat.{_<_};
+ghost use lib.ListN.{length, set};
+ghost use Rattle.slots.specs.Slots.{slotOr};
+
+// A visited point, the number of the clause that it falsifies (0 while unprocessed), and its depth.
+pub struct Slot {
+    pub point: Point,
+    pub falsified: u32,
+    pub depth: u32,
+}
+
+// How many slots are lent.
+pub fn slot_count(slots: &[Slot]) -> usize
+    ensures { λ r. ⌜ r ≡ length (now (slots .entry)) ⌝ }
+{
+    slots.len()
+}
+
+// The slot at an index.
+pub fn slot_at(slots: &[Slot], i: usize) -> Slot
+    requires { ⌜ i < length (now slots) ⌝ }
+    ensures { λ r. ⌜ r ≡ slotOr (now (slots .entry)) i ⌝ }
+{
+    slots[i]
+}
+
+// Stores a slot at an index; all others are as before.
+pub fn put_slot(slots: &mut [Slot], i: usize, s: Slot)
+    requires { ⌜ i < length (now slots) ⌝ }
+    ensures { λ _. ⌜ now (slots .exit) ≡ set (now (slots .entry)) i s ⌝ }
+{
+    slots[i] = s;
+}
