@@ -3,7 +3,7 @@ use points::Point;
 ghost use mathlib.Core.Path.{_≡_};
 ghost use Prim.Native.Nat.{_<_};
 ghost use lib.ListN.{length, set};
-ghost use Rattle.slots.specs.Slots.{slotOr};
+ghost use Rattle.slots.specs.Slots.{slotOr, pointsIn, falsifiedIn, depthsIn, Within, front};
 
 // A visited point, the number of the clause that it falsifies (0 while unprocessed), and its depth.
 pub struct Slot {
@@ -33,4 +33,26 @@ pub fn put_slot(slots: &mut [Slot], i: usize, s: Slot)
     ensures { λ _. ⌜ now (slots .exit) ≡ set (now (slots .entry)) i s ⌝ }
 {
     slots[i] = s;
+}
+
+// Copies the first k slots to the fronts of three slices.
+pub fn copy_out(
+    slots: &[Slot],
+    k: usize,
+    points: &mut [u64],
+    falsified: &mut [u32],
+    depths: &mut [u32],
+)
+    requires { ⌜ Within k (length (now slots)) (length (now points)) (length (now falsified)) (length (now depths)) ⌝ }
+    ensures { λ _. ⌜ (now (points .exit) ≡ front k (pointsIn (now (slots .entry))) (now (points .entry))) × ((now (falsified .exit) ≡ front k (falsifiedIn (now (slots .entry))) (now (falsified .entry)))
+        × (now (depths .exit) ≡ front k (depthsIn (now (slots .entry))) (now (depths .entry)))) ⌝ }
+{
+    let mut i = 0;
+    while i < k {
+        let s = slots[i];
+        points[i] = s.point;
+        falsified[i] = s.falsified;
+        depths[i] = s.depth;
+        i = i + 1;
+    }
 }
