@@ -28,6 +28,7 @@ use denote.Shadow.{pureI}
 use denote.Slice.{Room, sliceVal, MutSlice, ShrSlice, heres, at-slice, codedHoleys}
 use denote.Struct.Laws as LL
 use Rattle.slots.specs.declared.Slot.{Slot}
+use Rattle.slots.specs.Slots.{slotOf}
 use Rattle.slots.proofs.Slot as S
 use Rattle.slots.proofs.Slot.Laws as S′
 
@@ -78,3 +79,7 @@ module _ {M : Type 1} {𝓤 : URA M} {H : Heap 𝓤} {A : Atoms 𝓤} {K : Type 
       (‵ (fres γ (codedHoleys E .code (heres E zs))) ∷ ‵ (fshr-bor κ (λ q. arr-parts (shares E) (length zs) .part q zs b o)) ∷ Γ) G
   shr-again t E ℓ {κ} {γ} b o zs room = step (λ s. fjoin t $
       pureI t (at-slice E (record { ptr = (b, o); name = γ; now = zs }) (sliceVal (b, o) (length zs) ∷ [])) (tt, (tt, tt)) (refl, room) $ fjoin t $ s)
+
+-- a slot whose parts fit
+pub fitting : (x n d : ℕ) → x < 2 ^ 64 → n < 2 ^ 32 → d < 2 ^ 32 → Is R (slotOf x n d) (vals (slotOf x n d))
+fitting x n d gx gn gd = LL.owes S.the-type S′.the-laws (slotOf x n d) ((refl, gx), ((refl, gn), ((refl, gd), tt)))

@@ -2,14 +2,14 @@
 use mathlib.Core.List.{List, [], _∷_, _++_, map}
 use mathlib.Core.Path.{_≡_, refl, sym, ap, _∙_}
 use Prim.Native.Nat.{ℕ, zero, suc, _+_, _-_, _<_, _≤_}
-use native.Mathlib.Nat.{le-of-lt, lt-of-lt-of-le}
+use native.Mathlib.Nat.{lt-of-lt-of-le, not-suc-le-zero, le-of-suc-le-suc}
 use native.Mathlib.Omega.{arith}
 use lib.ListN.{length, getD, set, take, drop, length-map, length-append, length-drop, List·getD-map}
 use lib.Seq.{length-take-le}
 use Rattle.math.specs.Lists.{over}
 use Rattle.math.specs.OverLaws.{over-none, over-take-next}
 use Rattle.slots.specs.declared.Slot.{Slot}
-use Rattle.slots.specs.Slots.{slotOr, blank, front}
+use Rattle.slots.specs.Slots.{slotOf, slotOr, blank, joined, front}
 
 module _ {X : Type 0} where
   -- nothing is copied yet
@@ -40,3 +40,21 @@ column-next part i k xs old l h h′ = front-next i k (map part xs) old (part bl
 
 pub column-long : (part : Slot → ℕ) (k : ℕ) (xs : List Slot) → k ≤ length xs → k ≤ length (map part xs)
 column-long part k xs h = let e : length (map part xs) ≡ length xs = length-map xs part in (let z : k ≤ length (map part xs) = omega (arith, e, h) in z)
+
+-- ---- three lists joined
+
+-- the slot at an index has the three elements there
+pub joined-at : (i : ℕ) (xs ns ds : List ℕ) → i < length xs → i < length ns → i < length ds → slotOf (getD xs i 0) (getD ns i 0) (getD ds i 0) ≡ slotOr (joined xs ns ds) i
+joined-at i [] ns ds l₁ l₂ l₃ = absurd (not-suc-le-zero l₁)
+joined-at i (x ∷ xs) [] ds l₁ l₂ l₃ = absurd (not-suc-le-zero l₂)
+joined-at i (x ∷ xs) (n ∷ ns) [] l₁ l₂ l₃ = absurd (not-suc-le-zero l₃)
+joined-at zero (x ∷ xs) (n ∷ ns) (d ∷ ds) l₁ l₂ l₃ = refl
+joined-at (suc i) (x ∷ xs) (n ∷ ns) (d ∷ ds) l₁ l₂ l₃ = joined-at i xs ns ds (le-of-suc-le-suc l₁) (le-of-suc-le-suc l₂) (le-of-suc-le-suc l₃)
+
+pub joined-long : (k : ℕ) (xs ns ds : List ℕ) → k ≤ length xs → k ≤ length ns → k ≤ length ds → k ≤ length (joined xs ns ds)
+joined-long zero xs ns ds h₁ h₂ h₃ = omega arith
+joined-long (suc k) [] ns ds h₁ h₂ h₃ = absurd (not-suc-le-zero h₁)
+joined-long (suc k) (x ∷ xs) [] ds h₁ h₂ h₃ = absurd (not-suc-le-zero h₂)
+joined-long (suc k) (x ∷ xs) (n ∷ ns) [] h₁ h₂ h₃ = absurd (not-suc-le-zero h₃)
+joined-long (suc k) (x ∷ xs) (n ∷ ns) (d ∷ ds) h₁ h₂ h₃ = let h : k ≤ length (joined xs ns ds) = joined-long k xs ns ds (le-of-suc-le-suc h₁) (le-of-suc-le-suc h₂) (le-of-suc-le-suc h₃) in
+    (let z : suc k ≤ suc (length (joined xs ns ds)) = omega (arith, h) in z)

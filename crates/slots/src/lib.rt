@@ -3,7 +3,7 @@ use points::Point;
 ghost use mathlib.Core.Path.{_≡_};
 ghost use Prim.Native.Nat.{_<_};
 ghost use lib.ListN.{length, set};
-ghost use Rattle.slots.specs.Slots.{slotOr, pointsIn, falsifiedIn, depthsIn, Within, front};
+ghost use Rattle.slots.specs.Slots.{slotOr, pointsIn, falsifiedIn, depthsIn, joined, Within, front};
 
 // A visited point, the number of the clause that it falsifies (0 while unprocessed), and its depth.
 pub struct Slot {
@@ -53,6 +53,29 @@ pub fn copy_out(
         points[i] = s.point;
         falsified[i] = s.falsified;
         depths[i] = s.depth;
+        i = i + 1;
+    }
+}
+
+// Copies back: the first k places of three slices become the first k slots.
+pub fn copy_back(
+    slots: &mut [Slot],
+    k: usize,
+    points: &[u64],
+    falsified: &[u32],
+    depths: &[u32],
+)
+    requires { ⌜ Within k (length (now slots)) (length (now points)) (length (now falsified)) (length (now depths)) ⌝ }
+    ensures { λ _. ⌜ now (slots .exit) ≡ front k (joined (now (points .entry)) (now (falsified .entry)) (now (depths .entry))) (now (slots .entry)) ⌝ }
+{
+    let mut i = 0;
+    while i < k {
+        let s = Slot {
+            point: points[i],
+            falsified: falsified[i],
+            depth: depths[i],
+        };
+        slots[i] = s;
         i = i + 1;
     }
 }
