@@ -1,2 +1,7 @@
 pub mod Counted
+pub mod CopiedBack
+pub mod CopiedOut
+pub mod LeastCalled
+pub mod Lent
 pub mod Row
+pub mod SearchedFront

@@ -1,8 +1,13 @@
 // The slots as one lent slice of structs (01: 'Walk'): thin functions over the search and the writer, which take three slices.
+use formula::Formula;
 use points::Point;
+use search::Outcome;
+use search::search;
+use slices::least;
 ghost use mathlib.Core.Path.{_≡_};
 ghost use Prim.Native.Nat.{_<_};
-ghost use lib.ListN.{length, set};
+ghost use lib.ListN.{length, set, take};
+ghost use Rattle.search.specs.Builder.{Searched};
 ghost use Rattle.slots.specs.Slots.{slotOr, pointsIn, falsifiedIn, depthsIn, joined, Within, front};
 
 // A visited point, the number of the clause that it falsifies (0 while unprocessed), and its depth.
@@ -58,13 +63,7 @@ pub fn copy_out(
 }
 
 // Copies back: the first k places of three slices become the first k slots.
-pub fn copy_back(
-    slots: &mut [Slot],
-    k: usize,
-    points: &[u64],
-    falsified: &[u32],
-    depths: &[u32],
-)
+pub fn copy_back(slots: &mut [Slot], k: usize, points: &[u64], falsified: &[u32], depths: &[u32])
     requires { ⌜ Within k (length (now slots)) (length (now points)) (length (now falsified)) (length (now depths)) ⌝ }
     ensures { λ _. ⌜ now (slots .exit) ≡ front k (joined (now (points .entry)) (now (falsified .entry)) (now (depths .entry))) (now (slots .entry)) ⌝ }
 {
@@ -78,4 +77,51 @@ pub fn copy_back(
         slots[i] = s;
         i = i + 1;
     }
+}
+
+// The search on the first k places of three slices.
+fn search_front(
+    f: Formula,
+    positive: &[u64],
+    negative: &[u64],
+    points: &mut [u64],
+    falsified: &mut [u32],
+    depths: &mut [u32],
+    k: usize,
+) -> Outcome
+    requires { ⌜ Within k k (length (now points)) (length (now falsified)) (length (now depths)) ⌝ }
+    ensures { λ r. ⌜ Searched f (now (positive .entry)) (now (negative .entry)) (take k (now (points .entry))) (take k (now (falsified .entry))) (take k (now (depths .entry))) r
+        (take k (now (points .exit))) (take k (now (falsified .exit))) (take k (now (depths .exit))) ⌝ }
+{
+    search(
+        f,
+        positive,
+        negative,
+        &mut points[..k],
+        &mut falsified[..k],
+        &mut depths[..k],
+    )
+}
+
+// D2.2: the search with the slots in one lent slice, by the definition of `search::search`; refusals 10 to 13 leave the slice as it was.
+pub fn search_slots(f: Formula, positive: &[u64], negative: &[u64], slots: &mut [Slot]) -> Outcome
+    ensures { λ r. ⌜ Searched f (now (positive .entry)) (now (negative .entry)) (pointsIn (now (slots .entry))) (falsifiedIn (now (slots .entry))) (depthsIn (now (slots .entry))) r
+        (pointsIn (now (slots .exit))) (falsifiedIn (now (slots .exit))) (depthsIn (now (slots .exit))) ⌝ }
+{
+    let mut points = [0u64; 65536];
+    let mut falsified = [0u32; 65536];
+    let mut depths = [0u32; 65536];
+    let k = least(65536, slots.len());
+    copy_out(slots, k, &mut points, &mut falsified, &mut depths);
+    let r = search_front(
+        f,
+        positive,
+        negative,
+        &mut points,
+        &mut falsified,
+        &mut depths,
+        k,
+    );
+    copy_back(slots, k, &points, &falsified, &depths);
+    r
 }
