@@ -5,3 +5,4 @@ pub mod LeastCalled
 pub mod Lent
 pub mod Row
 pub mod SearchedFront
+pub mod WrittenFront

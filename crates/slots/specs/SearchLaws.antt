@@ -82,7 +82,7 @@ slice-whole part f positive negative lent k old found h len e = kept-whole (sear
 
 -- ---- the room that the fronts give is the room that the slices give
 
-min-thrice : (m : ℕ) → min m (min m m) ≡ m
+pub min-thrice : (m : ℕ) → min m (min m m) ≡ m
 min-thrice m = omega arith
 
 min-again : (m : ℕ) → min 65536 (min 65536 m) ≡ min 65536 m

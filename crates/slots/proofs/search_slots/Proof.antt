@@ -196,10 +196,11 @@ module _ {M : Type 1} (𝓤 : URA M) (H : Heap 𝓤) (A : Atoms 𝓤) (W : Given
           assigns ! (agg ! (and-then ! (load ! (from ! (stop !)) (look ! 41 refl)) (and-then ! (big-lit ! (record { fits = lit< tt })) (no-more !)))) (from ! (stop !)) (init ! 39 refl (tt, (tt, (record { fits = lit< tt }, tt)))) $
           move ! (3 ∷ []) $ share ! tt R (named 0) (length ys) ys b o refl room (λ ν₀ γ₀. move ! (5 ∷ []) $ lend ! tt u64 (named 1) 65536 ps l₅ 0 e₁ (room64 ps e₁) (λ ν₁ γ₁. move ! (7 ∷ []) $
           lend ! tt u32 (named 2) 65536 fs l₆ 0 e₂ (room32 fs e₂) (λ ν₂ γ₂. move ! (9 ∷ []) $ lend ! tt u32 (named 3) 65536 ds l₇ 0 e₃ (room32 ds e₃) (λ ν₃ γ₃. move ! (9 ∷ 10 ∷ 6 ∷ 7 ∷ 3 ∷ 4 ∷ 0 ∷ 1 ∷ []) $
-          Out.asks b o l₅ 0 l₆ 0 l₇ 0 γ₀ γ₁ γ₂ γ₃ ys ps fs ds k 65536 ν₀ ν₁ ν₂ ν₃ 𝓤 H A mem run W ! gk (fits-in ps fs ds e₁ e₂ e₃) $
-          calls-at ! fm (CopyOut 𝓤 H A mem run) known₁ (Out.bound b o l₅ 0 l₆ 0 l₇ 0 γ₀ γ₁ γ₂ γ₃ ys ps fs ds k 65536 ν₀ ν₁ ν₂ ν₃ 𝓤 H A mem run) (and-then ! (load ! (from ! (stop !)) (look ! 52 refl)) (and-then ! (load ! (from ! (stop !)) (look ! 62 refl)) (and-then ! (load ! (from ! (stop !)) (look ! 48 refl)) (and-then ! (load ! (from ! (stop !)) (look ! 44 refl)) (and-then ! (load ! (from ! (stop !)) (look ! 40 refl)) (no-more !)))))) (λ w₁.
-          Out.has b o l₅ 0 l₆ 0 l₇ 0 γ₀ γ₁ γ₂ γ₃ ys ps fs ds k 65536 ν₀ ν₁ ν₂ ν₃ 𝓤 H A mem run W ! tt w₁ (λ is₁. land ! (from ! (stop !)) (init ! 62 refl (subst (λ (u : Val). T (hasTy tyUnit u) × WT u) (sym (ap only is₁)) (tt, tt))) $
-          move ! (0 ∷ 10 ∷ []) $ unshare ! tt R ys b o $ move ! (1 ∷ 9 ∷ 4 ∷ []) $ unlend ! tt u64 (P ps) l₅ 0 $ move ! (2 ∷ 7 ∷ 4 ∷ []) $ unlend ! tt u32 (N fs) l₆ 0 $ move ! (3 ∷ 5 ∷ 4 ∷ []) $ unlend ! tt u32 (D ds) l₇ 0 $
+          Out.asks b o l₅ 0 l₆ 0 l₇ 0 γ₀ γ₁ γ₂ γ₃ ys ps fs ds k 65536 (ν₀ ∷ []) fullShare ν₁ ν₂ ν₃ 𝓤 H A mem run W ! gk (fits-in ps fs ds e₁ e₂ e₃) $
+          calls-at ! fm (CopyOut 𝓤 H A mem run) known₁ (Out.bound b o l₅ 0 l₆ 0 l₇ 0 γ₀ γ₁ γ₂ γ₃ ys ps fs ds k 65536 (ν₀ ∷ []) fullShare ν₁ ν₂ ν₃ 𝓤 H A mem run) (and-then ! (load ! (from ! (stop !)) (look ! 52 refl)) (and-then ! (load ! (from ! (stop !)) (look ! 62 refl)) (and-then ! (load ! (from ! (stop !)) (look ! 48 refl)) (and-then ! (load ! (from ! (stop !)) (look ! 44 refl)) (and-then ! (load ! (from ! (stop !)) (look ! 40 refl)) (no-more !)))))) (λ w₁.
+          Out.has b o l₅ 0 l₆ 0 l₇ 0 γ₀ γ₁ γ₂ γ₃ ys ps fs ds k 65536 (ν₀ ∷ []) fullShare ν₁ ν₂ ν₃ 𝓤 H A mem run W ! tt w₁ (λ is₁.
+          land ! (from ! (stop !)) (init ! 62 refl (subst (λ (u : Val). T (hasTy tyUnit u) × WT u) (sym (ap only is₁)) (tt, tt))) $ move ! (0 ∷ 10 ∷ []) $ unshare ! tt R ys b o $ move ! (1 ∷ 9 ∷ 4 ∷ []) $ unlend ! tt u64 (P ps) l₅ 0 $
+          move ! (2 ∷ 7 ∷ 4 ∷ []) $ unlend ! tt u32 (N fs) l₆ 0 $ move ! (3 ∷ 5 ∷ 4 ∷ []) $ unlend ! tt u32 (D ds) l₇ 0 $
           -- the copies are searched
           assigns ! (addr ! (from ! (stop !))) (from ! (stop !)) (init ! 37 refl (tt, tt)) $
           assigns ! (agg ! (and-then ! (load ! (from ! (stop !)) (look ! 37 refl)) (and-then ! (big-lit ! (record { fits = lit< tt })) (no-more !)))) (from ! (stop !)) (init ! 35 refl (tt, (tt, (record { fits = lit< tt }, tt)))) $
