@@ -107,7 +107,7 @@ module _ (f : Formula) (positive negative : List ℕ) (ys : List Slot) (k : ℕ)
   faults-few h =
       let pb = problemOf f positive negative in
       let e₁ : pointsFault (capacity (length (take k P)) (length (take k N)) (length (take k D))) (pb .variables) count (take k P) ≡ pointsFault (capacity (length P) (length N) (length D)) (pb .variables) count P =
-          ap (λ l. pointsFault l (pb .variables) count (take k P)) (front-limit ∙ sym limit) ∙ points-same (capacity (length P) (length N) (length D)) (pb .variables) count k P h in
+      ap (λ l. pointsFault l (pb .variables) count (take k P)) (front-limit ∙ sym limit) ∙ points-same (capacity (length P) (length N) (length D)) (pb .variables) count k P h in
       let e₂ : numbersFault (pb .clauses) count (take k P) (take k N) ≡ numbersFault (pb .clauses) count P N = numbers-same (pb .clauses) count k P N h in
       (λ i. first (formulaFault f positive negative ∷ permutationFault (pb .variables) (pb .permutations) ∷ symmetryFault (pb .clauses) (pb .permutations) ∷ e₁ i ∷ e₂ i ∷ roomFault (lengthNeeded pb count) (length out) ∷ []))
 

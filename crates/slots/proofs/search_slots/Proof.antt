@@ -2,9 +2,7 @@
 -- and is back after it. What the calls do to the lists is `searched-whole`.
 -- Assumes nothing.
 use mathlib.Core.Path.{_≡_, refl, sym, _∙_, ap, subst}
-use Prim.Native.Nat.{ℕ, _<_, _≤_, _^_, min}
-use native.Mathlib.Nat.{lt-of-le-of-lt, le-refl}
-use native.Mathlib.Omega.{arith}
+use Prim.Native.Nat.{ℕ}
 use mathlib.Core.List.{[], _∷_, List}
 use lib.Dec.{T, lit<}
 use lib.ListN.{length}
@@ -51,9 +49,10 @@ use Rattle.slices.proofs.least.Symbol as least-def
 use Rattle.slices.proofs.least.Symbol.{name as #slices·least}
 use Rattle.slices.proofs.least.Met as least-thm
 use Rattle.slots.specs.declared.Slot.{Slot}
-use Rattle.slots.specs.Slots.{pointsIn, falsifiedIn, depthsIn, joined, front, Within}
-use Rattle.slots.specs.SlotLaws.{front-length, column-long, joined-long}
+use Rattle.slots.specs.Slots.{pointsIn, falsifiedIn, depthsIn, joined, front}
+use Rattle.slots.specs.SlotLaws.{front-length, joined-long}
 use Rattle.slots.specs.SearchLaws.{searched-whole}
+use Rattle.slots.proofs.Places.{k, gk, used, P, N, D, many, long₁, long₂, long₃, fits-in, fronts-in}
 use Rattle.slots.proofs.Row.{R, mut-again}
 use Rattle.slots.proofs.Lent.{lend, unlend, share, unshare, zeros-typed, abstracted, emptied, big-lit, room64, room32}
 use Rattle.slots.proofs.LeastCalled as Count
@@ -103,50 +102,12 @@ module _ {M : Type 1} (𝓤 : URA M) (H : Heap 𝓤) (A : Atoms 𝓤) (W : Given
   abbrev negative : Fml
   negative = ShrSlice (named 1) κ₁ u64 .own (x .1 .1 .0) (at .1 .1 .0)
 
-  -- the slots that are used
-  abbrev k : ℕ
-  k = min 65536 (length ys)
-
-  gk : k < 2 ^ 64
-  gk = lt-of-le-of-lt (let z : k ≤ 65536 = omega arith in z) (lit< tt)
-
-  used : k ≤ length ys
-  used = omega arith
-
-  -- the arrays once the slots are copied out
-  abbrev P : List ℕ → List ℕ
-  P ps = front k (pointsIn ys) ps
-
-  abbrev N : List ℕ → List ℕ
-  N fs = front k (falsifiedIn ys) fs
-
-  abbrev D : List ℕ → List ℕ
-  D ds = front k (depthsIn ys) ds
-
-  -- and the slots once they are copied back
+  -- the slots once they are copied back
   abbrev Z : List ℕ → List ℕ → List ℕ → List Slot
-  Z ps fs ds = front k (joined ps fs ds) ys
-
-  many : (xs : List ℕ) → length xs ≡ 65536 → k ≤ length xs
-  many xs e = omega (arith, e)
-
-  long₁ : (ps : List ℕ) → length ps ≡ 65536 → length (P ps) ≡ 65536
-  long₁ ps e = front-length k (pointsIn ys) ps (column-long (λ (s : Slot). s .point) k ys used) (many ps e) ∙ e
-
-  long₂ : (fs : List ℕ) → length fs ≡ 65536 → length (N fs) ≡ 65536
-  long₂ fs e = front-length k (falsifiedIn ys) fs (column-long (λ (s : Slot). s .falsified) k ys used) (many fs e) ∙ e
-
-  long₃ : (ds : List ℕ) → length ds ≡ 65536 → length (D ds) ≡ 65536
-  long₃ ds e = front-length k (depthsIn ys) ds (column-long (λ (s : Slot). s .depth) k ys used) (many ds e) ∙ e
-
-  fits-in : (ps fs ds : List ℕ) → length ps ≡ 65536 → length fs ≡ 65536 → length ds ≡ 65536 → Within k (length ys) (length ps) (length fs) (length ds)
-  fits-in ps fs ds e₁ e₂ e₃ = record { inSlots = used; inPoints = many ps e₁; inFalsified = many fs e₂; inDepths = many ds e₃ }
-
-  fronts-in : (ps fs ds : List ℕ) → length ps ≡ 65536 → length fs ≡ 65536 → length ds ≡ 65536 → Within k k (length ps) (length fs) (length ds)
-  fronts-in ps fs ds e₁ e₂ e₃ = record { inSlots = le-refl k; inPoints = many ps e₁; inFalsified = many fs e₂; inDepths = many ds e₃ }
+  Z ps fs ds = front (k ys) (joined ps fs ds) ys
 
   long : (ps fs ds : List ℕ) → length ps ≡ 65536 → length fs ≡ 65536 → length ds ≡ 65536 → length (Z ps fs ds) ≡ length ys
-  long ps fs ds e₁ e₂ e₃ = front-length k (joined ps fs ds) ys (joined-long k ps fs ds (many ps e₁) (many fs e₂) (many ds e₃)) used
+  long ps fs ds e₁ e₂ e₃ = front-length (k ys) (joined ps fs ds) ys (joined-long (k ys) ps fs ds (many ys ps e₁) (many ys fs e₂) (many ys ds e₃)) (used ys)
 
   module _ (gf : Is F.the-row f (formula-val f ∷ [])) (room₀ : Room u64 (length us)) (room₁ : Room u64 (length vs)) (room : Room R (length ys)) where
     abbrev Had : Outcome → Val → List Slot → List (Item 𝓤)
@@ -183,7 +144,7 @@ module _ {M : Type 1} (𝓤 : URA M) (H : Heap 𝓤) (A : Atoms 𝓤) (W : Given
           assigns ! (of-opd ! (load ! (from ! (fld ! refl (stop !))) (look-in ! 66 (sub ! 1 refl (whole !))))) (from ! (stop !)) (init ! 57 refl (tt, record { fits = room .0 })) $
           Count.asks 65536 (length ys) 𝓤 H A mem run W ! (lit< tt) (room .0) $
           calls-at ! fm (Least 𝓤 H A mem run) known₀ (Count.bound 65536 (length ys) 𝓤 H A mem run) (and-then ! (big-lit ! (record { fits = lit< tt })) (and-then ! (load ! (from ! (stop !)) (look ! 58 refl)) (no-more !))) (λ w.
-          Count.has 65536 (length ys) 𝓤 H A mem run W ! tt w (λ is. land ! (from ! (stop !)) (init ! 61 refl (subst (λ (u : Val). T (hasTy (tyInt w64) u) × WT u) (sym (ap only is)) (tt, record { fits = gk }))) $
+          Count.has 65536 (length ys) 𝓤 H A mem run W ! tt w (λ is. land ! (from ! (stop !)) (init ! 61 refl (subst (λ (u : Val). T (hasTy (tyInt w64) u) × WT u) (sym (ap only is)) (tt, record { fits = gk ys }))) $
           rewrite ! 61 (λ (u : Val). ‵ (fat fullShare (tyInt w64) l₈ 0 u)) (ap only is) refl $
           -- the slots are copied out
           assigns ! (addr ! (from ! (fld ! refl (hop ! (look-in ! 66 (sub ! 0 refl (whole !))) (stop !))))) (from ! (stop !)) (init ! 53 refl (tt, tt)) $
@@ -196,11 +157,11 @@ module _ {M : Type 1} (𝓤 : URA M) (H : Heap 𝓤) (A : Atoms 𝓤) (W : Given
           assigns ! (agg ! (and-then ! (load ! (from ! (stop !)) (look ! 41 refl)) (and-then ! (big-lit ! (record { fits = lit< tt })) (no-more !)))) (from ! (stop !)) (init ! 39 refl (tt, (tt, (record { fits = lit< tt }, tt)))) $
           move ! (3 ∷ []) $ share ! tt R (named 0) (length ys) ys b o refl room (λ ν₀ γ₀. move ! (5 ∷ []) $ lend ! tt u64 (named 1) 65536 ps l₅ 0 e₁ (room64 ps e₁) (λ ν₁ γ₁. move ! (7 ∷ []) $
           lend ! tt u32 (named 2) 65536 fs l₆ 0 e₂ (room32 fs e₂) (λ ν₂ γ₂. move ! (9 ∷ []) $ lend ! tt u32 (named 3) 65536 ds l₇ 0 e₃ (room32 ds e₃) (λ ν₃ γ₃. move ! (9 ∷ 10 ∷ 6 ∷ 7 ∷ 3 ∷ 4 ∷ 0 ∷ 1 ∷ []) $
-          Out.asks b o l₅ 0 l₆ 0 l₇ 0 γ₀ γ₁ γ₂ γ₃ ys ps fs ds k 65536 (ν₀ ∷ []) fullShare ν₁ ν₂ ν₃ 𝓤 H A mem run W ! gk (fits-in ps fs ds e₁ e₂ e₃) $
-          calls-at ! fm (CopyOut 𝓤 H A mem run) known₁ (Out.bound b o l₅ 0 l₆ 0 l₇ 0 γ₀ γ₁ γ₂ γ₃ ys ps fs ds k 65536 (ν₀ ∷ []) fullShare ν₁ ν₂ ν₃ 𝓤 H A mem run) (and-then ! (load ! (from ! (stop !)) (look ! 52 refl)) (and-then ! (load ! (from ! (stop !)) (look ! 62 refl)) (and-then ! (load ! (from ! (stop !)) (look ! 48 refl)) (and-then ! (load ! (from ! (stop !)) (look ! 44 refl)) (and-then ! (load ! (from ! (stop !)) (look ! 40 refl)) (no-more !)))))) (λ w₁.
-          Out.has b o l₅ 0 l₆ 0 l₇ 0 γ₀ γ₁ γ₂ γ₃ ys ps fs ds k 65536 (ν₀ ∷ []) fullShare ν₁ ν₂ ν₃ 𝓤 H A mem run W ! tt w₁ (λ is₁.
-          land ! (from ! (stop !)) (init ! 62 refl (subst (λ (u : Val). T (hasTy tyUnit u) × WT u) (sym (ap only is₁)) (tt, tt))) $ move ! (0 ∷ 10 ∷ []) $ unshare ! tt R ys b o $ move ! (1 ∷ 9 ∷ 4 ∷ []) $ unlend ! tt u64 (P ps) l₅ 0 $
-          move ! (2 ∷ 7 ∷ 4 ∷ []) $ unlend ! tt u32 (N fs) l₆ 0 $ move ! (3 ∷ 5 ∷ 4 ∷ []) $ unlend ! tt u32 (D ds) l₇ 0 $
+          Out.asks b o l₅ 0 l₆ 0 l₇ 0 γ₀ γ₁ γ₂ γ₃ ys ps fs ds (k ys) 65536 (ν₀ ∷ []) fullShare ν₁ ν₂ ν₃ 𝓤 H A mem run W ! (gk ys) (fits-in ys ps fs ds e₁ e₂ e₃) $
+          calls-at ! fm (CopyOut 𝓤 H A mem run) known₁ (Out.bound b o l₅ 0 l₆ 0 l₇ 0 γ₀ γ₁ γ₂ γ₃ ys ps fs ds (k ys) 65536 (ν₀ ∷ []) fullShare ν₁ ν₂ ν₃ 𝓤 H A mem run) (and-then ! (load ! (from ! (stop !)) (look ! 52 refl)) (and-then ! (load ! (from ! (stop !)) (look ! 62 refl)) (and-then ! (load ! (from ! (stop !)) (look ! 48 refl)) (and-then ! (load ! (from ! (stop !)) (look ! 44 refl)) (and-then ! (load ! (from ! (stop !)) (look ! 40 refl)) (no-more !)))))) (λ w₁.
+          Out.has b o l₅ 0 l₆ 0 l₇ 0 γ₀ γ₁ γ₂ γ₃ ys ps fs ds (k ys) 65536 (ν₀ ∷ []) fullShare ν₁ ν₂ ν₃ 𝓤 H A mem run W ! tt w₁ (λ is₁.
+          land ! (from ! (stop !)) (init ! 62 refl (subst (λ (u : Val). T (hasTy tyUnit u) × WT u) (sym (ap only is₁)) (tt, tt))) $ move ! (0 ∷ 10 ∷ []) $ unshare ! tt R ys b o $ move ! (1 ∷ 9 ∷ 4 ∷ []) $ unlend ! tt u64 (P ys ps) l₅ 0 $
+          move ! (2 ∷ 7 ∷ 4 ∷ []) $ unlend ! tt u32 (N ys fs) l₆ 0 $ move ! (3 ∷ 5 ∷ 4 ∷ []) $ unlend ! tt u32 (D ys ds) l₇ 0 $
           -- the copies are searched
           assigns ! (addr ! (from ! (stop !))) (from ! (stop !)) (init ! 37 refl (tt, tt)) $
           assigns ! (agg ! (and-then ! (load ! (from ! (stop !)) (look ! 37 refl)) (and-then ! (big-lit ! (record { fits = lit< tt })) (no-more !)))) (from ! (stop !)) (init ! 35 refl (tt, (tt, (record { fits = lit< tt }, tt)))) $
@@ -210,11 +171,11 @@ module _ {M : Type 1} (𝓤 : URA M) (H : Heap 𝓤) (A : Atoms 𝓤) (W : Given
           assigns ! (agg ! (and-then ! (load ! (from ! (stop !)) (look ! 29 refl)) (and-then ! (big-lit ! (record { fits = lit< tt })) (no-more !)))) (from ! (stop !)) (init ! 27 refl (tt, (tt, (record { fits = lit< tt }, tt)))) $
           move ! (10 ∷ []) $ use1 W (‵ positive ⊛ ‵ positive) (shr-slice-copy 𝓤 H A W (named 0) κ₀ u64 .twice (x .1 .0) (at .1 .0)) $ split ! $ move ! (11 ∷ []) $
           use1 W (‵ negative ⊛ ‵ negative) (shr-slice-copy 𝓤 H A W (named 1) κ₁ u64 .twice (x .1 .1 .0) (at .1 .1 .0)) $ split ! $ move ! (6 ∷ []) $
-          lend ! tt u64 (named 2) 65536 (P ps) l₅ 0 (long₁ ps e₁) (room64 (P ps) (long₁ ps e₁)) (λ ν₄ γ₄. move ! (8 ∷ []) $ lend ! tt u32 (named 3) 65536 (N fs) l₆ 0 (long₂ fs e₂) (room32 (N fs) (long₂ fs e₂)) (λ ν₅ γ₅. move ! (10 ∷ []) $
-          lend ! tt u32 (named 4) 65536 (D ds) l₇ 0 (long₃ ds e₃) (room32 (D ds) (long₃ ds e₃)) (λ ν₆ γ₆. move ! (12 ∷ 18 ∷ 10 ∷ 17 ∷ 6 ∷ 7 ∷ 3 ∷ 4 ∷ 0 ∷ 1 ∷ []) $
-          Front.asks f us vs κ₀ κ₁ q₀ q₁ c₀ d₀ c₁ d₁ δ₀ δ₁ l₅ 0 l₆ 0 l₇ 0 γ₄ γ₅ γ₆ (P ps) (N fs) (D ds) k 65536 ν₄ ν₅ ν₆ 𝓤 H A mem run W ! gf gk (fronts-in (P ps) (N fs) (D ds) (long₁ ps e₁) (long₂ fs e₂) (long₃ ds e₃)) $
-          calls-at ! fm (SearchFront 𝓤 H A mem run) known₂ (Front.bound f us vs κ₀ κ₁ q₀ q₁ c₀ d₀ c₁ d₁ δ₀ δ₁ l₅ 0 l₆ 0 l₇ 0 γ₄ γ₅ γ₆ (P ps) (N fs) (D ds) k 65536 ν₄ ν₅ ν₆ 𝓤 H A mem run) (and-then ! (load ! (from ! (stop !)) (look ! 71 refl)) (and-then ! (load ! (from ! (stop !)) (look ! 69 refl)) (and-then ! (load ! (from ! (stop !)) (look ! 67 refl)) (and-then ! (load ! (from ! (stop !)) (look ! 34 refl)) (and-then ! (load ! (from ! (stop !)) (look ! 30 refl)) (and-then ! (load ! (from ! (stop !)) (look ! 26 refl)) (and-then ! (load ! (from ! (stop !)) (look ! 60 refl)) (no-more !)))))))) (λ w₂.
-          Front.has f us vs κ₀ κ₁ q₀ q₁ c₀ d₀ c₁ d₁ δ₀ δ₁ l₅ 0 l₆ 0 l₇ 0 γ₄ γ₅ γ₆ (P ps) (N fs) (D ds) k 65536 ν₄ ν₅ ν₆ 𝓤 H A mem run W ! tt w₂ (λ r ps′ fs′ ds′ s₁ s₂ s₃ told. move ! (8 ∷ []) $
+          lend ! tt u64 (named 2) 65536 (P ys ps) l₅ 0 (long₁ ys ps e₁) (room64 (P ys ps) (long₁ ys ps e₁)) (λ ν₄ γ₄. move ! (8 ∷ []) $ lend ! tt u32 (named 3) 65536 (N ys fs) l₆ 0 (long₂ ys fs e₂) (room32 (N ys fs) (long₂ ys fs e₂)) (λ ν₅ γ₅. move ! (10 ∷ []) $
+          lend ! tt u32 (named 4) 65536 (D ys ds) l₇ 0 (long₃ ys ds e₃) (room32 (D ys ds) (long₃ ys ds e₃)) (λ ν₆ γ₆. move ! (12 ∷ 18 ∷ 10 ∷ 17 ∷ 6 ∷ 7 ∷ 3 ∷ 4 ∷ 0 ∷ 1 ∷ []) $
+          Front.asks f us vs κ₀ κ₁ q₀ q₁ c₀ d₀ c₁ d₁ δ₀ δ₁ l₅ 0 l₆ 0 l₇ 0 γ₄ γ₅ γ₆ (P ys ps) (N ys fs) (D ys ds) (k ys) 65536 ν₄ ν₅ ν₆ 𝓤 H A mem run W ! gf (gk ys) (fronts-in ys (P ys ps) (N ys fs) (D ys ds) (long₁ ys ps e₁) (long₂ ys fs e₂) (long₃ ys ds e₃)) $
+          calls-at ! fm (SearchFront 𝓤 H A mem run) known₂ (Front.bound f us vs κ₀ κ₁ q₀ q₁ c₀ d₀ c₁ d₁ δ₀ δ₁ l₅ 0 l₆ 0 l₇ 0 γ₄ γ₅ γ₆ (P ys ps) (N ys fs) (D ys ds) (k ys) 65536 ν₄ ν₅ ν₆ 𝓤 H A mem run) (and-then ! (load ! (from ! (stop !)) (look ! 71 refl)) (and-then ! (load ! (from ! (stop !)) (look ! 69 refl)) (and-then ! (load ! (from ! (stop !)) (look ! 67 refl)) (and-then ! (load ! (from ! (stop !)) (look ! 34 refl)) (and-then ! (load ! (from ! (stop !)) (look ! 30 refl)) (and-then ! (load ! (from ! (stop !)) (look ! 26 refl)) (and-then ! (load ! (from ! (stop !)) (look ! 60 refl)) (no-more !)))))))) (λ w₂.
+          Front.has f us vs κ₀ κ₁ q₀ q₁ c₀ d₀ c₁ d₁ δ₀ δ₁ l₅ 0 l₆ 0 l₇ 0 γ₄ γ₅ γ₆ (P ys ps) (N ys fs) (D ys ds) (k ys) 65536 ν₄ ν₅ ν₆ 𝓤 H A mem run W ! tt w₂ (λ r ps′ fs′ ds′ s₁ s₂ s₃ told. move ! (8 ∷ []) $
           peeks ! O.the-row (Is O.the-row) (shows 𝓤 H A O.the-row) r (w₂ ∷ []) (λ iso. land ! (from ! (stop !)) (init ! 66 refl (outcome-typed 𝓤 H A W r w₂ iso)) $ move ! (3 ∷ 11 ∷ 6 ∷ []) $ unlend ! tt u64 ps′ l₅ 0 $
           move ! (4 ∷ 9 ∷ 6 ∷ []) $ unlend ! tt u32 fs′ l₆ 0 $ move ! (5 ∷ 7 ∷ 6 ∷ []) $ unlend ! tt u32 ds′ l₇ 0 $
           -- they are copied back
@@ -226,17 +187,17 @@ module _ {M : Type 1} (𝓤 : URA M) (H : Heap 𝓤) (A : Atoms 𝓤) (W : Given
           assigns ! (agg ! (and-then ! (load ! (from ! (stop !)) (look ! 18 refl)) (and-then ! (big-lit ! (record { fits = lit< tt })) (no-more !)))) (from ! (stop !)) (init ! 16 refl (tt, (tt, (record { fits = lit< tt }, tt)))) $
           assigns ! (addr ! (from ! (stop !))) (from ! (stop !)) (init ! 14 refl (tt, tt)) $
           assigns ! (agg ! (and-then ! (load ! (from ! (stop !)) (look ! 14 refl)) (and-then ! (big-lit ! (record { fits = lit< tt })) (no-more !)))) (from ! (stop !)) (init ! 12 refl (tt, (tt, (record { fits = lit< tt }, tt)))) $
-          move ! (8 ∷ []) $ lend ! tt R (named 0) (length ys) ys b o refl room (λ ν₇ γ₇. move ! (5 ∷ []) $ share ! tt u64 (named 1) 65536 ps′ l₅ 0 (s₁ ∙ long₁ ps e₁) (room64 ps′ (s₁ ∙ long₁ ps e₁)) (λ ν₈ γ₈. move ! (7 ∷ []) $
-          share ! tt u32 (named 2) 65536 fs′ l₆ 0 (s₂ ∙ long₂ fs e₂) (room32 fs′ (s₂ ∙ long₂ fs e₂)) (λ ν₉ γ₉. move ! (9 ∷ []) $ share ! tt u32 (named 3) 65536 ds′ l₇ 0 (s₃ ∙ long₃ ds e₃) (room32 ds′ (s₃ ∙ long₃ ds e₃)) (λ ν₁₀ γ₁₀.
-          move ! (9 ∷ 10 ∷ 6 ∷ 7 ∷ 3 ∷ 4 ∷ 0 ∷ 1 ∷ []) $ Back.asks b o l₅ 0 l₆ 0 l₇ 0 γ₇ γ₈ γ₉ γ₁₀ ys ps′ fs′ ds′ k 65536 ν₇ ν₈ ν₉ ν₁₀ 𝓤 H A mem run W ! gk (fits-in ps′ fs′ ds′ (s₁ ∙ long₁ ps e₁) (s₂ ∙ long₂ fs e₂) (s₃ ∙ long₃ ds e₃)) $
-          calls-at ! fm (CopyBack 𝓤 H A mem run) known₃ (Back.bound b o l₅ 0 l₆ 0 l₇ 0 γ₇ γ₈ γ₉ γ₁₀ ys ps′ fs′ ds′ k 65536 ν₇ ν₈ ν₉ ν₁₀ 𝓤 H A mem run) (and-then ! (load ! (from ! (stop !)) (look ! 25 refl)) (and-then ! (load ! (from ! (stop !)) (look ! 63 refl)) (and-then ! (load ! (from ! (stop !)) (look ! 21 refl)) (and-then ! (load ! (from ! (stop !)) (look ! 17 refl)) (and-then ! (load ! (from ! (stop !)) (look ! 13 refl)) (no-more !)))))) (λ w₃.
-          Back.has b o l₅ 0 l₆ 0 l₇ 0 γ₇ γ₈ γ₉ γ₁₀ ys ps′ fs′ ds′ k 65536 ν₇ ν₈ ν₉ ν₁₀ 𝓤 H A mem run W ! tt w₃ (λ is₃.
+          move ! (8 ∷ []) $ lend ! tt R (named 0) (length ys) ys b o refl room (λ ν₇ γ₇. move ! (5 ∷ []) $ share ! tt u64 (named 1) 65536 ps′ l₅ 0 (s₁ ∙ long₁ ys ps e₁) (room64 ps′ (s₁ ∙ long₁ ys ps e₁)) (λ ν₈ γ₈. move ! (7 ∷ []) $
+          share ! tt u32 (named 2) 65536 fs′ l₆ 0 (s₂ ∙ long₂ ys fs e₂) (room32 fs′ (s₂ ∙ long₂ ys fs e₂)) (λ ν₉ γ₉. move ! (9 ∷ []) $ share ! tt u32 (named 3) 65536 ds′ l₇ 0 (s₃ ∙ long₃ ys ds e₃) (room32 ds′ (s₃ ∙ long₃ ys ds e₃)) (λ ν₁₀ γ₁₀.
+          move ! (9 ∷ 10 ∷ 6 ∷ 7 ∷ 3 ∷ 4 ∷ 0 ∷ 1 ∷ []) $ Back.asks b o l₅ 0 l₆ 0 l₇ 0 γ₇ γ₈ γ₉ γ₁₀ ys ps′ fs′ ds′ (k ys) 65536 ν₇ ν₈ ν₉ ν₁₀ 𝓤 H A mem run W ! (gk ys) (fits-in ys ps′ fs′ ds′ (s₁ ∙ long₁ ys ps e₁) (s₂ ∙ long₂ ys fs e₂) (s₃ ∙ long₃ ys ds e₃)) $
+          calls-at ! fm (CopyBack 𝓤 H A mem run) known₃ (Back.bound b o l₅ 0 l₆ 0 l₇ 0 γ₇ γ₈ γ₉ γ₁₀ ys ps′ fs′ ds′ (k ys) 65536 ν₇ ν₈ ν₉ ν₁₀ 𝓤 H A mem run) (and-then ! (load ! (from ! (stop !)) (look ! 25 refl)) (and-then ! (load ! (from ! (stop !)) (look ! 63 refl)) (and-then ! (load ! (from ! (stop !)) (look ! 21 refl)) (and-then ! (load ! (from ! (stop !)) (look ! 17 refl)) (and-then ! (load ! (from ! (stop !)) (look ! 13 refl)) (no-more !)))))) (λ w₃.
+          Back.has b o l₅ 0 l₆ 0 l₇ 0 γ₇ γ₈ γ₉ γ₁₀ ys ps′ fs′ ds′ (k ys) 65536 ν₇ ν₈ ν₉ ν₁₀ 𝓤 H A mem run W ! tt w₃ (λ is₃.
           land ! (from ! (stop !)) (store ! 61 refl (subst (λ (u : Val). T (hasTy tyUnit u) × WT u) (sym (ap only is₃)) (tt, tt))) $ move ! (0 ∷ 8 ∷ 4 ∷ []) $ unlend ! tt R (Z ps′ fs′ ds′) b o $ move ! (1 ∷ 6 ∷ []) $
           unshare ! tt u64 ps′ l₅ 0 $ move ! (2 ∷ 5 ∷ []) $ unshare ! tt u32 fs′ l₆ 0 $ move ! (3 ∷ 4 ∷ []) $ unshare ! tt u32 ds′ l₇ 0 $
           -- the slots' borrow is closed, and the locals are given up
           assigns ! (of-opd ! (load ! (from ! (stop !)) (look ! 60 refl))) (from ! (stop !)) (init ! 75 refl (outcome-typed 𝓤 H A W r w₂ iso)) $ move ! (3 ∷ 9 ∷ 10 ∷ 11 ∷ []) $
-          closes-slice ! tt R ys (Z ps′ fs′ ds′) (long ps′ fs′ ds′ (s₁ ∙ long₁ ps e₁) (s₂ ∙ long₂ fs e₂) (s₃ ∙ long₃ ds e₃)) b o $ move ! (5 ∷ []) $ emptied ! w64 65536 l₅ ps′ (s₁ ∙ long₁ ps e₁) $ move ! (5 ∷ []) $
-          emptied ! w32 65536 l₆ fs′ (s₂ ∙ long₂ fs e₂) $ move ! (5 ∷ []) $ emptied ! w32 65536 l₇ ds′ (s₃ ∙ long₃ ds e₃) $ returns ! (look ! 74 refl) $ forget ! 74 refl $ forget ! 72 refl $ forget ! 70 refl $ forget ! 68 refl $
+          closes-slice ! tt R ys (Z ps′ fs′ ds′) (long ps′ fs′ ds′ (s₁ ∙ long₁ ys ps e₁) (s₂ ∙ long₂ ys fs e₂) (s₃ ∙ long₃ ys ds e₃)) b o $ move ! (5 ∷ []) $ emptied ! w64 65536 l₅ ps′ (s₁ ∙ long₁ ys ps e₁) $ move ! (5 ∷ []) $
+          emptied ! w32 65536 l₆ fs′ (s₂ ∙ long₂ ys fs e₂) $ move ! (5 ∷ []) $ emptied ! w32 65536 l₇ ds′ (s₃ ∙ long₃ ys ds e₃) $ returns ! (look ! 74 refl) $ forget ! 74 refl $ forget ! 72 refl $ forget ! 70 refl $ forget ! 68 refl $
           forget ! 66 refl $ forget ! 61 refl $ forget ! 59 refl $ forget ! 57 refl $ forget ! 55 refl $ forget ! 53 refl $ forget ! 51 refl $ forget ! 49 refl $ forget ! 47 refl $ forget ! 45 refl $ forget ! 43 refl $ forget ! 41 refl $
           forget ! 39 refl $ forget ! 37 refl $ forget ! 35 refl $ forget ! 33 refl $ forget ! 31 refl $ forget ! 29 refl $ forget ! 27 refl $ forget ! 25 refl $ forget ! 23 refl $ forget ! 21 refl $ forget ! 19 refl $ forget ! 17 refl $
           forget ! 15 refl $ forget ! 13 refl $ forget ! 11 refl $ move ! (74 ∷ 75 ∷ []) $ free1 ! $ move ! (72 ∷ 73 ∷ []) $ free1 ! $ move ! (70 ∷ 71 ∷ []) $ free1 ! $ move ! (68 ∷ 69 ∷ []) $ free1 ! $ move ! (66 ∷ 67 ∷ []) $ free1 ! $
@@ -245,7 +206,7 @@ module _ {M : Type 1} (𝓤 : URA M) (H : Heap 𝓤) (A : Atoms 𝓤) (W : Given
           move ! (38 ∷ 39 ∷ []) $ free1 ! $ move ! (36 ∷ 37 ∷ []) $ free1 ! $ move ! (34 ∷ 35 ∷ []) $ free1 ! $ move ! (32 ∷ 33 ∷ []) $ free1 ! $ move ! (30 ∷ 31 ∷ []) $ free1 ! $ move ! (28 ∷ 29 ∷ []) $ free1 ! $ move ! (26 ∷ 27 ∷ []) $
           free1 ! $ move ! (24 ∷ 25 ∷ []) $ free1 ! $ move ! (22 ∷ 23 ∷ []) $ free1 ! $ move ! (20 ∷ 21 ∷ []) $ free1 ! $ move ! (18 ∷ 19 ∷ []) $ free1 ! $ move ! (16 ∷ 17 ∷ []) $ free1 ! $ move ! (14 ∷ 15 ∷ []) $ free1 ! $
           move ! (12 ∷ 13 ∷ []) $ free1 ! $ move ! (10 ∷ 11 ∷ []) $ free1 ! $ move ! (8 ∷ 9 ∷ []) $ free1 ! $ free0 ! $ keep ! (4 ∷ 5 ∷ 2 ∷ 7 ∷ 6 ∷ 0 ∷ 1 ∷ 3 ∷ []) $
-          by ! (exits r w₂ ps′ fs′ ds′ (s₁ ∙ long₁ ps e₁) (s₂ ∙ long₂ fs e₂) (s₃ ∙ long₃ ds e₃) (searched-whole f us vs ys k refl ps fs ds ps′ fs′ ds′ r (many ps′ (s₁ ∙ long₁ ps e₁)) (many fs′ (s₂ ∙ long₂ fs e₂)) (many ds′ (s₃ ∙ long₃ ds e₃)) told))))))))))))))))))))))))))))))))))))))))))))))))))))))))))))))
+          by ! (exits r w₂ ps′ fs′ ds′ (s₁ ∙ long₁ ys ps e₁) (s₂ ∙ long₂ ys fs e₂) (s₃ ∙ long₃ ys ds e₃) (searched-whole f us vs ys (k ys) refl ps fs ds ps′ fs′ ds′ r (many ys ps′ (s₁ ∙ long₁ ys ps e₁)) (many ys fs′ (s₂ ∙ long₂ ys fs e₂)) (many ys ds′ (s₃ ∙ long₃ ys ds e₃)) told))))))))))))))))))))))))))))))))))))))))))))))))))))))))))))))
 
 module _ {M : Type 1} (𝓤 : URA M) (H : Heap 𝓤) (A : Atoms 𝓤) (W : Given 𝓤 H A) (mem : Memory → SProp 𝓤) (run : Routine → Fun 𝓤) (𝓣 : Tables 𝓤 H) (known₀ : Triple 𝓤 (𝓣 .C #slices·least) (Least 𝓤 H A mem run)) (known₁ : Triple 𝓤 (𝓣 .C #slots·copy-out) (CopyOut 𝓤 H A mem run))
     (known₂ : Triple 𝓤 (𝓣 .C #slots·search-front) (SearchFront 𝓤 H A mem run)) (known₃ : Triple 𝓤 (𝓣 .C #slots·copy-back) (CopyBack 𝓤 H A mem run)) where

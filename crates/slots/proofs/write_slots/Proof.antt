@@ -2,9 +2,7 @@
 -- and is back after it. That the copies stand for the slots is `wrote-whole`.
 -- Assumes nothing.
 use mathlib.Core.Path.{_≡_, refl, sym, _∙_, ap, subst}
-use Prim.Native.Nat.{ℕ, _<_, _≤_, _^_, min}
-use native.Mathlib.Nat.{lt-of-le-of-lt, le-refl}
-use native.Mathlib.Omega.{arith}
+use Prim.Native.Nat.{ℕ, _<_, _^_}
 use mathlib.Core.List.{[], _∷_, List}
 use lib.Dec.{T, lit<}
 use lib.ListN.{length}
@@ -52,9 +50,9 @@ use Rattle.slices.proofs.least.Symbol as least-def
 use Rattle.slices.proofs.least.Symbol.{name as #slices·least}
 use Rattle.slices.proofs.least.Met as least-thm
 use Rattle.slots.specs.declared.Slot.{Slot}
-use Rattle.slots.specs.Slots.{pointsIn, falsifiedIn, depthsIn, front, Within}
-use Rattle.slots.specs.SlotLaws.{front-length, column-long}
+use Rattle.slots.specs.Slots.{pointsIn, falsifiedIn, depthsIn}
 use Rattle.slots.specs.WriteLaws.{wrote-whole}
+use Rattle.slots.proofs.Places.{k, gk, P, N, D, long₁, long₂, long₃, fits-in, fronts-in}
 use Rattle.slots.proofs.Row.{R, mut-again}
 use Rattle.slots.proofs.Lent.{lend, unlend, share, unshare, zeros-typed, abstracted, emptied, big-lit, room64, room32}
 use Rattle.slots.proofs.LeastCalled as Count
@@ -103,44 +101,6 @@ module _ {M : Type 1} (𝓤 : URA M) (H : Heap 𝓤) (A : Atoms 𝓤) (W : Given
   abbrev lent-slots : Fml
   lent-slots = ShrSlice (named 2) κ₂ R .own (x .1 .1 .1 .0) (at .1 .1 .1 .0)
 
-  -- the slots that are used
-  abbrev k : ℕ
-  k = min 65536 (length ys)
-
-  gk : k < 2 ^ 64
-  gk = lt-of-le-of-lt (let z : k ≤ 65536 = omega arith in z) (lit< tt)
-
-  used : k ≤ length ys
-  used = omega arith
-
-  -- the arrays once the slots are copied out
-  abbrev P : List ℕ → List ℕ
-  P ps = front k (pointsIn ys) ps
-
-  abbrev N : List ℕ → List ℕ
-  N fs = front k (falsifiedIn ys) fs
-
-  abbrev D : List ℕ → List ℕ
-  D ds = front k (depthsIn ys) ds
-
-  many : (xs : List ℕ) → length xs ≡ 65536 → k ≤ length xs
-  many xs e = omega (arith, e)
-
-  long₁ : (ps : List ℕ) → length ps ≡ 65536 → length (P ps) ≡ 65536
-  long₁ ps e = front-length k (pointsIn ys) ps (column-long (λ (s : Slot). s .point) k ys used) (many ps e) ∙ e
-
-  long₂ : (fs : List ℕ) → length fs ≡ 65536 → length (N fs) ≡ 65536
-  long₂ fs e = front-length k (falsifiedIn ys) fs (column-long (λ (s : Slot). s .falsified) k ys used) (many fs e) ∙ e
-
-  long₃ : (ds : List ℕ) → length ds ≡ 65536 → length (D ds) ≡ 65536
-  long₃ ds e = front-length k (depthsIn ys) ds (column-long (λ (s : Slot). s .depth) k ys used) (many ds e) ∙ e
-
-  fits-in : (ps fs ds : List ℕ) → length ps ≡ 65536 → length fs ≡ 65536 → length ds ≡ 65536 → Within k (length ys) (length ps) (length fs) (length ds)
-  fits-in ps fs ds e₁ e₂ e₃ = record { inSlots = used; inPoints = many ps e₁; inFalsified = many fs e₂; inDepths = many ds e₃ }
-
-  fronts-in : (ps fs ds : List ℕ) → length ps ≡ 65536 → length fs ≡ 65536 → length ds ≡ 65536 → Within k k (length ps) (length fs) (length ds)
-  fronts-in ps fs ds e₁ e₂ e₃ = record { inSlots = le-refl k; inPoints = many ps e₁; inFalsified = many fs e₂; inDepths = many ds e₃ }
-
   module _ (gf : Is F.the-row f (formula-val f ∷ [])) (room₀ : Room u64 (length us)) (room₁ : Room u64 (length vs)) (room : Room R (length ys)) (gc : count < 2 ^ 32) (room₃ : Room u8 (length os)) where
     abbrev Had : Written → Val → List ℕ → List (Item 𝓤)
     Had r w zs = ‵ (flft κ₀ q₀) ∷ ‵ (flft κ₁ q₁) ∷ ‵ (flft κ₂ q₂) ∷ ‵ (flft κ₃ q₃) ∷ ‵ positive ∷ ‵ negative ∷ ‵ lent-slots ∷ ‵ (fobs δ₃ (codedHoleys u8 .code (heres u8 zs))) ∷ ‵ (fbor κ₃ (Held u8 (length zs) b₃ o₃ δ₃)) ∷ ‵ (O.the-row .own r (w ∷ [])) ∷ []
@@ -176,7 +136,7 @@ module _ {M : Type 1} (𝓤 : URA M) (H : Heap 𝓤) (A : Atoms 𝓤) (W : Given
           assigns ! (of-opd ! (load ! (from ! (fld ! refl (stop !))) (look-in ! 54 (sub ! 1 refl (whole !))))) (from ! (stop !)) (init ! 43 refl (tt, record { fits = room .0 })) $
           Count.asks 65536 (length ys) 𝓤 H A mem run W ! (lit< tt) (room .0) $
           calls-at ! fm (Least 𝓤 H A mem run) known₀ (Count.bound 65536 (length ys) 𝓤 H A mem run) (and-then ! (big-lit ! (record { fits = lit< tt })) (and-then ! (load ! (from ! (stop !)) (look ! 44 refl)) (no-more !))) (λ w.
-          Count.has 65536 (length ys) 𝓤 H A mem run W ! tt w (λ is. land ! (from ! (stop !)) (init ! 45 refl (subst (λ (u : Val). T (hasTy (tyInt w64) u) × WT u) (sym (ap only is)) (tt, record { fits = gk }))) $
+          Count.has 65536 (length ys) 𝓤 H A mem run W ! tt w (λ is. land ! (from ! (stop !)) (init ! 45 refl (subst (λ (u : Val). T (hasTy (tyInt w64) u) × WT u) (sym (ap only is)) (tt, record { fits = gk ys }))) $
           rewrite ! 45 (λ (u : Val). ‵ (fat fullShare (tyInt w64) l₁₀ 0 u)) (ap only is) refl $
           -- the slots are copied out
           assigns ! (addr ! (from ! (stop !))) (from ! (stop !)) (init ! 39 refl (tt, tt)) $
@@ -188,10 +148,10 @@ module _ {M : Type 1} (𝓤 : URA M) (H : Heap 𝓤) (A : Atoms 𝓤) (W : Given
           move ! (10 ∷ []) $ use1 W (‵ lent-slots ⊛ ‵ lent-slots) (shr-slice-copy 𝓤 H A W (named 2) κ₂ R .twice (x .1 .1 .1 .0) (at .1 .1 .1 .0)) $ split ! $ move ! (4 ∷ []) $
           lend ! tt u64 (named 1) 65536 ps l₇ 0 e₁ (room64 ps e₁) (λ ν₁ γ₁. move ! (6 ∷ []) $ lend ! tt u32 (named 2) 65536 fs l₈ 0 e₂ (room32 fs e₂) (λ ν₂ γ₂. move ! (8 ∷ []) $
           lend ! tt u32 (named 3) 65536 ds l₉ 0 e₃ (room32 ds e₃) (λ ν₃ γ₃. move ! (10 ∷ 15 ∷ 6 ∷ 7 ∷ 3 ∷ 4 ∷ 0 ∷ 1 ∷ []) $
-          Out.asks b o l₇ 0 l₈ 0 l₉ 0 γ γ₁ γ₂ γ₃ ys ps fs ds k 65536 κ₂ q₂ ν₁ ν₂ ν₃ 𝓤 H A mem run W ! gk (fits-in ps fs ds e₁ e₂ e₃) $
-          calls-at ! fm (CopyOut 𝓤 H A mem run) known₁ (Out.bound b o l₇ 0 l₈ 0 l₉ 0 γ γ₁ γ₂ γ₃ ys ps fs ds k 65536 κ₂ q₂ ν₁ ν₂ ν₃ 𝓤 H A mem run) (and-then ! (load ! (from ! (stop !)) (look ! 54 refl)) (and-then ! (load ! (from ! (stop !)) (look ! 45 refl)) (and-then ! (load ! (from ! (stop !)) (look ! 37 refl)) (and-then ! (load ! (from ! (stop !)) (look ! 33 refl)) (and-then ! (load ! (from ! (stop !)) (look ! 29 refl)) (no-more !)))))) (λ w₁.
-          Out.has b o l₇ 0 l₈ 0 l₉ 0 γ γ₁ γ₂ γ₃ ys ps fs ds k 65536 κ₂ q₂ ν₁ ν₂ ν₃ 𝓤 H A mem run W ! tt w₁ (λ is₁. land ! (from ! (stop !)) (init ! 47 refl (subst (λ (u : Val). T (hasTy tyUnit u) × WT u) (sym (ap only is₁)) (tt, tt))) $
-          move ! (1 ∷ 9 ∷ 4 ∷ []) $ unlend ! tt u64 (P ps) l₇ 0 $ move ! (2 ∷ 7 ∷ 4 ∷ []) $ unlend ! tt u32 (N fs) l₈ 0 $ move ! (3 ∷ 5 ∷ 4 ∷ []) $ unlend ! tt u32 (D ds) l₉ 0 $
+          Out.asks b o l₇ 0 l₈ 0 l₉ 0 γ γ₁ γ₂ γ₃ ys ps fs ds (k ys) 65536 κ₂ q₂ ν₁ ν₂ ν₃ 𝓤 H A mem run W ! (gk ys) (fits-in ys ps fs ds e₁ e₂ e₃) $
+          calls-at ! fm (CopyOut 𝓤 H A mem run) known₁ (Out.bound b o l₇ 0 l₈ 0 l₉ 0 γ γ₁ γ₂ γ₃ ys ps fs ds (k ys) 65536 κ₂ q₂ ν₁ ν₂ ν₃ 𝓤 H A mem run) (and-then ! (load ! (from ! (stop !)) (look ! 54 refl)) (and-then ! (load ! (from ! (stop !)) (look ! 45 refl)) (and-then ! (load ! (from ! (stop !)) (look ! 37 refl)) (and-then ! (load ! (from ! (stop !)) (look ! 33 refl)) (and-then ! (load ! (from ! (stop !)) (look ! 29 refl)) (no-more !)))))) (λ w₁.
+          Out.has b o l₇ 0 l₈ 0 l₉ 0 γ γ₁ γ₂ γ₃ ys ps fs ds (k ys) 65536 κ₂ q₂ ν₁ ν₂ ν₃ 𝓤 H A mem run W ! tt w₁ (λ is₁. land ! (from ! (stop !)) (init ! 47 refl (subst (λ (u : Val). T (hasTy tyUnit u) × WT u) (sym (ap only is₁)) (tt, tt))) $
+          move ! (1 ∷ 9 ∷ 4 ∷ []) $ unlend ! tt u64 (P ys ps) l₇ 0 $ move ! (2 ∷ 7 ∷ 4 ∷ []) $ unlend ! tt u32 (N ys fs) l₈ 0 $ move ! (3 ∷ 5 ∷ 4 ∷ []) $ unlend ! tt u32 (D ys ds) l₉ 0 $
           -- the certificate is written from the copies
           assigns ! (addr ! (from ! (stop !))) (from ! (stop !)) (init ! 27 refl (tt, tt)) $
           assigns ! (agg ! (and-then ! (load ! (from ! (stop !)) (look ! 27 refl)) (and-then ! (big-lit ! (record { fits = lit< tt })) (no-more !)))) (from ! (stop !)) (init ! 25 refl (tt, (tt, (record { fits = lit< tt }, tt)))) $
@@ -203,24 +163,24 @@ module _ {M : Type 1} (𝓤 : URA M) (H : Heap 𝓤) (A : Atoms 𝓤) (W : Given
           assigns ! (agg ! (and-then ! (load ! (from ! (stop !)) (look ! 15 refl)) (and-then ! (load ! (from ! (fld ! refl (stop !))) (look-in ! 50 (sub ! 1 refl (whole !)))) (no-more !)))) (from ! (stop !)) (init ! 13 refl (tt, (tt, (record { fits = room₃ .0 }, tt)))) $
           move ! (12 ∷ []) $ use1 W (‵ positive ⊛ ‵ positive) (shr-slice-copy 𝓤 H A W (named 0) κ₀ u64 .twice (x .1 .0) (at .1 .0)) $ split ! $ move ! (13 ∷ []) $
           use1 W (‵ negative ⊛ ‵ negative) (shr-slice-copy 𝓤 H A W (named 1) κ₁ u64 .twice (x .1 .1 .0) (at .1 .1 .0)) $ split ! $ move ! (6 ∷ []) $
-          share ! tt u64 (named 2) 65536 (P ps) l₇ 0 (long₁ ps e₁) (room64 (P ps) (long₁ ps e₁)) (λ ν₄ γ₄. move ! (8 ∷ []) $ share ! tt u32 (named 3) 65536 (N fs) l₈ 0 (long₂ fs e₂) (room32 (N fs) (long₂ fs e₂)) (λ ν₅ γ₅. move ! (10 ∷ []) $
-          share ! tt u32 (named 4) 65536 (D ds) l₉ 0 (long₃ ds e₃) (room32 (D ds) (long₃ ds e₃)) (λ ν₆ γ₆. move ! (15 ∷ []) $ lend ! tt u8 (named 5) (length os) os b₃ o₃ refl room₃ (λ ν₇ γ₇.
+          share ! tt u64 (named 2) 65536 (P ys ps) l₇ 0 (long₁ ys ps e₁) (room64 (P ys ps) (long₁ ys ps e₁)) (λ ν₄ γ₄. move ! (8 ∷ []) $ share ! tt u32 (named 3) 65536 (N ys fs) l₈ 0 (long₂ ys fs e₂) (room32 (N ys fs) (long₂ ys fs e₂)) (λ ν₅ γ₅. move ! (10 ∷ []) $
+          share ! tt u32 (named 4) 65536 (D ys ds) l₉ 0 (long₃ ys ds e₃) (room32 (D ys ds) (long₃ ys ds e₃)) (λ ν₆ γ₆. move ! (15 ∷ []) $ lend ! tt u8 (named 5) (length os) os b₃ o₃ refl room₃ (λ ν₇ γ₇.
           move ! (15 ∷ 22 ∷ 13 ∷ 21 ∷ 9 ∷ 10 ∷ 6 ∷ 7 ∷ 3 ∷ 4 ∷ 0 ∷ 1 ∷ []) $
-          Front.asks f us vs κ₀ κ₁ q₀ q₁ c₀ d₀ c₁ d₁ δ₀ δ₁ l₇ 0 l₈ 0 l₉ 0 γ₄ γ₅ γ₆ (P ps) (N fs) (D ds) k 65536 ν₄ ν₅ ν₆ count b₃ o₃ γ₇ os ν₇ 𝓤 H A mem run W ! gf gk gc (fronts-in (P ps) (N fs) (D ds) (long₁ ps e₁) (long₂ fs e₂) (long₃ ds e₃)) $
-          calls-at ! fm (WriteFront 𝓤 H A mem run) known₂ (Front.bound f us vs κ₀ κ₁ q₀ q₁ c₀ d₀ c₁ d₁ δ₀ δ₁ l₇ 0 l₈ 0 l₉ 0 γ₄ γ₅ γ₆ (P ps) (N fs) (D ds) k 65536 ν₄ ν₅ ν₆ count b₃ o₃ γ₇ os ν₇ 𝓤 H A mem run) (and-then ! (load ! (from ! (stop !)) (look ! 59 refl)) (and-then ! (load ! (from ! (stop !)) (look ! 57 refl)) (and-then ! (load ! (from ! (stop !)) (look ! 55 refl)) (and-then ! (load ! (from ! (stop !)) (look ! 24 refl)) (and-then ! (load ! (from ! (stop !)) (look ! 20 refl)) (and-then ! (load ! (from ! (stop !)) (look ! 16 refl)) (and-then ! (load ! (from ! (stop !)) (look ! 44 refl)) (and-then ! (load ! (from ! (stop !)) (look ! 51 refl)) (and-then ! (load ! (from ! (stop !)) (look ! 12 refl)) (no-more !)))))))))) (λ w₂.
-          Front.has f us vs κ₀ κ₁ q₀ q₁ c₀ d₀ c₁ d₁ δ₀ δ₁ l₇ 0 l₈ 0 l₉ 0 γ₄ γ₅ γ₆ (P ps) (N fs) (D ds) k 65536 ν₄ ν₅ ν₆ count b₃ o₃ γ₇ os ν₇ 𝓤 H A mem run W ! tt w₂ (λ r os′ same told. move ! (7 ∷ []) $
-          peeks ! O.the-row (Is O.the-row) (shows 𝓤 H A O.the-row) r (w₂ ∷ []) (λ iso. land ! (from ! (stop !)) (init ! 68 refl (written-typed 𝓤 H A W r w₂ iso)) $ move ! (3 ∷ 11 ∷ []) $ unshare ! tt u64 (P ps) l₇ 0 $ move ! (4 ∷ 10 ∷ []) $
-          unshare ! tt u32 (N fs) l₈ 0 $ move ! (5 ∷ 9 ∷ []) $ unshare ! tt u32 (D ds) l₉ 0 $ move ! (6 ∷ 8 ∷ 7 ∷ []) $ unlend ! tt u8 os′ b₃ o₃ $
+          Front.asks f us vs κ₀ κ₁ q₀ q₁ c₀ d₀ c₁ d₁ δ₀ δ₁ l₇ 0 l₈ 0 l₉ 0 γ₄ γ₅ γ₆ (P ys ps) (N ys fs) (D ys ds) (k ys) 65536 ν₄ ν₅ ν₆ count b₃ o₃ γ₇ os ν₇ 𝓤 H A mem run W ! gf (gk ys) gc (fronts-in ys (P ys ps) (N ys fs) (D ys ds) (long₁ ys ps e₁) (long₂ ys fs e₂) (long₃ ys ds e₃)) $
+          calls-at ! fm (WriteFront 𝓤 H A mem run) known₂ (Front.bound f us vs κ₀ κ₁ q₀ q₁ c₀ d₀ c₁ d₁ δ₀ δ₁ l₇ 0 l₈ 0 l₉ 0 γ₄ γ₅ γ₆ (P ys ps) (N ys fs) (D ys ds) (k ys) 65536 ν₄ ν₅ ν₆ count b₃ o₃ γ₇ os ν₇ 𝓤 H A mem run) (and-then ! (load ! (from ! (stop !)) (look ! 59 refl)) (and-then ! (load ! (from ! (stop !)) (look ! 57 refl)) (and-then ! (load ! (from ! (stop !)) (look ! 55 refl)) (and-then ! (load ! (from ! (stop !)) (look ! 24 refl)) (and-then ! (load ! (from ! (stop !)) (look ! 20 refl)) (and-then ! (load ! (from ! (stop !)) (look ! 16 refl)) (and-then ! (load ! (from ! (stop !)) (look ! 44 refl)) (and-then ! (load ! (from ! (stop !)) (look ! 51 refl)) (and-then ! (load ! (from ! (stop !)) (look ! 12 refl)) (no-more !)))))))))) (λ w₂.
+          Front.has f us vs κ₀ κ₁ q₀ q₁ c₀ d₀ c₁ d₁ δ₀ δ₁ l₇ 0 l₈ 0 l₉ 0 γ₄ γ₅ γ₆ (P ys ps) (N ys fs) (D ys ds) (k ys) 65536 ν₄ ν₅ ν₆ count b₃ o₃ γ₇ os ν₇ 𝓤 H A mem run W ! tt w₂ (λ r os′ same told. move ! (7 ∷ []) $
+          peeks ! O.the-row (Is O.the-row) (shows 𝓤 H A O.the-row) r (w₂ ∷ []) (λ iso. land ! (from ! (stop !)) (init ! 68 refl (written-typed 𝓤 H A W r w₂ iso)) $ move ! (3 ∷ 11 ∷ []) $ unshare ! tt u64 (P ys ps) l₇ 0 $ move ! (4 ∷ 10 ∷ []) $
+          unshare ! tt u32 (N ys fs) l₈ 0 $ move ! (5 ∷ 9 ∷ []) $ unshare ! tt u32 (D ys ds) l₉ 0 $ move ! (6 ∷ 8 ∷ 7 ∷ []) $ unlend ! tt u8 os′ b₃ o₃ $
           -- the output's borrow is closed, and the locals are given up
-          move ! (0 ∷ 11 ∷ 12 ∷ 13 ∷ []) $ closes-slice ! tt u8 os os′ same b₃ o₃ $ move ! (5 ∷ []) $ emptied ! w64 65536 l₇ (P ps) (long₁ ps e₁) $ move ! (5 ∷ []) $ emptied ! w32 65536 l₈ (N fs) (long₂ fs e₂) $ move ! (5 ∷ []) $
-          emptied ! w32 65536 l₉ (D ds) (long₃ ds e₃) $ returns ! (look ! 62 refl) $ forget ! 62 refl $ forget ! 60 refl $ forget ! 58 refl $ forget ! 56 refl $ forget ! 54 refl $ forget ! 52 refl $ forget ! 50 refl $ forget ! 45 refl $
+          move ! (0 ∷ 11 ∷ 12 ∷ 13 ∷ []) $ closes-slice ! tt u8 os os′ same b₃ o₃ $ move ! (5 ∷ []) $ emptied ! w64 65536 l₇ (P ys ps) (long₁ ys ps e₁) $ move ! (5 ∷ []) $ emptied ! w32 65536 l₈ (N ys fs) (long₂ ys fs e₂) $ move ! (5 ∷ []) $
+          emptied ! w32 65536 l₉ (D ys ds) (long₃ ys ds e₃) $ returns ! (look ! 62 refl) $ forget ! 62 refl $ forget ! 60 refl $ forget ! 58 refl $ forget ! 56 refl $ forget ! 54 refl $ forget ! 52 refl $ forget ! 50 refl $ forget ! 45 refl $
           forget ! 43 refl $ forget ! 41 refl $ forget ! 39 refl $ forget ! 37 refl $ forget ! 35 refl $ forget ! 33 refl $ forget ! 31 refl $ forget ! 29 refl $ forget ! 27 refl $ forget ! 25 refl $ forget ! 23 refl $ forget ! 21 refl $
           forget ! 19 refl $ forget ! 17 refl $ forget ! 15 refl $ forget ! 13 refl $ move ! (62 ∷ 63 ∷ []) $ free1 ! $ move ! (60 ∷ 61 ∷ []) $ free1 ! $ move ! (58 ∷ 59 ∷ []) $ free1 ! $ move ! (56 ∷ 57 ∷ []) $ free1 ! $
           move ! (54 ∷ 55 ∷ []) $ free1 ! $ move ! (52 ∷ 53 ∷ []) $ free1 ! $ move ! (50 ∷ 51 ∷ []) $ free1 ! $ move ! (2 ∷ 49 ∷ []) $ free1 ! $ move ! (1 ∷ 47 ∷ []) $ free1 ! $ move ! (0 ∷ 45 ∷ []) $ free1 ! $ move ! (42 ∷ 43 ∷ []) $
           free1 ! $ move ! (40 ∷ 41 ∷ []) $ free1 ! $ move ! (38 ∷ 39 ∷ []) $ free1 ! $ move ! (36 ∷ 37 ∷ []) $ free1 ! $ move ! (34 ∷ 35 ∷ []) $ free1 ! $ move ! (32 ∷ 33 ∷ []) $ free1 ! $ move ! (30 ∷ 31 ∷ []) $ free1 ! $
           move ! (28 ∷ 29 ∷ []) $ free1 ! $ move ! (26 ∷ 27 ∷ []) $ free1 ! $ move ! (24 ∷ 25 ∷ []) $ free1 ! $ move ! (22 ∷ 23 ∷ []) $ free1 ! $ move ! (20 ∷ 21 ∷ []) $ free1 ! $ move ! (18 ∷ 19 ∷ []) $ free1 ! $ move ! (16 ∷ 17 ∷ []) $
           free1 ! $ move ! (14 ∷ 15 ∷ []) $ free1 ! $ move ! (12 ∷ 13 ∷ []) $ free1 ! $ move ! (10 ∷ 11 ∷ []) $ free1 ! $ free0 ! $ keep ! (4 ∷ 5 ∷ 8 ∷ 2 ∷ 7 ∷ 6 ∷ 9 ∷ 0 ∷ 1 ∷ 3 ∷ []) $
-          by ! (exits r w₂ os′ same (wrote-whole f us vs ys k refl count os ps fs ds r os′ told)))))))))))))))))))))))))))))))))))))))))))))))))
+          by ! (exits r w₂ os′ same (wrote-whole f us vs ys (k ys) refl count os ps fs ds r os′ told)))))))))))))))))))))))))))))))))))))))))))))))))
 
 module _ {M : Type 1} (𝓤 : URA M) (H : Heap 𝓤) (A : Atoms 𝓤) (W : Given 𝓤 H A) (mem : Memory → SProp 𝓤) (run : Routine → Fun 𝓤) (𝓣 : Tables 𝓤 H) (known₀ : Triple 𝓤 (𝓣 .C #slices·least) (Least 𝓤 H A mem run)) (known₁ : Triple 𝓤 (𝓣 .C #slots·copy-out) (CopyOut 𝓤 H A mem run))
     (known₂ : Triple 𝓤 (𝓣 .C #slots·write-front) (WriteFront 𝓤 H A mem run)) where
@@ -233,9 +193,19 @@ module _ {M : Type 1} (𝓤 : URA M) (H : Heap 𝓤) (A : Atoms 𝓤) (W : Given
       (are .0) (are .1 .0 .0 .1) (are .1 .1 .0 .0 .1) (are .1 .1 .1 .0 .0 .1) (are .1 .1 .1 .1 .0 .1) (are .1 .1 .1 .1 .1 .0 .0 .1) (𝓣 .C) (𝓣 .Λ) (fmOf 𝓤 H (W .laws) 𝓣) known₀ known₁ known₂))
 
   meets : Meets 𝓤 H A this.signature (WpFn 𝓤 H (𝓣 .C) (𝓣 .Λ) code.function) (this.spec 𝓤 H A mem run)
-  meets = walk-meets 𝓤 H A this.ended stayed W
-      (goes-none 𝓤 H A W 4 (λ _. F.the-row) yes (λ κs x f. refl), (goes-none-slice 𝓤 H A W 4 (0 ∷ []) tt (plain (λ _. u64)) yes, (goes-none-slice 𝓤 H A W 4 (1 ∷ []) tt (plain (λ _. u64)) yes, (goes-none-slice 𝓤 H A W 4 (2 ∷ []) tt (plain (λ _. R)) yes,
-      (goes-none 𝓤 H A W 4 (λ _. u32) yes (λ κs x f. refl), (goes-slice 𝓤 H A W 4 3 tt (plain (λ _. u8)), tt))))))
+  meets = walk-meets 𝓤 H A this.ended stayed W (
+    goes-none 𝓤 H A W 4 (λ _. F.the-row) yes (λ κs x f. refl),
+    (
+      goes-none-slice 𝓤 H A W 4 (0 ∷ []) tt (plain (λ _. u64)) yes,
+      (
+        goes-none-slice 𝓤 H A W 4 (1 ∷ []) tt (plain (λ _. u64)) yes,
+        (
+          goes-none-slice 𝓤 H A W 4 (2 ∷ []) tt (plain (λ _. R)) yes,
+          (goes-none 𝓤 H A W 4 (λ _. u32) yes (λ κs x f. refl), (goes-slice 𝓤 H A W 4 3 tt (plain (λ _. u8)), tt)),
+        ),
+      ),
+    ),
+  )
       (this.clauses 𝓤 H A mem run) (WpFn 𝓤 H (𝓣 .C) (𝓣 .Λ) code.function) (WpFn-mono 𝓤 H (W .laws) 𝓣 code.function) walks
 
 pub write-slots-spec : {M : Type 1} → stated.statement M
