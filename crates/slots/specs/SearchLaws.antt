@@ -16,6 +16,7 @@ use Rattle.search.specs.Builder.{Searched, searchReply, searchFault, searchSlot
 use Rattle.traversal.specs.Walk as W
 use Rattle.slots.specs.declared.Slot.{Slot}
 use Rattle.slots.specs.Slots.{pointsIn, falsifiedIn, depthsIn, joined, front}
+use Rattle.slots.specs.SlotLaws.{joined-columns}
 
 module _ {X : Type 0} where
   -- the copies stand in front
@@ -134,3 +135,10 @@ module _ (f : Formula) (positive negative : List ℕ) (ys : List Slot) (k : ℕ)
         depths = column-front depth-of k (joined ps fs ds) ys ∙ ap (λ l. over l (depthsIn ys)) (parts .1 .1) ∙ slice-whole (λ (t : W.Slot). t .depth) f positive negative (lentBy (pointsIn ys) (falsifiedIn ys) (depthsIn ys)) k (depthsIn ys) (take k ds) (enough depth-of) (length-take-le k ds h₃)
             (s .depths ∙ (λ i. searchSlice (λ (t : W.Slot). t .depth) f positive negative (room i) (found depth-of ds₀ i)));
       }
+
+-- so the slots that `search_slots` leaves are the three lists that the search leaves, joined
+pub slots-joined : (f : Formula) (positive negative : List ℕ) (xs zs : List Slot) (r : Outcome)
+    → Searched f positive negative (pointsIn xs) (falsifiedIn xs) (depthsIn xs) r (pointsIn zs) (falsifiedIn zs) (depthsIn zs)
+    → let lent = lentBy (pointsIn xs) (falsifiedIn xs) (depthsIn xs) in
+    zs ≡ joined (searchSlice (λ (t : W.Slot). t .point) f positive negative lent (pointsIn xs)) (searchSlice (λ (t : W.Slot). t .falsified) f positive negative lent (falsifiedIn xs)) (searchSlice (λ (t : W.Slot). t .depth) f positive negative lent (depthsIn xs))
+slots-joined f positive negative xs zs r s = sym (joined-columns zs) ∙ (λ i. joined (s .points i) (s .falsified i) (s .depths i))

@@ -12,7 +12,7 @@ use Rattle.formula.specs.declared.Formula.{Formula}
 use Rattle.search.specs.declared.Outcome.{Outcome}
 use Rattle.search.specs.Builder.{Searched}
 use Rattle.slots.specs.declared.Slot.{Slot}
-use Rattle.slots.specs.Slots.{slotOf, slotOr, blank, joined, front}
+use Rattle.slots.specs.Slots.{slotOf, slotOr, blank, pointsIn, falsifiedIn, depthsIn, joined, front}
 
 module _ {X : Type 0} where
   -- nothing is copied yet
@@ -74,3 +74,8 @@ searched-fronts k f positive negative points₀ falsified₀ depths₀ r points�
   falsified = take-at falsified₁ falsified₂ k e₂ ∙ s .falsified;
   depths = take-at depths₁ depths₂ k e₃ ∙ s .depths;
 }
+
+-- the three parts of a list of slots say the whole list
+pub joined-columns : (xs : List Slot) → joined (pointsIn xs) (falsifiedIn xs) (depthsIn xs) ≡ xs
+joined-columns [] = refl
+joined-columns (x ∷ xs) = ap (λ l. x ∷ l) (joined-columns xs)

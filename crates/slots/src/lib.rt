@@ -72,12 +72,12 @@ pub fn copy_back(slots: &mut [Slot], k: usize, points: &[u64], falsified: &[u32]
 {
     let mut i = 0;
     while i < k {
-        let s = Slot {
+        let made = Slot {
             point: points[i],
             falsified: falsified[i],
             depth: depths[i],
         };
-        slots[i] = s;
+        slots[i] = made;
         i = i + 1;
     }
 }
