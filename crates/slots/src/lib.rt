@@ -1,4 +1,4 @@
-// The slots as one lent slice of structs (01: 'Walk'): thin functions over the search and the writer, which take three slices.
+// F9: the slots as one lent slice of structs (01: 'Walk'): thin functions over the search and the writer, which take three slices.
 use certificate::Written;
 use formula::Formula;
 use points::Point;
