@@ -6,9 +6,9 @@ use native.Mathlib.Omega.{arith}
 use mathlib.Core.List.{List}
 use lib.Dec.{lit<}
 use lib.ListN.{length}
-use Rattle.slots.specs.declared.Slot.{Slot}
-use Rattle.slots.specs.Slots.{pointsIn, falsifiedIn, depthsIn, front, Within}
-use Rattle.slots.specs.SlotLaws.{front-length, column-long}
+use Rattle.columns.specs.declared.Slot.{Slot}
+use Rattle.columns.specs.Slots.{pointsIn, falsifiedIn, depthsIn, front, Within}
+use Rattle.columns.specs.SlotLaws.{front-length, column-long}
 
 module _ (ys : List Slot) where
   -- the slots that are used

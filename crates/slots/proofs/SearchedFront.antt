@@ -37,7 +37,7 @@ use Rattle.search.specs.declared.Outcome.{Outcome}
 use Rattle.search.specs.Builder.{Searched}
 use Rattle.search.proofs.Outcome as O
 use Rattle.search.proofs.Outcome.Laws as O′
-use Rattle.slots.specs.Slots.{Within}
+use Rattle.columns.specs.Slots.{Within}
 use Rattle.slots.proofs.search_front as search-front
 
 abbrev pub SearchFront : {M : Type 1} (𝓤 : URA M) (H : Heap 𝓤) (A : Atoms 𝓤) (mem : Memory → SProp 𝓤) (run : Routine → Fun 𝓤) → Contract 𝓤

@@ -37,7 +37,7 @@ use Rattle.certificate.specs.declared.Written.{Written}
 use Rattle.certificate.specs.Writer.{Wrote}
 use Rattle.certificate.proofs.Written as O
 use Rattle.certificate.proofs.Written.Laws as O′
-use Rattle.slots.specs.Slots.{Within}
+use Rattle.columns.specs.Slots.{Within}
 use Rattle.slots.proofs.SearchedFront.{formula-val}
 use Rattle.slots.proofs.write_front as write-front
 

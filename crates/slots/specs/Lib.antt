@@ -1,4 +1,3 @@
-pub mod Slots
-pub mod SlotLaws
+pub mod FrontLaws
 pub mod SearchLaws
 pub mod WriteLaws

@@ -14,9 +14,9 @@ use Rattle.formula.specs.Reply.{Fault, sound, fault, unlessKept}
 use Rattle.search.specs.declared.Outcome.{Outcome}
 use Rattle.search.specs.Builder.{Searched, searchReply, searchFault, searchSlots, searchSlice, lentBy}
 use Rattle.traversal.specs.Walk as W
-use Rattle.slots.specs.declared.Slot.{Slot}
-use Rattle.slots.specs.Slots.{pointsIn, falsifiedIn, depthsIn, joined, front}
-use Rattle.slots.specs.SlotLaws.{joined-columns}
+use Rattle.columns.specs.declared.Slot.{Slot}
+use Rattle.columns.specs.Slots.{pointsIn, falsifiedIn, depthsIn, joined, front}
+use Rattle.columns.specs.SlotLaws.{joined-columns}
 
 module _ {X : Type 0} where
   -- the copies stand in front

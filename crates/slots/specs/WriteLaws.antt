@@ -20,9 +20,9 @@ use Rattle.certificate.specs.Certificate.{encode}
 use Rattle.certificate.specs.Rows.{pointPasses, pointsFault, numbersFault, roomFault}
 use Rattle.certificate.specs.RowLaws.{points-fault-take, numbers-fault-take}
 use Rattle.certificate.specs.Writer.{Wrote, writeFault, writeReply, writeOutput, certificateOf, lengthNeeded}
-use Rattle.slots.specs.declared.Slot.{Slot}
-use Rattle.slots.specs.Slots.{pointsIn, falsifiedIn, depthsIn, front}
-use Rattle.slots.specs.SlotLaws.{column-long}
+use Rattle.columns.specs.declared.Slot.{Slot}
+use Rattle.columns.specs.Slots.{pointsIn, falsifiedIn, depthsIn, front}
+use Rattle.columns.specs.SlotLaws.{column-long}
 use Rattle.slots.specs.SearchLaws.{front-take, min-thrice}
 
 -- ---- tests in order

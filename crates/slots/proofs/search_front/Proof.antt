@@ -2,7 +2,7 @@ use mathlib.Core.Path.{sym, _∙_}
 use lib.ListN.{take, drop}
 use lib.Seq.{length-take-le}
 use borrow.Author.Needs.{needs}
-use Rattle.slots.specs.SlotLaws.{searched-fronts}
+use Rattle.slots.specs.FrontLaws.{searched-fronts}
 use Rattle.slots.proofs.search_front.Statement.{statement}
 use Rattle.slots.proofs.search_front.Tie as tie
 use Rattle.slots.proofs.search_front.Reads as reads

@@ -49,22 +49,22 @@ use Rattle.certificate.proofs.Written as O
 use Rattle.slices.proofs.least.Symbol as least-def
 use Rattle.slices.proofs.least.Symbol.{name as #slices·least}
 use Rattle.slices.proofs.least.Met as least-thm
-use Rattle.slots.specs.declared.Slot.{Slot}
-use Rattle.slots.specs.Slots.{pointsIn, falsifiedIn, depthsIn}
+use Rattle.columns.specs.declared.Slot.{Slot}
+use Rattle.columns.specs.Slots.{pointsIn, falsifiedIn, depthsIn}
 use Rattle.slots.specs.WriteLaws.{wrote-whole}
 use Rattle.slots.proofs.Places.{k, gk, P, N, D, long₁, long₂, long₃, fits-in, fronts-in}
-use Rattle.slots.proofs.Row.{R, mut-again}
+use Rattle.columns.proofs.Row.{R, mut-again}
 use Rattle.slots.proofs.Lent.{lend, unlend, share, unshare, zeros-typed, abstracted, emptied, big-lit, room64, room32}
 use Rattle.slots.proofs.LeastCalled as Count
 use Rattle.slots.proofs.LeastCalled.{Least}
-use Rattle.slots.proofs.CopiedOut as Out
-use Rattle.slots.proofs.CopiedOut.{CopyOut}
+use Rattle.columns.proofs.CopiedOut as Out
+use Rattle.columns.proofs.CopiedOut.{CopyOut}
 use Rattle.slots.proofs.SearchedFront.{formula-val, formula-typed}
 use Rattle.slots.proofs.WrittenFront as Front
 use Rattle.slots.proofs.WrittenFront.{WriteFront, written-typed}
-use Rattle.slots.proofs.copy_out.Symbol as copy-out-def
-use Rattle.slots.proofs.copy_out.Symbol.{name as #slots·copy-out}
-use Rattle.slots.proofs.copy_out.Met as copy-out-thm
+use Rattle.columns.proofs.copy_out.Symbol as copy-out-def
+use Rattle.columns.proofs.copy_out.Symbol.{name as #columns·copy-out}
+use Rattle.columns.proofs.copy_out.Met as copy-out-thm
 use Rattle.slots.proofs.write_front.Symbol as write-front-def
 use Rattle.slots.proofs.write_front.Symbol.{name as #slots·write-front}
 use Rattle.slots.proofs.write_front.Met as write-front-thm
@@ -114,7 +114,7 @@ module _ {M : Type 1} (𝓤 : URA M) (H : Heap 𝓤) (A : Atoms 𝓤) (W : Given
         move ! (3 ∷ 0 ∷ []) $ fjoin ! $ move ! (2 ∷ 0 ∷ []) $ fjoin ! $ move ! (1 ∷ 0 ∷ []) $ fjoin ! $
         owned ! F.the-row (Is F.the-row) (LL.makes F.the-type F′.the-plain 𝓤 H A) f (formula-val f ∷ []) gf $ fjoin ! $ frame ! $ done !
 
-    module _ (C : Calls 𝓤 H) (Λ : Loops 𝓤 H) (fm : FmC 𝓤 H (W .laws) C) (known₀ : Triple 𝓤 (C #slices·least) (Least 𝓤 H A mem run)) (known₁ : Triple 𝓤 (C #slots·copy-out) (CopyOut 𝓤 H A mem run))
+    module _ (C : Calls 𝓤 H) (Λ : Loops 𝓤 H) (fm : FmC 𝓤 H (W .laws) C) (known₀ : Triple 𝓤 (C #slices·least) (Least 𝓤 H A mem run)) (known₁ : Triple 𝓤 (C #columns·copy-out) (CopyOut 𝓤 H A mem run))
         (known₂ : Triple 𝓤 (C #slots·write-front) (WriteFront 𝓤 H A mem run)) where
       walk : ent 𝓤 (onEntry 𝓤 H A this.signature (κ₀, (κ₁, (κ₂, (κ₃, tt)))) (q₀, (q₁, (q₂, (q₃, tt)))) x at)
           (WpFn 𝓤 H C Λ code.function (formula-val f ∷ sliceVal (c₀, d₀) (length us) ∷ sliceVal (c₁, d₁) (length vs) ∷ sliceVal (b, o) (length ys) ∷ vint w32 count ∷ sliceVal (b₃, o₃) (length os) ∷ []) Post)
@@ -182,7 +182,7 @@ module _ {M : Type 1} (𝓤 : URA M) (H : Heap 𝓤) (A : Atoms 𝓤) (W : Given
           free1 ! $ move ! (14 ∷ 15 ∷ []) $ free1 ! $ move ! (12 ∷ 13 ∷ []) $ free1 ! $ move ! (10 ∷ 11 ∷ []) $ free1 ! $ free0 ! $ keep ! (4 ∷ 5 ∷ 8 ∷ 2 ∷ 7 ∷ 6 ∷ 9 ∷ 0 ∷ 1 ∷ 3 ∷ []) $
           by ! (exits r w₂ os′ same (wrote-whole f us vs ys (k ys) refl count os ps fs ds r os′ told)))))))))))))))))))))))))))))))))))))))))))))))))
 
-module _ {M : Type 1} (𝓤 : URA M) (H : Heap 𝓤) (A : Atoms 𝓤) (W : Given 𝓤 H A) (mem : Memory → SProp 𝓤) (run : Routine → Fun 𝓤) (𝓣 : Tables 𝓤 H) (known₀ : Triple 𝓤 (𝓣 .C #slices·least) (Least 𝓤 H A mem run)) (known₁ : Triple 𝓤 (𝓣 .C #slots·copy-out) (CopyOut 𝓤 H A mem run))
+module _ {M : Type 1} (𝓤 : URA M) (H : Heap 𝓤) (A : Atoms 𝓤) (W : Given 𝓤 H A) (mem : Memory → SProp 𝓤) (run : Routine → Fun 𝓤) (𝓣 : Tables 𝓤 H) (known₀ : Triple 𝓤 (𝓣 .C #slices·least) (Least 𝓤 H A mem run)) (known₁ : Triple 𝓤 (𝓣 .C #columns·copy-out) (CopyOut 𝓤 H A mem run))
     (known₂ : Triple 𝓤 (𝓣 .C #slots·write-front) (WriteFront 𝓤 H A mem run)) where
   walks : Walks 𝓤 H A this.ended stayed (WpFn 𝓤 H (𝓣 .C) (𝓣 .Λ) code.function) (this.clauses 𝓤 H A mem run)
   walks = walked 𝓤 H A this.ended stayed (this.clauses 𝓤 H A mem run) (WpFn 𝓤 H (𝓣 .C) (𝓣 .Λ) code.function) (λ κs. (LL.vals F.the-type F′.the-laws, (slice-vals, (slice-vals, (slice-vals, (uint-vals w32, (slice-vals, tt)))))))
@@ -215,5 +215,5 @@ write-slots-spec 𝓤 H 𝓜 𝓖 𝓡 =
     (tables 𝓤 H 𝓜 𝓡 code.env .C) (tables 𝓤 H 𝓜 𝓡 code.env .Λ) #slots·write-slots code.function (code.unfolded 𝓤 H 𝓜 𝓡)
     (meets 𝓤 H (𝓖 .A) (givenOf 𝓤 H 𝓜 𝓖) (𝓜 .mem) (𝓡 .run) (tablesOf 𝓤 H 𝓜 (tables 𝓤 H 𝓜 𝓡 code.env))
     (cited 𝓤 H (Least 𝓤 H (𝓖 .A) (𝓜 .mem) (𝓡 .run)) 𝓜 𝓡 code.env #slices·least least-def.routine code.calls-slices·least (least-thm.met 𝓤 H 𝓜 𝓖 𝓡))
-    (cited 𝓤 H (CopyOut 𝓤 H (𝓖 .A) (𝓜 .mem) (𝓡 .run)) 𝓜 𝓡 code.env #slots·copy-out copy-out-def.routine code.calls-slots·copy-out (copy-out-thm.met 𝓤 H 𝓜 𝓖 𝓡))
+    (cited 𝓤 H (CopyOut 𝓤 H (𝓖 .A) (𝓜 .mem) (𝓡 .run)) 𝓜 𝓡 code.env #columns·copy-out copy-out-def.routine code.calls-columns·copy-out (copy-out-thm.met 𝓤 H 𝓜 𝓖 𝓡))
     (cited 𝓤 H (WriteFront 𝓤 H (𝓖 .A) (𝓜 .mem) (𝓡 .run)) 𝓜 𝓡 code.env #slots·write-front write-front-def.routine code.calls-slots·write-front (write-front-thm.met 𝓤 H 𝓜 𝓖 𝓡)))

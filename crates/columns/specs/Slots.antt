@@ -3,7 +3,7 @@ use mathlib.Core.List.{List, [], _∷_, map}
 use Prim.Native.Nat.{ℕ, _≤_}
 use lib.ListN.{getD, take}
 use Rattle.math.specs.Lists.{over}
-use Rattle.slots.specs.declared.Slot.{Slot}
+use Rattle.columns.specs.declared.Slot.{Slot}
 
 abbrev pub slotOf : ℕ → ℕ → ℕ → Slot
 slotOf x n d = record { point = x; falsified = n; depth = d }

@@ -27,10 +27,10 @@ use denote.Triple.Clauses.{ensured, lasts}
 use denote.Triple.Spec.{tripleOf}
 use denote.Triple.Statement.{Contract}
 use denote.Triple.Walked.{says}
-use Rattle.slots.specs.declared.Slot.{Slot}
-use Rattle.slots.specs.Slots.{pointsIn, falsifiedIn, depthsIn, front, Within}
-use Rattle.slots.proofs.Row.{R}
-use Rattle.slots.proofs.copy_out as copy-out
+use Rattle.columns.specs.declared.Slot.{Slot}
+use Rattle.columns.specs.Slots.{pointsIn, falsifiedIn, depthsIn, front, Within}
+use Rattle.columns.proofs.Row.{R}
+use Rattle.columns.proofs.copy_out as copy-out
 
 abbrev pub CopyOut : {M : Type 1} (𝓤 : URA M) (H : Heap 𝓤) (A : Atoms 𝓤) (mem : Memory → SProp 𝓤) (run : Routine → Fun 𝓤) → Contract 𝓤
 CopyOut 𝓤 H A mem run = tripleOf 𝓤 H A copy-out.signature (copy-out.spec 𝓤 H A mem run)

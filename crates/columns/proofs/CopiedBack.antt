@@ -27,10 +27,10 @@ use denote.Triple.Clauses.{ensured, lasts}
 use denote.Triple.Spec.{tripleOf}
 use denote.Triple.Statement.{Contract}
 use denote.Triple.Walked.{says}
-use Rattle.slots.specs.declared.Slot.{Slot}
-use Rattle.slots.specs.Slots.{joined, front, Within}
-use Rattle.slots.proofs.Row.{R}
-use Rattle.slots.proofs.copy_back as copy-back
+use Rattle.columns.specs.declared.Slot.{Slot}
+use Rattle.columns.specs.Slots.{joined, front, Within}
+use Rattle.columns.proofs.Row.{R}
+use Rattle.columns.proofs.copy_back as copy-back
 
 abbrev pub CopyBack : {M : Type 1} (𝓤 : URA M) (H : Heap 𝓤) (A : Atoms 𝓤) (mem : Memory → SProp 𝓤) (run : Routine → Fun 𝓤) → Contract 𝓤
 CopyBack 𝓤 H A mem run = tripleOf 𝓤 H A copy-back.signature (copy-back.spec 𝓤 H A mem run)

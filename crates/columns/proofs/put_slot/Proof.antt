@@ -1,4 +1,4 @@
--- `slots::put_slot` meets its contract: a walk of its MIR, by hand. The borrow is opened, the element is taken out of the row and stored to whole, and the borrow is closed at the new list.
+-- `columns::put_slot` meets its contract: a walk of its MIR, by hand. The borrow is opened, the element is taken out of the row and stored to whole, and the borrow is closed at the new list.
 -- Assumes nothing.
 use mathlib.Core.Path.{refl, sym, ap, subst}
 use Prim.Native.Nat.{ℕ, _<_, _^_, _*_, _+_}
@@ -36,13 +36,13 @@ use denote.Triple.Spec.{Meets, tripleOf}
 use denote.Triple.Table.{entered}
 use denote.Triple.Walked.{says, needs, Stays, stay-slice, stay-none, walkOf, goes-slice, goes-none, Walks, ends-at, walked, walk-meets}
 use denote.Exit.{yes}
-use Rattle.slots.specs.declared.Slot.{Slot}
-use Rattle.slots.specs.Slots.{blank}
-use Rattle.slots.proofs.Row.{R, val, vals, spells, owes, typed, scaled, element-place}
-use Rattle.slots.proofs.put_slot.Key.{name as #slots·put-slot}
-use Rattle.slots.proofs.put_slot as this
-use Rattle.slots.proofs.put_slot.Statement as stated
-use Rattle.slots.proofs.put_slot.Code as code
+use Rattle.columns.specs.declared.Slot.{Slot}
+use Rattle.columns.specs.Slots.{blank}
+use Rattle.columns.proofs.Row.{R, val, vals, spells, owes, typed, scaled, element-place}
+use Rattle.columns.proofs.put_slot.Key.{name as #columns·put-slot}
+use Rattle.columns.proofs.put_slot as this
+use Rattle.columns.proofs.put_slot.Statement as stated
+use Rattle.columns.proofs.put_slot.Code as code
 
 abbrev stayed : Stays (this.ended .signature .params) (this.ended .kept)
 stayed = (stay-slice (0 ∷ []) tt (plain (λ _. R)), (stay-none (λ _. usize) yes, (stay-none (λ _. R) yes, tt)))
@@ -107,5 +107,5 @@ pub put-slot-spec : {M : Type 1} → stated.statement M
 unfolding code.routine tablesOf
 put-slot-spec 𝓤 H 𝓜 𝓖 𝓡 =
     entered 𝓤 H (tripleOf 𝓤 H (𝓖 .A) this.signature (this.spec 𝓤 H (𝓖 .A) (𝓜 .mem) (𝓡 .run)))
-    (tables 𝓤 H 𝓜 𝓡 code.env .C) (tables 𝓤 H 𝓜 𝓡 code.env .Λ) #slots·put-slot code.function (code.unfolded 𝓤 H 𝓜 𝓡)
+    (tables 𝓤 H 𝓜 𝓡 code.env .C) (tables 𝓤 H 𝓜 𝓡 code.env .Λ) #columns·put-slot code.function (code.unfolded 𝓤 H 𝓜 𝓡)
     (meets 𝓤 H (𝓖 .A) (givenOf 𝓤 H 𝓜 𝓖) (𝓜 .mem) (𝓡 .run) (tablesOf 𝓤 H 𝓜 (tables 𝓤 H 𝓜 𝓡 code.env)))

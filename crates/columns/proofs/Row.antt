@@ -27,10 +27,10 @@ use denote.Memory.{shares}
 use denote.Shadow.{pureI}
 use denote.Slice.{Room, sliceVal, MutSlice, ShrSlice, heres, at-slice, codedHoleys}
 use denote.Struct.Laws as LL
-use Rattle.slots.specs.declared.Slot.{Slot}
-use Rattle.slots.specs.Slots.{slotOf}
-use Rattle.slots.proofs.Slot as S
-use Rattle.slots.proofs.Slot.Laws as S′
+use Rattle.columns.specs.declared.Slot.{Slot}
+use Rattle.columns.specs.Slots.{slotOf}
+use Rattle.columns.proofs.Slot as S
+use Rattle.columns.proofs.Slot.Laws as S′
 
 abbrev pub R : RattleType
 R = S.the-row

@@ -5,14 +5,11 @@ use Prim.Native.Nat.{ℕ, zero, suc, _+_, _-_, _<_, _≤_}
 use native.Mathlib.Nat.{lt-of-lt-of-le, not-suc-le-zero, le-of-suc-le-suc}
 use native.Mathlib.Omega.{arith}
 use lib.ListN.{length, getD, set, take, drop, length-map, length-append, length-drop, List·getD-map}
-use lib.Seq.{length-take-le, take-at}
+use lib.Seq.{length-take-le}
 use Rattle.math.specs.Lists.{over}
 use Rattle.math.specs.OverLaws.{over-none, over-take-next}
-use Rattle.formula.specs.declared.Formula.{Formula}
-use Rattle.search.specs.declared.Outcome.{Outcome}
-use Rattle.search.specs.Builder.{Searched}
-use Rattle.slots.specs.declared.Slot.{Slot}
-use Rattle.slots.specs.Slots.{slotOf, slotOr, blank, pointsIn, falsifiedIn, depthsIn, joined, front}
+use Rattle.columns.specs.declared.Slot.{Slot}
+use Rattle.columns.specs.Slots.{slotOf, slotOr, blank, pointsIn, falsifiedIn, depthsIn, joined, front}
 
 module _ {X : Type 0} where
   -- nothing is copied yet
@@ -61,19 +58,6 @@ joined-long (suc k) (x ∷ xs) [] ds h₁ h₂ h₃ = absurd (not-suc-le-zero h�
 joined-long (suc k) (x ∷ xs) (n ∷ ns) [] h₁ h₂ h₃ = absurd (not-suc-le-zero h₃)
 joined-long (suc k) (x ∷ xs) (n ∷ ns) (d ∷ ds) h₁ h₂ h₃ = let h : k ≤ length (joined xs ns ds) = joined-long k xs ns ds (le-of-suc-le-suc h₁) (le-of-suc-le-suc h₂) (le-of-suc-le-suc h₃) in
     (let z : suc k ≤ suc (length (joined xs ns ds)) = omega (arith, h) in z)
-
--- ---- the search
-
--- three lists that the search leaves are the fronts of longer ones
-pub searched-fronts : (k : ℕ) (f : Formula) (positive negative points₀ falsified₀ depths₀ : List ℕ) (r : Outcome) (points₁ falsified₁ depths₁ points₂ falsified₂ depths₂ : List ℕ)
-    → length points₁ ≡ k → length falsified₁ ≡ k → length depths₁ ≡ k → Searched f positive negative points₀ falsified₀ depths₀ r points₁ falsified₁ depths₁
-    → Searched f positive negative points₀ falsified₀ depths₀ r (take k (points₁ ++ points₂)) (take k (falsified₁ ++ falsified₂)) (take k (depths₁ ++ depths₂))
-searched-fronts k f positive negative points₀ falsified₀ depths₀ r points₁ falsified₁ depths₁ points₂ falsified₂ depths₂ e₁ e₂ e₃ s = record {
-  reply = s .reply;
-  points = take-at points₁ points₂ k e₁ ∙ s .points;
-  falsified = take-at falsified₁ falsified₂ k e₂ ∙ s .falsified;
-  depths = take-at depths₁ depths₂ k e₃ ∙ s .depths;
-}
 
 -- the three parts of a list of slots say the whole list
 pub joined-columns : (xs : List Slot) → joined (pointsIn xs) (falsifiedIn xs) (depthsIn xs) ≡ xs

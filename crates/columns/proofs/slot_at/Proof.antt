@@ -1,4 +1,4 @@
--- `slots::slot_at` meets its contract: a walk of its MIR, by hand. The slice is looked into, the element is taken out of the row, read whole, and put back.
+-- `columns::slot_at` meets its contract: a walk of its MIR, by hand. The slice is looked into, the element is taken out of the row, read whole, and put back.
 -- Assumes nothing.
 use mathlib.Core.Path.{refl, sym}
 use Prim.Native.Nat.{ℕ, _<_, _^_, _*_, _+_}
@@ -34,13 +34,13 @@ use denote.Triple.Spec.{Meets, tripleOf}
 use denote.Triple.Table.{entered}
 use denote.Triple.Walked.{says, needs, Stays, stay-none-slice, stay-none, walkOf, goes-none-slice, goes-none, Walks, ends-at, walked, walk-meets}
 use denote.Exit.{yes}
-use Rattle.slots.specs.declared.Slot.{Slot}
-use Rattle.slots.specs.Slots.{blank, slotOr}
-use Rattle.slots.proofs.Row.{R, val, vals, spells, copies, owes, typed, scaled, element-place}
-use Rattle.slots.proofs.slot_at.Key.{name as #slots·slot-at}
-use Rattle.slots.proofs.slot_at as this
-use Rattle.slots.proofs.slot_at.Statement as stated
-use Rattle.slots.proofs.slot_at.Code as code
+use Rattle.columns.specs.declared.Slot.{Slot}
+use Rattle.columns.specs.Slots.{blank, slotOr}
+use Rattle.columns.proofs.Row.{R, val, vals, spells, copies, owes, typed, scaled, element-place}
+use Rattle.columns.proofs.slot_at.Key.{name as #columns·slot-at}
+use Rattle.columns.proofs.slot_at as this
+use Rattle.columns.proofs.slot_at.Statement as stated
+use Rattle.columns.proofs.slot_at.Code as code
 
 abbrev stayed : Stays (this.ended .signature .params) (this.ended .kept)
 stayed = (stay-none-slice (0 ∷ []) tt (plain (λ _. R)) yes, (stay-none (λ _. usize) yes, tt))
@@ -100,5 +100,5 @@ pub slot-at-spec : {M : Type 1} → stated.statement M
 unfolding code.routine tablesOf
 slot-at-spec 𝓤 H 𝓜 𝓖 𝓡 =
     entered 𝓤 H (tripleOf 𝓤 H (𝓖 .A) this.signature (this.spec 𝓤 H (𝓖 .A) (𝓜 .mem) (𝓡 .run)))
-    (tables 𝓤 H 𝓜 𝓡 code.env .C) (tables 𝓤 H 𝓜 𝓡 code.env .Λ) #slots·slot-at code.function (code.unfolded 𝓤 H 𝓜 𝓡)
+    (tables 𝓤 H 𝓜 𝓡 code.env .C) (tables 𝓤 H 𝓜 𝓡 code.env .Λ) #columns·slot-at code.function (code.unfolded 𝓤 H 𝓜 𝓡)
     (meets 𝓤 H (𝓖 .A) (givenOf 𝓤 H 𝓜 𝓖) (𝓜 .mem) (𝓡 .run) (tablesOf 𝓤 H 𝓜 (tables 𝓤 H 𝓜 𝓡 code.env)))

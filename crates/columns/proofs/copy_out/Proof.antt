@@ -1,4 +1,4 @@
--- `slots::copy_out` meets its contract: a walk of its MIR, by hand. The four slices are opened once, before the loop, and closed once, after it; between the two each turn reads one slot and stores its three parts.
+-- `columns::copy_out` meets its contract: a walk of its MIR, by hand. The four slices are opened once, before the loop, and closed once, after it; between the two each turn reads one slot and stores its three parts.
 -- Assumes nothing.
 use mathlib.Core.Path.{_≡_, refl, sym}
 use mathlib.Core.Bool.{Bool}
@@ -41,17 +41,17 @@ use denote.Triple.Spec.{Meets, tripleOf}
 use denote.Triple.Table.{entered}
 use denote.Triple.Walked.{says, needs, Stays, stay-slice, stay-none, stay-none-slice, walkOf, goes-slice, goes-none, goes-none-slice, Walks, ends-at, walked, walk-meets}
 use denote.Exit.{yes}
-use Rattle.slots.specs.declared.Slot.{Slot}
-use Rattle.slots.specs.Slots.{blank, slotOr, pointsIn, falsifiedIn, depthsIn, front, Within}
-use Rattle.slots.specs.SlotLaws.{front-none, front-length, front-inside, column-next, column-long}
-use Rattle.slots.proofs.Slot.Laws as S′
-use Rattle.slots.proofs.Counted.{counted, holds, fails}
-use Rattle.slots.proofs.Row.{R, val, vals, spells, copies, typed, scaled, scaled32, scaled64, element-place, mut-again, shr-again}
-use Rattle.slots.proofs.copy_out.Key.{name as #slots·copy-out}
-use Rattle.slots.proofs.copy_out as this
-use Rattle.slots.proofs.copy_out.Statement as stated
-use Rattle.slots.proofs.copy_out.Code as code
-use Rattle.slots.proofs.copy_out.Code.Mir as mirs
+use Rattle.columns.specs.declared.Slot.{Slot}
+use Rattle.columns.specs.Slots.{blank, slotOr, pointsIn, falsifiedIn, depthsIn, front, Within}
+use Rattle.columns.specs.SlotLaws.{front-none, front-length, front-inside, column-next, column-long}
+use Rattle.columns.proofs.Slot.Laws as S′
+use Rattle.columns.proofs.Counted.{counted, holds, fails}
+use Rattle.columns.proofs.Row.{R, val, vals, spells, copies, typed, scaled, scaled32, scaled64, element-place, mut-again, shr-again}
+use Rattle.columns.proofs.copy_out.Key.{name as #columns·copy-out}
+use Rattle.columns.proofs.copy_out as this
+use Rattle.columns.proofs.copy_out.Statement as stated
+use Rattle.columns.proofs.copy_out.Code as code
+use Rattle.columns.proofs.copy_out.Code.Mir as mirs
 
 abbrev stayed : Stays (this.ended .signature .params) (this.ended .kept)
 stayed = (stay-none-slice (0 ∷ []) tt (plain (λ _. R)) yes, (stay-none (λ _. usize) yes, (stay-slice (1 ∷ []) tt (plain (λ _. u64)), (stay-slice (2 ∷ []) tt (plain (λ _. u32)), (stay-slice (3 ∷ []) tt (plain (λ _. u32)), tt)))))
@@ -292,5 +292,5 @@ pub copy-out-spec : {M : Type 1} → stated.statement M
 unfolding code.routine tablesOf
 copy-out-spec 𝓤 H 𝓜 𝓖 𝓡 =
     entered 𝓤 H (tripleOf 𝓤 H (𝓖 .A) this.signature (this.spec 𝓤 H (𝓖 .A) (𝓜 .mem) (𝓡 .run)))
-    (tables 𝓤 H 𝓜 𝓡 code.env .C) (tables 𝓤 H 𝓜 𝓡 code.env .Λ) #slots·copy-out code.function (code.unfolded 𝓤 H 𝓜 𝓡)
+    (tables 𝓤 H 𝓜 𝓡 code.env .C) (tables 𝓤 H 𝓜 𝓡 code.env .Λ) #columns·copy-out code.function (code.unfolded 𝓤 H 𝓜 𝓡)
     (meets 𝓤 H (𝓖 .A) (givenOf 𝓤 H 𝓜 𝓖) (𝓜 .mem) (𝓡 .run) (tablesOf 𝓤 H 𝓜 (tables 𝓤 H 𝓜 𝓡 code.env)))

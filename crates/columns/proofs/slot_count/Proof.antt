@@ -1,4 +1,4 @@
--- `slots::slot_count` meets its contract: a walk of its MIR, by hand. The count is read out of the slice reference; nothing is looked into.
+-- `columns::slot_count` meets its contract: a walk of its MIR, by hand. The count is read out of the slice reference; nothing is looked into.
 -- Assumes nothing.
 use mathlib.Core.Path.{refl}
 use Prim.Native.Nat.{ℕ}
@@ -32,12 +32,12 @@ use denote.Triple.Spec.{Meets, tripleOf}
 use denote.Triple.Table.{entered}
 use denote.Triple.Walked.{says, Stays, stay-none-slice, walkOf, goes-none-slice, Walks, ends-at, walked, walk-meets}
 use denote.Exit.{yes}
-use Rattle.slots.specs.declared.Slot.{Slot}
-use Rattle.slots.proofs.Row.{R}
-use Rattle.slots.proofs.slot_count.Key.{name as #slots·slot-count}
-use Rattle.slots.proofs.slot_count as this
-use Rattle.slots.proofs.slot_count.Statement as stated
-use Rattle.slots.proofs.slot_count.Code as code
+use Rattle.columns.specs.declared.Slot.{Slot}
+use Rattle.columns.proofs.Row.{R}
+use Rattle.columns.proofs.slot_count.Key.{name as #columns·slot-count}
+use Rattle.columns.proofs.slot_count as this
+use Rattle.columns.proofs.slot_count.Statement as stated
+use Rattle.columns.proofs.slot_count.Code as code
 
 abbrev stayed : Stays (this.ended .signature .params) (this.ended .kept)
 stayed = (stay-none-slice (0 ∷ []) tt (plain (λ _. R)) yes, tt)
@@ -82,5 +82,5 @@ pub slot-count-spec : {M : Type 1} → stated.statement M
 unfolding code.routine tablesOf
 slot-count-spec 𝓤 H 𝓜 𝓖 𝓡 =
     entered 𝓤 H (tripleOf 𝓤 H (𝓖 .A) this.signature (this.spec 𝓤 H (𝓖 .A) (𝓜 .mem) (𝓡 .run)))
-    (tables 𝓤 H 𝓜 𝓡 code.env .C) (tables 𝓤 H 𝓜 𝓡 code.env .Λ) #slots·slot-count code.function (code.unfolded 𝓤 H 𝓜 𝓡)
+    (tables 𝓤 H 𝓜 𝓡 code.env .C) (tables 𝓤 H 𝓜 𝓡 code.env .Λ) #columns·slot-count code.function (code.unfolded 𝓤 H 𝓜 𝓡)
     (meets 𝓤 H (𝓖 .A) (givenOf 𝓤 H 𝓜 𝓖) (𝓜 .mem) (𝓡 .run) (tablesOf 𝓤 H 𝓜 (tables 𝓤 H 𝓜 𝓡 code.env)))

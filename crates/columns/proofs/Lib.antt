@@ -1,0 +1,4 @@
+pub mod CopiedBack
+pub mod CopiedOut
+pub mod Counted
+pub mod Row
