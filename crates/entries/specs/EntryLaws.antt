@@ -23,7 +23,7 @@ use Rattle.certificate.specs.Rows.{pointsFault, numbersFault}
 use Rattle.flips.specs.FlipLaws.{flips-fault-take}
 use Rattle.flips.specs.Flips.{flipsFault}
 use Rattle.flips.specs.Loops.{Testable}
-use Rattle.indexing.specs.Indexing.{Indexable, Refuses}
+use Rattle.indexing.specs.Indexing.{Refuses}
 use Rattle.entries.specs.Entries.{listsFault, Ready, Lent}
 
 -- ---- the rows 16, 17 and 18, of the first entries of two slices
@@ -63,19 +63,14 @@ module _ (n : ℕ) (cs : List Numbered) (es : List Permutation) (points numbers 
 pub copied : (w count : ℕ) (body old new : List ℕ) → new ≡ over (numbersIn w count body) old → take count new ≡ numbersIn w count body
 copied w count body old new e = ap (take count) e ∙ over-front count (numbersIn w count body) old (length-entries numberFrom w count body)
 
--- ---- what each function hands on
+-- ---- what row 18 is handed
 
-module _ {n permutations : ℕ} {images positive negative : List ℕ} {count : ℕ} {points : List ℕ} {heads : ℕ} {links : List ℕ}
-    (r : Ready n permutations images positive negative count points heads links) where
-  pub ready-indexable : Indexable heads n count points links
-  ready-indexable =
-      let most = r .most in
-      record { few = r .given .few; headed = r .headed; enough = r .enough; small = omega arith; room = r .room; zeros = r .zeros }
-
-  -- row 16 has left an index of the points
-  pub ready-testable : {f : Fault} {links′ : List ℕ} → Refuses heads n count maxSlots points f links′ → f ≡ sound → Testable n permutations images positive negative count points heads links′
-  ready-testable w e =
-      record { few = r .given .few; listed = r .given .listed; proper = r .given .proper; below = r .given .below; enough = r .enough; indexed = w .full e }
+-- where row 16 finds nothing it has left an index of the points
+pub ready-testable : {n permutations : ℕ} {images positive negative : List ℕ} {count : ℕ} {points : List ℕ} {heads : ℕ} {links : List ℕ}
+    → Ready n permutations images positive negative count points heads links → {f : Fault} {links′ : List ℕ} → Refuses heads n count maxSlots points f links′ → f ≡ sound
+    → Testable n permutations images positive negative count points heads links′
+ready-testable r w e =
+    record { few = r .given .few; listed = r .given .listed; proper = r .given .proper; below = r .given .below; enough = r .enough; indexed = w .full e }
 
 -- ---- arrays of zeros
 

@@ -54,7 +54,8 @@ image c =
 
 contains-requires : tie.Need-contains-requires Inv-loop μ-loop
 contains-requires c κs =
-    image-askable (c .before .before .before .before .before .before .before .pre) _ (getD-in _ (c .before .before .before .loop .i) noPermutation (inside c)) _ (image c)
+    let asked = image-askable (c .before .before .before .before .before .before .before .pre) _ (getD-in _ (c .before .before .before .loop .i) noPermutation (inside c)) _ (image c) in
+    search (needs, asked)
 
 -- what the test says of the permutation at i
 tested : (c : tie.After-contains Inv-loop μ-loop)

@@ -8,7 +8,7 @@ use Rattle.formula.specs.Refusals.{faultOf}
 use Rattle.formula.specs.Reply.{sound}
 use Rattle.formula.specs.ReplyLaws.{IsFault}
 use Rattle.certificate.specs.Rows.{pointsFault, numbersFault}
-use Rattle.entries.specs.EntryLaws.{stops-16, stops-17, ends-18, ready-indexable, ready-testable}
+use Rattle.entries.specs.EntryLaws.{stops-16, stops-17, ends-18, ready-testable}
 use Rattle.entries.proofs.lists_refusal.Statement.{statement}
 use Rattle.entries.proofs.lists_refusal.Tie as tie
 
@@ -16,7 +16,7 @@ cast-most : tie.Need-cast-most
 cast-most c = search needs
 
 points-refusal-requires : tie.Need-points-refusal-requires
-points-refusal-requires c κs = ready-indexable (c .before .before .before .before .before .before .before .pre)
+points-refusal-requires c κs = search needs
 
 enum-told : tie.Need-enum-told
 enum-told c = search needs

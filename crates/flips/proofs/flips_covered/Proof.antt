@@ -28,7 +28,9 @@ flip-requires : tie.Need-flip-requires Inv-loop μ-loop
 flip-requires c κs = lt-of-lt-of-le (c .loop-test .taken) (c .before .before .before .before .before .before .pre .0 .askable .few)
 
 covered-requires : tie.Need-covered-requires Inv-loop μ-loop
-covered-requires c κs = flip-coverable (c .before .before .before .before .before .before .before .pre .0) _ _ (c .before .loop-test .taken) (c .flip .ensures)
+covered-requires c κs =
+    let asked = flip-coverable (c .before .before .before .before .before .before .before .pre .0) _ _ (c .before .loop-test .taken) (c .flip .ensures) in
+    search (needs, asked)
 
 returns : tie.Need-returns Inv-loop μ-loop
 returns c =
