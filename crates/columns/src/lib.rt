@@ -1,5 +1,5 @@
 // The slots as one slice of structs (01: 'Walk'), and as three slices: a slot is read and stored, and slots are copied from the one form to the other. Each function
-// takes a slice of structs, so it is proved by a walk of its MIR.
+// takes a slice of structs, so it is proved by hand, step by step of the compiled code.
 use points::Point;
 ghost use mathlib.Core.Path.{_≡_};
 ghost use Prim.Native.Nat.{_<_};
