@@ -1,7 +1,7 @@
 // What checking a certificate costs as its points grow, without permutations and with 16, in one run. The clauses are all sign patterns of 8
-// variables, so that each point falsifies exactly one and has 8 flips to look up. Without permutations the points are all of m variables: a
-// flip is found half way through a scan, on the average. With 16 two more variables tell the parity of those 8, and only the last
-// permutation, which exchanges the two, takes a flip to a point: the 15 before it are the identity, so that a look-up scans all points 16 times.
+// variables, so that each point falsifies exactly one and has 8 flips to look up. Without permutations the points are all of m variables, and
+// every flip is one of them. With 16 two more variables tell the parity of those 8, and only the last permutation, which exchanges the two,
+// takes a flip to a point: the 15 before it are the identity, so that each of them costs an image and a look-up that finds nothing.
 #[path = "../tests/library.rs"]
 mod library;
 mod clock;

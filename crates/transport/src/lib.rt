@@ -1,5 +1,6 @@
-// Refusals 16 and 17, which the writer and the checker share: whether each point is new and has the number of a clause that it falsifies.
-// Document 002 calls the map from points to such clauses a transport function.
+// Refusals 16 and 17: whether each point is new and has the number of a clause that it falsifies. The writer and the checker share 17; the
+// checker has 16 by an index (`indexing`), the writer, which is lent no room for one, by comparing. Document 002 calls the map from points
+// to such clauses a transport function.
 use formula::Checked;
 use points::Point;
 use slices::clause_at;
