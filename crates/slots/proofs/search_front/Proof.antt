@@ -1,3 +1,4 @@
+-- `slots::search_front` meets its contract: the lent parts have k places, and what the search leaves in them stands in front. Assumes nothing.
 use mathlib.Core.Path.{sym, _∙_}
 use lib.ListN.{take, drop}
 use lib.Seq.{length-take-le}
@@ -9,47 +10,36 @@ use Rattle.slots.proofs.search_front.Reads as reads
 use Rattle.slots.proofs.search_front.Lts as lts
 use Rattle.search.proofs.search.Reads as search-reads
 
--- src/lib.rt:100:9
 slice-relend-prefix-search : tie.Need-slice-relend-prefix-search
 slice-relend-prefix-search c = search needs
 
--- src/lib.rt:100:9
 slice-aggregate-search : tie.Need-slice-aggregate-search
 slice-aggregate-search c = sym (length-take-le (c .before .before .before .before .before .before .args .k) (c .before .before .before .before .before .before .args .points .now) (c .before .before .before .before .before .before .pre .inPoints))
 
--- src/lib.rt:101:9
 slice-relend-prefix-search-2 : tie.Need-slice-relend-prefix-search-2
 slice-relend-prefix-search-2 c = search needs
 
--- src/lib.rt:101:9
 slice-aggregate-search-2 : tie.Need-slice-aggregate-search-2
 slice-aggregate-search-2 c = sym (length-take-le (c .before .before .before .before .before .before .before .args .k) (c .before .before .before .before .before .before .before .args .falsified .now) (c .before .before .before .before .before .before .before .pre .inFalsified))
 
--- src/lib.rt:102:9
 slice-relend-prefix-search-3 : tie.Need-slice-relend-prefix-search-3
 slice-relend-prefix-search-3 c = search needs
 
--- src/lib.rt:102:9
 slice-aggregate-search-3 : tie.Need-slice-aggregate-search-3
 slice-aggregate-search-3 c = sym (length-take-le (c .before .before .before .before .before .before .before .before .args .k) (c .before .before .before .before .before .before .before .before .args .depths .now) (c .before .before .before .before .before .before .before .before .pre .inDepths))
 
--- src/lib.rt:96:5
 search-requires : tie.Need-search-requires
 search-requires c κs = search needs
 
--- src/lib.rt:83:1
 same-length : tie.Need-same-length
 same-length c = search needs
 
--- src/lib.rt:83:1
 same-length-2 : tie.Need-same-length-2
 same-length-2 c = search needs
 
--- src/lib.rt:83:1
 same-length-3 : tie.Need-same-length-3
 same-length-3 c = search needs
 
--- src/lib.rt:83:1
 returns : tie.Need-returns
 returns c =
     let start = c .before .before .before .before .before .before .before .before .before .before .before .before .before .before .before in
