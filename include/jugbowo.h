@@ -85,7 +85,7 @@ uint32_t jugbowo_write(uint32_t variables, uint32_t clauses, uint64_t target, ui
                        uint64_t *reply, size_t reply_len);
 
 /* Checks a certificate for the clauses of a formula, whose target and permutations it does not look at. Changes nothing but `reply`.
- * Answers: refusals 10, 14, 15, 11, 12, 16, 17, 18 in this order, or accepted. Stack: 1 MiB. */
+ * Answers: refusals 10, 14, 15, 11, 12, 16, 17, 18 in this order, or accepted. Stack: 2 MiB. */
 uint32_t jugbowo_check(uint32_t variables, uint32_t clauses, uint64_t target, uint32_t permutations,
                        const uint8_t *images, size_t images_len,
                        const uint64_t *positive, size_t positive_len,
@@ -108,7 +108,7 @@ uint32_t jugbowo_number_at(const uint8_t *body, size_t body_len, size_t i, uint6
 
 /* Reads a text, searches and, where no point satisfies the clauses, writes and checks the certificate. Takes the text; fills slots as the
  * search does, and leaves a certificate at the front of `out`. Answers: refusals 1 to 3 and 5 to 9 of the reader, 12 and 13 of the search,
- * satisfiable, unknown, certified or uncertified. Stack: 1 MiB. */
+ * satisfiable, unknown, certified or uncertified. Stack: 2 MiB. */
 uint32_t jugbowo_solve(const uint8_t *text, size_t text_len,
                        uint64_t *points, size_t points_len,
                        uint32_t *falsified, size_t falsified_len,
