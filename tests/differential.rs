@@ -403,6 +403,29 @@ impl Case {
         }
     }
 
+    // Where a slice for the answer is too short every function returns 0 and changes nothing.
+    fn without_room(&mut self) {
+        let (s, bytes) = (lent(&sheet(&mut self.random)), text(&mut self.random));
+        let mut words = vec![3; self.random.below(4) as usize];
+        let (mut points, mut numbers, mut depths, mut out) = ([5; 9], [5; 9], [5; 9], [5; 99]);
+        let (mut positive, mut negative, mut four, mut images) = ([5; 300], [5; 300], [5; 4], [5; 1024]);
+        let told = [
+            library::read(&bytes, &mut positive, &mut negative, &mut four, &mut images, &mut words),
+            library::read(&bytes, &mut positive, &mut negative, &mut words, &mut images, &mut four),
+            library::read(&bytes, &mut positive, &mut negative, &mut four, &mut images[..1023], &mut [0; 4]),
+            library::search(&s, &mut points, &mut numbers, &mut depths, &mut words),
+            library::write(&s, &points, &numbers, &depths, 1, &mut out, &mut words),
+            library::check(&s, &bytes, &mut words),
+            library::open(&bytes, &mut [0; 8], &mut words),
+            library::open(&bytes, &mut words, &mut four),
+            library::solve(&bytes, &mut points, &mut numbers, &mut depths, &mut out, &mut words),
+        ];
+        self.same("told without room", told, [0; 9]);
+        self.holds("slots and output unchanged", points == [5; 9] && numbers == [5; 9] && depths == [5; 9] && out == [5; 99]);
+        self.holds("clauses and formula unchanged", positive == [5; 300] && negative == [5; 300] && four == [5; 4] && images == [5; 1024]);
+        self.holds("words unchanged", words.iter().all(|&w| w == 3));
+    }
+
     // From text to checked certificate in one call, and what the program prints.
     fn solver(&mut self) {
         let mut bytes = text(&mut self.random);
@@ -439,8 +462,11 @@ impl Case {
         self.same("printed", String::from_utf8_lossy(&printed[..count]).into_owned(), reference::printed(&bytes));
         self.same("solved", reply.to_vec(), [&wanted[..], &[3]].concat());
         self.same("output", out, output);
-        let filled = walked.map_or(0, |w| w.1.len());
-        self.holds("slots beyond those filled are unchanged", points[filled..].iter().all(|&x| x == 5) && numbers[filled..].iter().chain(&depths[filled..]).all(|&x| x == 5));
+        let left = walked.map_or(Vec::new(), |w| w.1);
+        let behind = slots - left.len();
+        self.same("points", points, left.iter().map(|t| t.point).chain(vec![5; behind]).collect::<Vec<_>>());
+        self.same("rule numbers", numbers, left.iter().map(|t| t.rule).chain(vec![5; behind]).collect::<Vec<_>>());
+        self.same("depths", depths, left.iter().map(|t| t.depth).chain(vec![5; behind]).collect::<Vec<_>>());
     }
 }
 
@@ -454,6 +480,9 @@ fn main() {
         let kind = kinds[(own % 3) as usize];
         let mut case = Case { random: Random::new(own), wrong: Vec::new(), seen: Vec::new() };
         (kind.1)(&mut case);
+        if case.random.chance(20) {
+            case.without_room();
+        }
         case.seen.iter().for_each(|a| *seen.entry(*a).or_default() += 1);
         if !case.wrong.is_empty() {
             failed += 1;
