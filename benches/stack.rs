@@ -63,4 +63,6 @@ fn main() {
     let mut file = vec![0; 70];
     told("solve", used(&mut || assert_eq!(library::solve(clash, &mut points, &mut numbers, &mut depths, &mut file, &mut reply), 1)));
     assert_eq!(reply[..3], [8, 3, 70]);
+    let mut printed = vec![0; 312];
+    told("nearest", used(&mut || assert_ne!(library::nearest(clash, &mut printed), 0)));
 }

@@ -426,6 +426,26 @@ impl Case {
         self.holds("words unchanged", words.iter().all(|&w| w == 3));
     }
 
+    // One entry of each kind of body, the body being any bytes and the index any number.
+    fn entries(&mut self) {
+        let body: Vec<u8> = (0..self.random.below(70)).map(|_| self.random.next() as u8).collect();
+        let far = [usize::MAX, 1 << 61, 1 << 62];
+        let mut index = |most: u64| if self.random.chance(9) { *self.random.pick(&far) } else { self.random.below(most) as usize };
+        let (n, j, i) = (index(9), index(9), index(20));
+        let found = |value: Option<u64>| value.map_or([0, 0, 3], |x| [1, x, 3]);
+        let place = n.checked_mul(j).and_then(|a| a.checked_add(i)).filter(|_| i < n);
+        let image = place.and_then(|at| body.get(at)).map(|&b| u64::from(b));
+        let whole = |width: usize| body.chunks_exact(width).nth(i).map(|b| b.iter().rev().fold(0, |x, &b| x << 8 | u64::from(b)));
+        let mut replies = [[3; 3]; 3];
+        let told = [
+            library::image_at(&body, n, j, i, &mut replies[0]),
+            library::point_at(&body, i, &mut replies[1]),
+            library::number_at(&body, i, &mut replies[2]),
+        ];
+        self.same("told of entries", told, [1; 3]);
+        self.same("entries", replies, [found(image), found(whole(8)), found(whole(4))]);
+    }
+
     // From text to checked certificate in one call, and what the program prints.
     fn solver(&mut self) {
         let mut bytes = text(&mut self.random);
@@ -480,6 +500,7 @@ fn main() {
         let kind = kinds[(own % 3) as usize];
         let mut case = Case { random: Random::new(own), wrong: Vec::new(), seen: Vec::new() };
         (kind.1)(&mut case);
+        case.entries();
         if case.random.chance(20) {
             case.without_room();
         }
