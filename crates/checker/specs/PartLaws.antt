@@ -16,7 +16,7 @@ use Rattle.permutations.specs.Permutations.{Permutation, permutationsIn}
 use Rattle.formula.specs.declared.Formula.{Formula}
 use Rattle.formula.specs.Limits.{maxSlots}
 use Rattle.formula.specs.Problem.{problemOf}
-use Rattle.formula.specs.RefusalLaws.{passes-listed, permutation-passes, fits-sound, fits-below}
+use Rattle.formula.specs.RefusalLaws.{passes-few, passes-listed, permutation-passes, fits-sound, fits-below}
 use Rattle.formula.specs.Refusals.{Fits, fits, clausesFault, permutationFault, symmetryFault}
 use Rattle.formula.specs.Reply.{Fault, sound, fault, first, refused, opened, accepted, unless}
 use Rattle.formula.specs.ReplyLaws.{IsFault, answers-first, answers-rest, tested, opened-not-refused, refused-fault}
@@ -30,7 +30,8 @@ use Rattle.certificate.specs.ReaderLaws.{permutations-part, points-part, number
 use Rattle.certificate.specs.Rows.{fileFault, pointsFault, numbersFault}
 use Rattle.transport.specs.TransportLaws.{over-limit}
 use Rattle.flips.specs.Flips.{flipsFault}
-use Rattle.entries.specs.Entries.{listsFault, Proper}
+use Rattle.flips.specs.Loops.{Proper}
+use Rattle.entries.specs.Entries.{listsFault}
 use Rattle.checker.specs.Checker.{sameSizes, sizesFault, checkFault, checkReply}
 use Rattle.checker.specs.CheckerLaws.{check-rows}
 use Rattle.checker.specs.Parts.{bodiesFault, fileRows, Readable}
@@ -115,6 +116,7 @@ module _ (c : Contents) (positive negative file : List ℕ) (ok : Readable c pos
     images-proper =
         record {
           few = ok .fitting .few-variables;
+          group = passes-few (c .variables) (c .permutations) images eleven;
           listed = images-listed;
           proper = permutation-passes (c .variables) (permutationsIn (c .variables) (c .permutations) images) eleven .1;
           below = fits-below (c .variables) (c .clauses) positive negative (ok .fitting);

@@ -1,29 +1,24 @@
-// Which points the points of an index cover, modulo one listed permutation.
+// Which flips of a point are covered by the points of an index, modulo one listed permutation. The images of the point are made once: that
+// of a flip is one of them with one more flip.
 use images::image_of_point;
 use images::permutation_at;
 use index::contains;
 use points::Point;
+use slices::point_at;
+use slices::put_point;
 ghost use mathlib.Core.Path.{_≡_};
-ghost use lib.ListN.{take};
-ghost use Rattle.math.specs.Lists.{any};
+ghost use Prim.Native.Nat.{_+_, _-_, _*_, _≤_, _<_};
+ghost use lib.ListN.{length, getD, take};
+ghost use Rattle.math.specs.Bits.{flip};
 ghost use Rattle.slices.specs.Slices.{pointsOf};
-ghost use Rattle.permutations.specs.Permutations.{imageIn, covered, permutationsIn};
-ghost use Rattle.coverage.specs.Coverage.{Coverable};
+ghost use Rattle.permutations.specs.Permutations.{covered, permutationsIn};
+ghost use Rattle.images.specs.Contracts.{Listed};
+ghost use Rattle.coverage.specs.Coverage.{imagesOf, Coverable, Sends};
 
-// Whether the image of the point under one of the permutations is among the first k points. For each permutation an image, n steps, and a
-// look-up, at most n + 1 comparisons.
-fn covered_by_image(
-    links: &[u32],
-    heads: usize,
-    points: &[u64],
-    n: u32,
-    k: usize,
-    images: &[u8],
-    permutations: u32,
-    x: Point,
-) -> bool
-    requires { ⌜ Coverable heads n k (pointsOf (now points)) (now links) permutations (now images) x ⌝ }
-    ensures { λ r. ⌜ r ≡ any (imageIn (take k (pointsOf (now (points .entry)))) x) (permutationsIn n permutations (now (images .entry))) ⌝ }
+// Stores the images of the point under the permutations, in their order: n steps for each.
+pub fn images_into(moved: &mut [u64], images: &[u8], n: u32, permutations: u32, x: Point)
+    requires { ⌜ Listed n permutations (now images) × (permutations ≤ length (now moved)) ⌝ }
+    ensures { λ _. ⌜ take permutations (pointsOf (now (moved .exit))) ≡ imagesOf (permutationsIn n permutations (now (images .entry))) x ⌝ }
 {
     let size = n as usize;
     let group = permutations as usize;
@@ -31,16 +26,25 @@ fn covered_by_image(
     while i < group {
         let e = permutation_at(images, size, i);
         let image = image_of_point(e, x);
-        if contains(links, heads, points, n, k, image) {
-            return true;
-        }
+        put_point(moved, i, image);
         i += 1;
     }
-    false
 }
 
-// Whether the point, or its image under one of the permutations, is among the first k points, of which the links are an index.
-pub fn covered(
+// The image stored at index i, flipped where the permutation of index i sends variable v: the image of the flipped point (`image-flip`).
+fn flipped_image(moved: &[u64], images: &[u8], n: u32, i: usize, v: u32) -> Point
+    requires { ⌜ Sends n i v (now images) ⌝ }
+    ensures { λ r. ⌜ r ≡ flip (getD (pointsOf (now (moved .entry))) i 0) (getD (now (images .entry)) (i * n + v) 0 - 1) ⌝ }
+{
+    let place = i * n as usize + v as usize;
+    let to = images[place] as u32 - 1;
+    let image = point_at(moved, i);
+    points::flip(image, to)
+}
+
+// Whether x with variable v flipped, or an image of that, is among the first k points, of which the links are an index; `moved` holds the
+// images of x. At most permutations + 1 look-ups, each of at most n + 1 comparisons, and one step for each image.
+pub fn flip_covered(
     links: &[u32],
     heads: usize,
     points: &[u64],
@@ -48,13 +52,25 @@ pub fn covered(
     k: usize,
     images: &[u8],
     permutations: u32,
+    moved: &[u64],
     x: Point,
+    v: u32,
 ) -> bool
-    requires { ⌜ Coverable heads n k (pointsOf (now points)) (now links) permutations (now images) x ⌝ }
-    ensures { λ r. ⌜ r ≡ covered (permutationsIn n permutations (now (images .entry))) (take k (pointsOf (now (points .entry)))) x ⌝ }
+    requires { ⌜ Coverable heads n k (pointsOf (now points)) (now links) permutations (now images) (pointsOf (now moved)) x × (v < n) ⌝ }
+    ensures { λ r. ⌜ r ≡ covered (permutationsIn n permutations (now (images .entry))) (take k (pointsOf (now (points .entry)))) (flip x v) ⌝ }
 {
-    if contains(links, heads, points, n, k, x) {
+    let flipped = points::flip(x, v);
+    if contains(links, heads, points, n, k, flipped) {
         return true;
     }
-    covered_by_image(links, heads, points, n, k, images, permutations, x)
+    let group = permutations as usize;
+    let mut i = 0;
+    while i < group {
+        let image = flipped_image(moved, images, n, i, v);
+        if contains(links, heads, points, n, k, image) {
+            return true;
+        }
+        i += 1;
+    }
+    false
 }

@@ -2,29 +2,19 @@
 use mathlib.Core.List.{List, [], _∷_}
 use Prim.Native.Nat.{ℕ, _+_, _*_, _≤_}
 use lib.ListN.{length}
-use Rattle.math.specs.Lists.{_∈_}
-use Rattle.points.specs.Points.{Numbered, numbered}
-use Rattle.slices.specs.Slices.{clausesOf}
+use Rattle.points.specs.Points.{Numbered}
 use Rattle.index.specs.Looking.{AllZero}
-use Rattle.theory.specs.Notions.{ClausesBelow}
-use Rattle.permutations.specs.Permutations.{Permutation, IsPermutation, permutationsIn}
-use Rattle.images.specs.Contracts.{Listed}
-use Rattle.formula.specs.Limits.{maxVariables, maxSlots}
+use Rattle.permutations.specs.Permutations.{Permutation}
+use Rattle.formula.specs.Limits.{maxSlots}
 use Rattle.formula.specs.Reply.{Fault, first}
 use Rattle.certificate.specs.Bytes.{pointWidth, numberWidth}
 use Rattle.certificate.specs.Rows.{pointsFault, numbersFault}
 use Rattle.flips.specs.Flips.{flipsFault}
+use Rattle.flips.specs.Loops.{Proper}
 
 -- the rows 16, 17 and 18, of a list of points and one of numbers
 abbrev pub listsFault : ℕ → List Numbered → List Permutation → List ℕ → List ℕ → Fault
 listsFault n cs es ps ns = first (pointsFault maxSlots n (length ps) ps ∷ numbersFault cs (length ps) ps ns ∷ flipsFault n cs es ps ns ∷ [])
-
--- what the rows look at besides the entries: `permutations` permutations of n variables, and clauses of the same
-pub record Proper (n permutations : ℕ) (images positive negative : List ℕ) : Type 0 where
-  pub few : n ≤ maxVariables
-  pub listed : Listed n permutations images
-  pub proper : (e : Permutation) → e ∈ permutationsIn n permutations images → IsPermutation n e
-  pub below : ClausesBelow n (numbered (clausesOf positive negative))
 
 -- there are `count` points, and links that are all 0 with room for them
 pub record Ready (n permutations : ℕ) (images positive negative : List ℕ) (count : ℕ) (points : List ℕ) (heads : ℕ) (links : List ℕ) : Type 0 where

@@ -70,7 +70,7 @@ pub ready-testable : {n permutations : ℕ} {images positive negative : List ℕ
     → Ready n permutations images positive negative count points heads links → {f : Fault} {links′ : List ℕ} → Refuses heads n count maxSlots points f links′ → f ≡ sound
     → Testable n permutations images positive negative count points heads links′
 ready-testable r w e =
-    record { few = r .given .few; listed = r .given .listed; proper = r .given .proper; below = r .given .below; enough = r .enough; indexed = w .full e }
+    record { given = r .given; enough = r .enough; indexed = w .full e }
 
 -- ---- arrays of zeros
 

@@ -19,8 +19,8 @@ use Rattle.points.specs.NextLaws.{next-lowest, next-none}
 use Rattle.points.specs.Points.{Clause, Numbered, listed, variables, numbered}
 use Rattle.slices.specs.Slices.{noLiterals}
 use Rattle.theory.specs.Notions.{ClausesBelow}
-use Rattle.permutations.specs.Permutations.{Permutation, covered}
-use Rattle.coverage.specs.Coverage.{Coverable}
+use Rattle.permutations.specs.Permutations.{Permutation, covered, permutationsIn}
+use Rattle.coverage.specs.Coverage.{imagesOf, Coverable}
 use Rattle.formula.specs.Reply.{faultAt}
 use Rattle.certificate.specs.RowLaws.{clause-found}
 use Rattle.certificate.specs.Rows.{clauseNumbered}
@@ -97,36 +97,23 @@ module _ (t : ℕ → Bool) (n x s : ℕ) (few : n ≤ 64) where
 
 -- ---- what can be looked up
 
--- a point that is indexed can be, and so can its images
+-- the flips of a point that is indexed, where its images are known
 pub tested-coverable : {n permutations : ℕ} {images positive negative : List ℕ} {count : ℕ} {points : List ℕ} {heads : ℕ} {links : List ℕ}
     → Testable n permutations images positive negative count points heads links → (i x : ℕ) → i < count → x ≡ getD points i 0
-    → Coverable heads n count points links permutations images x
-tested-coverable {n} {count = count} {points = points} t i x lt at =
+    → (moved : List ℕ) → take permutations moved ≡ imagesOf (permutationsIn n permutations images) x → Coverable heads n count points links permutations images moved x
+tested-coverable {n} {count = count} {points = points} t i x lt at moved imaged =
     record {
       askable =
           record {
-            few = t .few;
+            few = t .given .few;
             indexed = t .indexed;
             narrow =
                 subst (λ (y : ℕ). y < 2 ^ n) (getD-take count points i 0 lt ∙ sym at)
                 (t .indexed .indexes .narrow i (subst (λ (m : ℕ). i < m) (sym (length-take-le count points (t .enough))) lt));
           };
-      listed = t .listed;
-      proper = t .proper;
-    }
-
--- a flip by a variable below n can be where the point can
-pub flip-coverable : {heads n count : ℕ} {points links : List ℕ} {permutations : ℕ} {images : List ℕ} {x : ℕ} → Coverable heads n count points links permutations images x
-    → (v y : ℕ) → v < n → y ≡ flip x v → Coverable heads n count points links permutations images y
-flip-coverable {n = n} {x = x} c v y lt e =
-    record {
-      askable = record {
-        few = c .askable .few;
-        indexed = c .askable .indexed;
-        narrow = subst (λ (z : ℕ). z < 2 ^ n) (sym e) (flip-lt n x v (c .askable .narrow) lt);
-      };
-      listed = c .listed;
-      proper = c .proper;
+      listed = t .given .listed;
+      proper = t .given .proper;
+      imaged = imaged;
     }
 
 -- ---- the test of one point, and the row

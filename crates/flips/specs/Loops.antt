@@ -14,7 +14,7 @@ use Rattle.theory.specs.Notions.{ClausesBelow}
 use Rattle.permutations.specs.Permutations.{Permutation, IsPermutation, permutationsIn}
 use Rattle.images.specs.Contracts.{Listed}
 use Rattle.index.specs.Index.{Indexed}
-use Rattle.formula.specs.Limits.{maxVariables}
+use Rattle.formula.specs.Limits.{maxVariables, maxPermutations}
 
 -- the variables that a clause lists, as a set; none without a clause
 unfoldable pub listedBy : Option Clause → ℕ
@@ -25,13 +25,17 @@ listedBy (some c) = listed c
 abbrev pub allFlips : (ℕ → Bool) → ℕ → ℕ → ℕ → Bool
 allFlips t n x s = all t (map (flip x) (members n s))
 
--- what lets flips be looked up: the images hold `count` permutations of n variables, no clause lists a variable at n or above, there are
--- as many points as are to be tested, and the links are an index of them
-pub record Testable (n count : ℕ) (images positive negative : List ℕ) (tested : ℕ) (points : List ℕ) (heads : ℕ) (links : List ℕ) : Type 0 where
+-- what row 18 looks at besides points and numbers: `count` permutations of n variables, and clauses that list no other variable
+pub record Proper (n count : ℕ) (images positive negative : List ℕ) : Type 0 where
   pub few : n ≤ maxVariables
+  pub group : count ≤ maxPermutations
   pub listed : Listed n count images
   pub proper : (e : Permutation) → e ∈ permutationsIn n count images → IsPermutation n e
   pub below : ClausesBelow n (numbered (clausesOf positive negative))
+
+-- what lets flips be looked up: there are as many points as are to be tested, and the links are an index of them
+pub record Testable (n count : ℕ) (images positive negative : List ℕ) (tested : ℕ) (points : List ℕ) (heads : ℕ) (links : List ℕ) : Type 0 where
+  pub given : Proper n count images positive negative
   pub enough : tested ≤ length (pointsOf points)
   pub indexed : Indexed heads n (take tested (pointsOf points)) links
 

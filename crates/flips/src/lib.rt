@@ -1,5 +1,6 @@
 // Refusal 18: whether each flip of a point by a variable of its clause is covered by the points, modulo the listed permutations.
-use coverage::covered;
+use coverage::flip_covered;
+use coverage::images_into;
 use formula::Checked;
 use points::Point;
 use slices::clause_at;
@@ -35,8 +36,8 @@ fn variables_of(positive: &[u64], negative: &[u64], k: u32) -> Point
     points::listed(c)
 }
 
-// Whether each flip of x by a variable of the set is covered by the first `count` points, variables lowest first. At most n times
-// permutations + 1 look-ups, each of at most n + 1 comparisons, and n steps for each image. `flips_pass` sees to what it requires.
+// Whether each flip of x by a variable of the set is covered by the first `count` points, variables lowest first; `moved` holds the images
+// of x. At most n times permutations + 1 look-ups, each of at most n + 1 comparisons. `flips_pass` sees to what it requires.
 fn flips_covered(
     links: &[u32],
     heads: usize,
@@ -45,17 +46,28 @@ fn flips_covered(
     images: &[u8],
     n: u32,
     permutations: u32,
+    moved: &[u64],
     x: Point,
     listed: Point,
 ) -> bool
-    requires { ⌜ Coverable heads n count (pointsOf (now points)) (now links) permutations (now images) x × (listed < 2 ^ n) ⌝ }
+    requires { ⌜ Coverable heads n count (pointsOf (now points)) (now links) permutations (now images) (pointsOf (now moved)) x × (listed < 2 ^ n) ⌝ }
     ensures { λ r. ⌜ r ≡ allFlips (covered (permutationsIn n permutations (now (images .entry))) (take count (pointsOf (now (points .entry))))) n x listed ⌝ }
 {
     let mut left = listed;
     let mut v = points::next_variable(left);
     while v < n {
-        let y = points::flip(x, v);
-        let known = covered(links, heads, points, n, count, images, permutations, y);
+        let known = flip_covered(
+            links,
+            heads,
+            points,
+            n,
+            count,
+            images,
+            permutations,
+            moved,
+            x,
+            v,
+        );
         if !known {
             return false;
         }
@@ -65,7 +77,8 @@ fn flips_covered(
     true
 }
 
-// Whether the flips of the point at index i, by the clause that the number there names, are covered.
+// Whether the flips of the point at index i, by the clause that the number there names, are covered. The images of the point are made once,
+// n steps for each of at most 16 permutations.
 fn flips_pass(
     positive: &[u64],
     negative: &[u64],
@@ -86,6 +99,8 @@ fn flips_pass(
     let k = number_at(numbers, i);
     let x = point_at(points, i);
     let listed = variables_of(positive, negative, k);
+    let mut moved = [0u64; 16];
+    images_into(&mut moved, images, n, permutations, x);
     flips_covered(
         links,
         heads,
@@ -94,6 +109,7 @@ fn flips_pass(
         images,
         n,
         permutations,
+        &moved,
         x,
         listed,
     )

@@ -103,7 +103,10 @@ pub passes-symmetry : (cs : List Numbered) (es : List Permutation) → ((e : Per
 unfolding symmetryFault
 passes-symmetry cs es each = ap (faultAt 12) (all-passing (keeps cs) es (λ e m. keeps-complete cs e (each e m)))
 
--- ---- what lets the loops over permutations run: after 10 and 11 the bytes hold them, each movable
+-- ---- what lets the loops over permutations run: after 10 and 11 the bytes hold them, few and each movable
+
+pub passes-few : (n k : ℕ) (bytes : List ℕ) → permutationFault n (permutationsIn n k bytes) ≡ sound → k ≤ maxPermutations
+passes-few n k bytes h = le-trans (le-of-eq (sym (length-permutations n k bytes))) (permutation-passes n (permutationsIn n k bytes) h .0)
 
 pub passes-listed : (n k : ℕ) (bytes : List ℕ) → n ≤ maxVariables → k * n ≤ length bytes → permutationFault n (permutationsIn n k bytes) ≡ sound → Listed n k bytes
 passes-listed n k bytes few room h =
@@ -162,6 +165,4 @@ module _ (f : Formula) (positive negative : List ℕ) where
   pub formula-listed : formulaFault f positive negative ≡ sound → eleven ≡ sound → length (f .images) ≡ 1024 → Listed (f .variables) (f .permutations) (f .images)
   formula-listed ten el size =
       let few = formula-passes ten .0 .few-variables in
-      let most = permutation-passes (f .variables) perms el .0 in
-      passes-listed (f .variables) (f .permutations) (f .images) few
-      (images-room few size (le-trans (le-of-eq (sym (length-permutations (f .variables) (f .permutations) (f .images)))) most)) el
+      passes-listed (f .variables) (f .permutations) (f .images) few (images-room few size (passes-few (f .variables) (f .permutations) (f .images) el)) el

@@ -1,5 +1,6 @@
--- Laws of images under a permutation: the computed image is the one that the sentence fixes. Assumes nothing.
-use mathlib.Core.Bool.{false, _&&_, _||_, and-true, and-false, or-false}
+-- Laws of images under a permutation: the computed image is the one that the sentence fixes, and that of a flipped point is the flipped image.
+-- Assumes nothing.
+use mathlib.Core.Bool.{false, _&&_, _||_, and-true, and-false, or-false, xor}
 use mathlib.Core.List.{List, [], _∷_, List·Memᴰ·head, List·Memᴰ·tail}
 use mathlib.Core.Path.{_≡_, refl, sym, ap, ap₂, _∙_, subst}
 use Prim.Native.Nat.{ℕ, zero, suc, _-_, _*_, _/_, _%_, _^_, _≤_, _<_}
@@ -9,10 +10,11 @@ use lib.Bits.{or-lt}
 use lib.Dec.{eqb}
 use lib.ListN.{length, getD}
 use lib.Pow.{pow-pos, pow-lt}
-use borrow.Author.Tests.{eq-eqb, ne-eqb}
-use Rattle.math.specs.BitLaws.{digit-lt, bit-zero, bit-suc, bit-of-zero, bit-or, bit-pow, bits-ext-below}
-use Rattle.math.specs.Bits.{bit}
-use Rattle.math.specs.ListLaws.{here, getD-in, in-getD, or-none}
+use borrow.Author.Tests.{eqb-true, eq-eqb, ne-eqb}
+use Rattle.math.specs.BitLaws.{digit-lt, bit-zero, bit-suc, bit-of-zero, bit-or, bit-pow, bit-flip, flip-lt, bits-ext-below}
+use Rattle.math.specs.Bits.{bit, flip}
+use Rattle.math.specs.CountLaws.{distinct-index}
+use Rattle.math.specs.ListLaws.{here, getD-in, in-getD, or-none, same-tests}
 use Rattle.math.specs.Lists.{_∈_, Distinct, distinct-cons}
 use Rattle.permutations.specs.PermutationLaws.{permutation-within, permutation-distinct, permutation-onto}
 use Rattle.permutations.specs.Permutations.{Permutation, IsPermutation, moved, IsImage, imageOfPoint}
@@ -79,6 +81,28 @@ moved-lt n (v ∷ vs) s h =
     low : (1 ≤ v) × (v ≤ n) → v - 1 < n
     low w = omega arith
 
+-- ---- where a permutation sends the variables
+
+-- the variable that variable i is sent to, both counted from 0
+abbrev pub sentTo : Permutation → ℕ → ℕ
+sentTo e i = getD (e .images) i 0 - 1
+
+module _ (n : ℕ) (e : Permutation) (p : IsPermutation n e) where
+  pub index-lt : (i : ℕ) → i < n → i < length (e .images)
+  index-lt i h = subst (λ k. i < k) (sym (p .size)) h
+
+  pub sent-range : (i : ℕ) → i < n → (1 ≤ getD (e .images) i 0) × (getD (e .images) i 0 ≤ n)
+  sent-range i h = permutation-within n e p (getD (e .images) i 0) (getD-in (e .images) i 0 (index-lt i h))
+
+  pub sent-lt : (i : ℕ) → i < n → sentTo e i < n
+  sent-lt i h = let w = sent-range i h in omega arith
+
+  pub sent-injective : (i j : ℕ) → i < n → j < n → sentTo e i ≡ sentTo e j → i ≡ j
+  sent-injective i j hi hj q =
+      let a = sent-range i hi in
+      let b = sent-range j hj in
+      distinct-index 0 (permutation-distinct n e p) i j (index-lt i hi) (index-lt j hj) (omega arith)
+
 -- ---- the image of a point: the computed one is an image, and the only one
 
 module _ (n : ℕ) (e : Permutation) (p : IsPermutation n e) (x : ℕ) where
@@ -87,7 +111,7 @@ module _ (n : ℕ) (e : Permutation) (p : IsPermutation n e) (x : ℕ) where
   image-sound =
       record {
         within = moved-lt n (e .images) x (permutation-within n e p);
-        value = λ i h. moved-at (e .images) x i (permutation-distinct n e p) (λ v m. permutation-within n e p v m .0) (subst (λ k. i < k) (sym (p .size)) h);
+        value = λ i h. moved-at (e .images) x i (permutation-distinct n e p) (λ v m. permutation-within n e p v m .0) (index-lt n e p i h);
       }
 
   pub image-complete : (y : ℕ) → IsImage n e x y → y ≡ imageOfPoint e x
@@ -102,3 +126,22 @@ module _ (n : ℕ) (e : Permutation) (p : IsPermutation n e) (x : ℕ) where
         where
           pred : (j : ℕ) → suc j - 1 ≡ j
           pred j = omega arith
+
+-- ---- the image of a point with variable v flipped: one step, where the image of the point is known
+
+pub image-flip : (n : ℕ) (e : Permutation) → IsPermutation n e → (x v : ℕ) → v < n
+    → imageOfPoint e (flip x v) ≡ flip (imageOfPoint e x) (getD (e .images) v 0 - 1)
+image-flip n e p x v h =
+    sym (image-complete n e p (flip x v) (flip (imageOfPoint e x) (sentTo e v))
+    (record {
+      within = flip-lt n (imageOfPoint e x) (sentTo e v) (image-sound n e p x .within) (sent-lt n e p v h);
+      value = λ i lt.
+          bit-flip (imageOfPoint e x) (sentTo e v) (sentTo e i) ∙ ap₂ xor (image-sound n e p x .value i lt) (same i lt) ∙ sym (bit-flip x v i);
+    }))
+  where
+    -- variable i is flipped in the one exactly if it is in the other
+    same : (i : ℕ) → i < n → eqb (sentTo e v) (sentTo e i) ≡ eqb v i
+    same i lt =
+        same-tests (eqb (sentTo e v) (sentTo e i)) (eqb v i)
+        (λ t. eq-eqb v i (sent-injective n e p v i h lt (eqb-true (sentTo e v) (sentTo e i) t)))
+        (λ t. eq-eqb (sentTo e v) (sentTo e i) (ap (sentTo e) (eqb-true v i t)))

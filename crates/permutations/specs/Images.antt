@@ -3,16 +3,16 @@ use mathlib.Core.Bool.{Bool, true, false, xor}
 use mathlib.Core.List.{[], _∷_, map}
 use mathlib.Core.Logic.{_↔_}
 use mathlib.Core.Path.{_≡_, refl, sym, ap, ap₂, _∙_, subst}
-use Prim.Native.Nat.{ℕ, suc, _-_, _≤_, _<_, _^_}
+use Prim.Native.Nat.{ℕ, suc, _-_, _<_, _^_}
 use native.Mathlib.Omega.{arith}
-use lib.ListN.{length, getD}
+use lib.ListN.{getD}
 use Rattle.math.specs.BitLaws.{bits-ext-below}
 use Rattle.math.specs.Bits.{bit}
-use Rattle.math.specs.CountLaws.{below-in, below-out, bit-below, distinct-index, count-carried}
-use Rattle.math.specs.ListLaws.{getD-in, in-getD, map-in, count-ext, distinct-range}
+use Rattle.math.specs.CountLaws.{below-in, below-out, bit-below, count-carried}
+use Rattle.math.specs.ListLaws.{in-getD, map-in, count-ext, distinct-range}
 use Rattle.math.specs.Lists.{_∈_, count, below}
 use Rattle.points.specs.Points.{Clause, Satisfies, by-yes, by-no, satisfies, distance}
-use Rattle.permutations.specs.ImageLaws.{moved-at, moved-lt, image-sound}
+use Rattle.permutations.specs.ImageLaws.{sentTo, index-lt, sent-lt, sent-injective, moved-at, moved-lt, image-sound}
 use Rattle.permutations.specs.PermutationLaws.{permutation-within, permutation-distinct, permutation-onto}
 use Rattle.permutations.specs.Permutations.{Permutation, IsPermutation, moved, imageOfPoint, imageOfClause}
 use Rattle.theory.specs.Notions.{ClauseBelow}
@@ -27,21 +27,8 @@ pub record Faithful (n : ℕ) (e : Permutation) : Type 0 where
   -- clauses with the same image are the same
   pub injective : (c d : Clause) → ClauseBelow n c → ClauseBelow n d → imageOfClause e c ≡ imageOfClause e d → c ≡ d
 
--- the variable that variable i is sent to, both counted from 0
-abbrev sentTo : Permutation → ℕ → ℕ
-sentTo e i = getD (e .images) i 0 - 1
-
 module _ (n : ℕ) (e : Permutation) (p : IsPermutation n e) where
   -- ---- a permutation is a bijection of the variables below n
-
-  index-lt : (i : ℕ) → i < n → i < length (e .images)
-  index-lt i h = subst (λ k. i < k) (sym (p .size)) h
-
-  sent-range : (i : ℕ) → i < n → (1 ≤ getD (e .images) i 0) × (getD (e .images) i 0 ≤ n)
-  sent-range i h = permutation-within n e p (getD (e .images) i 0) (getD-in (e .images) i 0 (index-lt i h))
-
-  sent-lt : (i : ℕ) → i < n → sentTo e i < n
-  sent-lt i h = let w = sent-range i h in omega arith
 
   sent-onto : (j : ℕ) → j < n → (i : ℕ) × (i < n) × (sentTo e i ≡ j)
   sent-onto j h =
@@ -49,17 +36,11 @@ module _ (n : ℕ) (e : Permutation) (p : IsPermutation n e) where
       let at : getD (e .images) (w .0) 0 ≡ suc j = w .2 in
       (w .0, subst (λ k. w .0 < k) (p .size) (w .1), omega arith)
 
-  sent-injective : (i j : ℕ) → i < n → j < n → sentTo e i ≡ sentTo e j → i ≡ j
-  sent-injective i j hi hj q =
-      let a = sent-range i hi in
-      let b = sent-range j hj in
-      distinct-index 0 (permutation-distinct n e p) i j (index-lt i hi) (index-lt j hj) (omega arith)
-
   -- so a test counts as often where the variables are sent
   count-sent : (t : ℕ → Bool) → count (λ i. t (sentTo e i)) (below n) ≡ count t (below n)
   count-sent t =
-      count-carried (sentTo e) t (distinct-range 0 n) (distinct-range 0 n) (λ i m. below-in n (sentTo e i) (sent-lt i (below-out n i m)))
-      (λ i j mi mj. sent-injective i j (below-out n i mi) (below-out n j mj))
+      count-carried (sentTo e) t (distinct-range 0 n) (distinct-range 0 n) (λ i m. below-in n (sentTo e i) (sent-lt n e p i (below-out n i m)))
+      (λ i j mi mj. sent-injective n e p i j (below-out n i mi) (below-out n j mj))
       (λ j m. let w = sent-onto j (below-out n j m) in subst (λ k. k ∈ map (sentTo e) (below n)) (w .2) (map-in (sentTo e) (below-in n (w .0) (w .1))))
 
   -- ---- its images keep distances
@@ -75,7 +56,7 @@ module _ (n : ℕ) (e : Permutation) (p : IsPermutation n e) where
 
   moved-value : (s i : ℕ) → i < n → bit (moved (e .images) s) (sentTo e i) ≡ bit s i
   moved-value s i h =
-      moved-at (e .images) s i (permutation-distinct n e p) (λ v m. permutation-within n e p v m .0) (index-lt i h)
+      moved-at (e .images) s i (permutation-distinct n e p) (λ v m. permutation-within n e p v m .0) (index-lt n e p i h)
 
   moved-below : (s : ℕ) → moved (e .images) s < 2 ^ n
   moved-below s = moved-lt n (e .images) s (permutation-within n e p)

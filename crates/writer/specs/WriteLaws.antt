@@ -14,7 +14,7 @@ use Rattle.formula.specs.declared.Checked.the-variants.{Passed, Refused as Faul
 use Rattle.formula.specs.declared.Formula.{Formula}
 use Rattle.formula.specs.Limits.{maxVariables, maxPermutations, maxSlots, capacity}
 use Rattle.formula.specs.Problem.{problemOf}
-use Rattle.formula.specs.RefusalLaws.{formula-passes, permutation-passes, images-room}
+use Rattle.formula.specs.RefusalLaws.{formula-passes, passes-few, images-room}
 use Rattle.formula.specs.Refusals.{formulaFault, permutationFault, symmetryFault, problemFault, faultOf}
 use Rattle.formula.specs.Reply.{Fault, sound, fault, first, written}
 use Rattle.formula.specs.ReplyLaws.{first-split, first-last, first-after, first-before, first-nested}
@@ -98,8 +98,7 @@ module _ (f : Formula) (positive negative points numbers depths : List ℕ) (cou
       row17 = first-split _ _ past-16 .0
 
       few-permutations : f .permutations ≤ maxPermutations
-      few-permutations =
-          le-trans (le-of-eq (sym (length-permutations (f .variables) (f .permutations) (f .images)))) (permutation-passes (f .variables) perms row11 .0)
+      few-permutations = passes-few (f .variables) (f .permutations) (f .images) row11
 
       enough : (count ≤ maxSlots) × (count ≤ length points) × (count ≤ length numbers)
       unfolding problemOf
