@@ -5,6 +5,7 @@
 #[path = "../tests/library.rs"]
 mod library;
 mod clock;
+mod files;
 use clock::spent;
 use library::Sheet;
 
@@ -16,30 +17,6 @@ fn sheet(variables: u32) -> Sheet {
     let positive: Vec<u64> = (0..=all).collect();
     let negative = positive.iter().map(|p| all - p).collect();
     Sheet { variables, clauses: 1 << LISTED, target: 0, permutations: 0, images: vec![0; 1024], positive, negative }
-}
-
-fn number(file: &mut Vec<u8>, x: usize) {
-    file.extend((x as u32).to_le_bytes());
-}
-
-// A certificate: contents, permutations, points, and for each point the number of the clause that it falsifies.
-fn certificate(variables: u32, permutations: &[Vec<u8>], points: &[u64]) -> Vec<u8> {
-    let images: Vec<u8> = permutations.concat();
-    let points_at = 32 + images.len();
-    let mut file = Vec::new();
-    number(&mut file, variables as usize);
-    number(&mut file, 1 << LISTED);
-    for (count, place) in [(permutations.len(), 32), (points.len(), points_at), (points.len(), points_at + 8 * points.len())] {
-        number(&mut file, count);
-        number(&mut file, place);
-    }
-    file.extend(images);
-    file.extend(points.iter().flat_map(|x| x.to_le_bytes()));
-    let all = (1u64 << LISTED) - 1;
-    for x in points {
-        number(&mut file, (all - (x & all)) as usize + 1);
-    }
-    file
 }
 
 // The points of m variables, each with its parity told by two more where there are permutations.
@@ -59,7 +36,8 @@ fn main() {
                 last.swap(m as usize, m as usize + 1);
             }
             let held = points(m, listed > 0);
-            let file = certificate(variables, &permutations, &held);
+            let all = (1u64 << LISTED) - 1;
+            let file = files::certificate(variables, 1 << LISTED, &permutations, &held, |x| (all - (x & all)) as usize + 1);
             let mut reply = [0u64; 4];
             let begun = spent();
             library::check(&sheet(variables), &file, &mut reply);

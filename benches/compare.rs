@@ -1,7 +1,7 @@
 // The library against the implementation of tests/reference.rs, which has the standard hash set: same inputs, same run, by the processor's time
-// (Linux). For each sheet handed over: reading it, searching with 4,096 and with 65,536 slots and, where no point satisfies it, checking the
-// certificate. Prints a table; a ratio above 1 says that the library took longer. Usage: compare SECONDS FILE .. (SECONDS: how long a
-// measurement goes on repeating a step at most).
+// (Linux). For each sheet handed over: reading it, searching with 4,096 and with 65,536 slots and, where no point satisfies it, writing and
+// checking the certificate. Prints a table; a ratio above 1 says that the library took longer. Usage: compare SECONDS FILE .. (SECONDS: how long
+// a measurement goes on repeating a step at most; a FILE called `large` stands for two texts of 1 MiB).
 #[path = "../tests/library.rs"]
 mod library;
 #[path = "../tests/lending.rs"]
@@ -51,8 +51,10 @@ fn searching(name: &str, s: &reference::Sheet, slots: usize, limit: f64) -> Opti
         return None;
     }
     let mut out = vec![0; 32 + 1024 + 12 * slots];
-    assert_eq!(library::write(&lent, &points, &numbers, &depths, filled as u32, &mut out, &mut reply), 1);
+    let ours = fastest(limit, || assert_eq!(library::write(&lent, &points, &numbers, &depths, filled as u32, &mut out, &mut reply), 1));
+    let theirs = fastest(limit, || assert!(reference::write(s, &points, &numbers, slots, filled as u32, out.len()).is_ok()));
     out.truncate(reply[1] as usize);
+    row(name, &format!("write {} bytes", out.len()), ours, theirs);
     Some(out)
 }
 
@@ -69,10 +71,11 @@ fn main() {
     let mut words = std::env::args().skip(1);
     let limit: f64 = words.next().and_then(|w| w.parse().ok()).expect("seconds");
     println!("| sheet | step | library, µs | hash set, µs | ratio |\n|---|---|---|---|---|");
-    for (name, text) in large() {
-        reading(name, &text, limit);
-    }
     for path in words {
+        if path == "large" {
+            large().iter().for_each(|(name, text)| reading(name, text, limit));
+            continue;
+        }
         let text = std::fs::read(&path).expect("a sheet");
         let name = std::path::Path::new(&path).file_stem().and_then(|s| s.to_str()).unwrap_or(&path).to_string();
         reading(&name, &text, limit);

@@ -6,7 +6,7 @@ use std::collections::BTreeMap;
 mod library;
 mod lending;
 mod reference;
-use lending::lent;
+use lending::{lent, words};
 use reference::{Reply, Slot};
 
 // Random numbers (xorshift), the same on every machine.
@@ -58,16 +58,6 @@ impl Random {
 
 fn narrow(xs: &[u64]) -> Vec<u32> {
     xs.iter().map(|&x| x as u32).collect()
-}
-
-// The words of a reply as the exported functions tell it.
-fn words(reply: &Reply) -> Vec<u64> {
-    match *reply {
-        Reply::Refused(number, place) => vec![0, u64::from(number), place as u64, 0],
-        Reply::Met { choice, changes, slots } => vec![1, choice, u64::from(changes), slots as u64],
-        Reply::Unmet { slots } => vec![2, slots as u64, 0, 0],
-        Reply::NoRoom { depth, slots } => vec![3, u64::from(depth), slots as u64, 0],
-    }
 }
 
 fn refused(r: reference::Refusal) -> Vec<u64> {

@@ -2,23 +2,34 @@
 use mathlib.Core.Bool.{Bool, true, false}
 use mathlib.Core.List.{List, _∷_, _++_}
 use mathlib.Core.Path.{_≡_}
-use Prim.Native.Nat.{ℕ, _≤_, _<_, _^_}
-use lib.ListN.{length}
+use Prim.Native.Nat.{ℕ, suc, _+_, _*_, _≤_, _<_, _^_}
+use lib.ListN.{length, take}
 use Rattle.math.specs.Bits.{members}
 use Rattle.points.specs.Contracts.{NextVariable}
-use Rattle.images.specs.Contracts.{Listed}
+use Rattle.index.specs.Index.{Indexed}
 use Rattle.permutations.specs.Permutations.{Permutation}
-use Rattle.formula.specs.Limits.{maxVariables, maxSlots}
+use Rattle.coverage.specs.Coverage.{Coverable}
+use Rattle.formula.specs.Limits.{maxSlots}
 use Rattle.expansion.specs.Memory.{Memory, Holds, Lends, SameLengths}
 use Rattle.traversal.specs.Walk.{Slot, Expansion, full, Fills}
 
--- what lets a flip be tried, of a point at depth d: the images hold `count` permutations of n variables, and each slice has room for
--- `capacity` slots
-pub record Fillable (n count : ℕ) (images : List ℕ) (capacity d : ℕ) (m : Memory) : Type 0 where
-  pub few : n ≤ maxVariables
-  pub listed : Listed n count images
+-- what lets a flip of x be tried, of a point at depth d, with k slots filled: the links are an index of their points, with two links for each
+-- head, and each slice has room for `capacity` slots
+pub record Fillable (n count : ℕ) (images moved : List ℕ) (capacity x d k heads : ℕ) (links : List ℕ) (m : Memory) : Type 0 where
+  pub coverable : Coverable heads n k (m .points) links count images moved x
   pub room : Lends capacity m
+  pub most : capacity ≤ maxSlots
   pub shallow : d < maxSlots
+  pub linked : heads + 2 * heads ≤ length links
+
+-- as many of the first b slots as there are have a head
+abbrev pub Headed : ℕ → ℕ → ℕ → Type 0
+Headed b capacity heads = (j : ℕ) → j < b → j < capacity → j < heads
+
+-- the links are an index of the points of k slots, at most one more than k₀
+pub record Follows (heads n k₀ k : ℕ) (points links : List ℕ) : Type 0 where
+  pub indexed : Indexed heads n (take k points) links
+  pub one : k ≤ suc k₀
 
 module _ (es : List Permutation) (capacity x d : ℕ) where
   -- how the filling ends, with the flips vs still to come and the slots w waiting: as `Fills` says if there was room so far, else there
@@ -43,9 +54,13 @@ module _ (es : List Permutation) (capacity x d : ℕ) where
   abbrev pub Tries : ℕ → ℕ → Memory → Bool → ℕ → Memory → Type 0
   Tries v k₀ m₀ roomy k m = (vs : List ℕ) → Advances (v ∷ vs) k₀ m₀ roomy vs k m
 
-  -- the loop over the variables of the set `listed`: those of `left` are still to be tried, v the lowest of them
-  pub record Trying (n listed k₀ : ℕ) (m₀ : Memory) (left v k : ℕ) (m : Memory) : Type 0 where
+  -- the loop over the variables of the set `listed`: those of `left` are still to be tried, v the lowest of them, and the links are an index of
+  -- the points of the slots filled, which with those left are at most b
+  pub record Trying (n listed k₀ heads b : ℕ) (m₀ : Memory) (links₀ : List ℕ) (left v k : ℕ) (m : Memory) (links : List ℕ) : Type 0 where
     pub within : left < 2 ^ n
     pub next : NextVariable left v
     pub lengths : SameLengths m₀ m
+    pub linked : length links ≡ length links₀
     pub advances : Advances (members n listed) k₀ m₀ true (members n left) k m
+    pub indexed : Indexed heads n (take k (m .points)) links
+    pub bounded : k + length (members n left) ≤ b

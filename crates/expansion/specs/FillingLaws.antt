@@ -1,22 +1,26 @@
 -- Laws of filling flips: it begins, one flip is covered, fills a slot or finds no room, and such steps follow one another. Assumes nothing.
 use mathlib.Core.Bool.{Bool, true, false, true≢false}
-use mathlib.Core.List.{List, [], _∷_, _++_, map, append-assoc, List·Memᴰ·head, List·Memᴰ·tail, List·Memᴰ·not-nil}
+use mathlib.Core.List.{List, [], _∷_, _++_, map, append-assoc}
 use mathlib.Core.Path.{_≡_, refl, sym, ap, _∙_, subst}
-use Prim.Native.Nat.{ℕ, zero, suc, _+_, _≤_, _<_}
-use native.Mathlib.Nat.{le-trans, le-of-eq, le-refl, mul-le-mul, le-of-suc-le-suc, not-suc-le-zero}
+use Prim.Native.Nat.{ℕ, suc, _+_, _^_, _≤_, _<_}
+use native.Mathlib.Nat.{le-trans, le-of-eq}
 use native.Mathlib.Numerals.{add-one}
 use native.Mathlib.Omega.{arith}
 use lib.ListN.{length, take, drop, set, length-map, length-append, length-drop}
+use Rattle.math.specs.BitLaws.{flip-lt}
 use Rattle.math.specs.Bits.{flip}
-use Rattle.math.specs.Lists.{_∈_, over}
+use Rattle.math.specs.ListLaws.{not-true-false, or-left}
+use Rattle.math.specs.Lists.{has, over}
 use Rattle.math.specs.OverLaws.{over-none, over-snoc}
 use Rattle.math.specs.PartLaws.{over-front}
 use Rattle.math.specs.QueueLaws.{length-snoc}
 use Rattle.math.specs.SplitLaws.{map-append}
 use Rattle.permutations.specs.PermutationLaws.{covered-sound, covered-complete}
-use Rattle.images.specs.Contracts.{Listed}
-use Rattle.permutations.specs.Permutations.{Permutation, Covered, covered, permutationsIn}
-use Rattle.expansion.specs.Filling.{Reaches, Advances}
+use Rattle.permutations.specs.Permutations.{Permutation, Covered, covered}
+use Rattle.index.specs.Index.{Indexed}
+use Rattle.index.specs.IndexLaws.{index-stored}
+use Rattle.index.specs.Looking.{Addable, Adds}
+use Rattle.expansion.specs.Filling.{Fillable, Headed, Follows, Reaches, Advances}
 use Rattle.expansion.specs.Memory.{Memory, Holds, Lends, SameLengths, Stored}
 use Rattle.traversal.specs.Walk.{Slot, slot, pointsIn, Expansion, complete, full, Fills, no-more, skipped, filled-next, no-room}
 
@@ -79,18 +83,42 @@ pub held-first : {m m′ : Memory} {s : Slot} → Lends 1 m → Stored m 0 s m�
 held-first {m} room st =
     held-more {l = []} 0 (record { points-held = sym (over-none (m .points)); falsified-held = sym (over-none (m .falsified)); depths-held = sym (over-none (m .depths)) }) refl room st
 
--- ---- the permutations
+-- ---- the index
 
--- the first j of the listed are among the first k
-fewer-in : (n j k : ℕ) (bytes : List ℕ) → j ≤ k → {e : Permutation} → e ∈ permutationsIn n j bytes → e ∈ permutationsIn n k bytes
-unfolding permutationsIn
-fewer-in n zero k bytes le m = absurd (List·Memᴰ·not-nil m)
-fewer-in n (suc j) zero bytes le m = absurd (not-suc-le-zero le)
-fewer-in n (suc j) (suc k) bytes le (List·Memᴰ·head e) = List·Memᴰ·head e
-fewer-in n (suc j) (suc k) bytes le (List·Memᴰ·tail m) = List·Memᴰ·tail (fewer-in n j k (drop n bytes) (le-of-suc-le-suc le) m)
+-- what is not covered is not among the points
+uncovered-new : (es : List Permutation) (ps : List ℕ) (y : ℕ) → covered es ps y ≡ false → has y ps ≡ false
+unfolding covered
+uncovered-new es ps y c = not-true-false (has y ps) (λ h. true≢false (sym (or-left (has y ps) _ h) ∙ c))
 
-pub listed-fewer : (n j k : ℕ) (bytes : List ℕ) → j ≤ k → Listed n k bytes → Listed n j bytes
-listed-fewer n j k bytes le l = record { room = le-trans (mul-le-mul le (le-refl n)) (l .room); movable = λ e m. l .movable e (fewer-in n j k bytes le m) }
+module _ (heads n k : ℕ) (points links : List ℕ) where
+  -- nothing filled, the links are an index of the same points
+  pub follows-same : Indexed heads n (take k points) links → Follows heads n k k points links
+  follows-same t = record { indexed = t; one = omega arith }
+
+  -- a point that is not covered, added to the links and stored behind the points
+  pub follows-added : (es : List Permutation) (y : ℕ) → covered es (take k points) y ≡ false → k < length points → (held : Bool) (points′ links′ : List ℕ)
+      → Adds heads n (take k points) links y held links′ → points′ ≡ set points k y → Follows heads n k (k + 1) points′ links′
+  follows-added es y new lt held points′ links′ a stored =
+      record {
+        indexed = subst (λ (l : List ℕ). Indexed heads n (take (k + 1) l) links′) (sym stored)
+            (index-stored heads n k points links′ y lt (a .grown (a .tells ∙ uncovered-new es (take k points) y new)));
+        one = omega arith;
+      }
+
+-- what lets the flip be added: a slot that there is has a head
+pub fillable-addable : {n count : ℕ} {images moved : List ℕ} {capacity x d k heads : ℕ} {links : List ℕ} {m : Memory} → Fillable n count images moved capacity x d k heads links m
+    → Headed (k + 1) capacity heads → k < capacity → (v y : ℕ) → v < n → y ≡ flip x v → Addable heads n k (m .points) links y
+fillable-addable {n = n} {x = x} {k = k} {heads = heads} {links = links} {m = m} f headed lt v y small q =
+    let few : k < heads = headed k (omega arith) lt in
+    let linked = f .linked in
+    let most = f .most in
+    let long = f .room .points-room in
+    record {
+      askable = record { few = f .coverable .askable .few; indexed = f .coverable .askable .indexed; narrow = subst (λ (z : ℕ). z < 2 ^ n) (sym q) (flip-lt n x v (f .coverable .askable .narrow) small) };
+      enough = omega arith;
+      small = omega arith;
+      room = omega arith;
+    }
 
 -- ---- the flips
 

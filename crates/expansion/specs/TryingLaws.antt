@@ -2,27 +2,34 @@
 -- turn leaves one variable less. Assumes nothing.
 use mathlib.Core.Bool.{Bool, true, false}
 use mathlib.Core.List.{List, [], _∷_}
-use mathlib.Core.Path.{_≡_, sym, ap, _∙_, subst}
-use Prim.Native.Nat.{ℕ, suc, _≤_, _<_, _^_}
+use mathlib.Core.Path.{_≡_, refl, sym, ap, _∙_, subst}
+use Prim.Native.Nat.{ℕ, suc, _+_, _*_, _≤_, _<_, _^_}
 use native.Mathlib.Nat.{le-of-eq}
-use lib.ListN.{length}
+use native.Mathlib.Omega.{arith}
+use lib.ListN.{length, take}
 use Rattle.math.specs.BitLaws.{flip-lt}
 use Rattle.math.specs.Bits.{flip, members}
-use Rattle.math.specs.SetLaws.{members-next}
+use Rattle.math.specs.SetLaws.{members-next, members-few}
 use Rattle.points.specs.Contracts.{NextVariable}
 use Rattle.points.specs.NextLaws.{next-lowest, next-none}
 use Rattle.permutations.specs.Permutations.{Permutation}
 use Rattle.formula.specs.Limits.{maxVariables}
-use Rattle.expansion.specs.Filling.{Advances, Tries, Trying}
-use Rattle.expansion.specs.FillingLaws.{lengths-refl, lengths-trans, advances-begins, advances-on, advances-stuck}
+use Rattle.index.specs.Index.{Indexed}
+use Rattle.expansion.specs.Filling.{Fillable, Headed, Follows, Advances, Tries, Trying}
+use Rattle.expansion.specs.FillingLaws.{lengths-refl, lengths-trans, lends-still, advances-begins, advances-on, advances-stuck}
 use Rattle.expansion.specs.Memory.{Memory, SameLengths}
 
-module _ (es : List Permutation) (capacity x d n listed k₀ : ℕ) (m₀ : Memory) (few : n ≤ maxVariables) where
-  pub trying-begins : (v : ℕ) → listed < 2 ^ n → NextVariable listed v → Trying es capacity x d n listed k₀ m₀ listed v k₀ m₀
-  trying-begins v lt next =
-      record { within = lt; next = next; lengths = lengths-refl m₀; advances = advances-begins es capacity x d (members n listed) k₀ m₀ }
+module _ (es : List Permutation) (capacity x d n listed k₀ heads : ℕ) (m₀ : Memory) (links₀ : List ℕ) (few : n ≤ maxVariables) where
+  -- k slots are filled, with these links, and the variables of `left` are to be tried, v first
+  abbrev Now : ℕ → ℕ → ℕ → Memory → List ℕ → Type 0
+  Now left v k m links = Trying es capacity x d n listed k₀ heads (k₀ + n) m₀ links₀ left v k m links
 
-  module _ {left v k : ℕ} {m : Memory} (t : Trying es capacity x d n listed k₀ m₀ left v k m) where
+  pub trying-begins : (v : ℕ) → listed < 2 ^ n → NextVariable listed v → Indexed heads n (take k₀ (m₀ .points)) links₀ → Now listed v k₀ m₀ links₀
+  trying-begins v lt next t =
+      let less = members-few n listed in
+      record { within = lt; next = next; lengths = lengths-refl m₀; linked = refl; advances = advances-begins es capacity x d (members n listed) k₀ m₀; indexed = t; bounded = omega arith }
+
+  module _ {left v k : ℕ} {m : Memory} {links : List ℕ} (t : Now left v k m links) where
     -- the variables left: v first
     first : v < n → members n left ≡ v ∷ members n (flip left v)
     first lt = members-next n left v (next-lowest n left v few (t .next) lt) lt
@@ -30,19 +37,47 @@ module _ (es : List Permutation) (capacity x d n listed k₀ : ℕ) (m₀ : Memo
     forward : v < n → Advances es capacity x d (members n listed) k₀ m₀ true (v ∷ members n (flip left v)) k m
     forward lt = subst (λ vs. Advances es capacity x d (members n listed) k₀ m₀ true vs k m) (first lt) (t .advances)
 
-    pub trying-less : (left′ : ℕ) → v < n → left′ ≡ flip left v → length (members n left′) < length (members n left)
-    trying-less left′ lt q = le-of-eq (ap (λ s. suc (length (members n s))) q ∙ sym (ap length (first lt)))
+    fewer : (left′ : ℕ) → v < n → left′ ≡ flip left v → suc (length (members n left′)) ≡ length (members n left)
+    fewer left′ lt q = ap (λ s. suc (length (members n s))) q ∙ sym (ap length (first lt))
 
-    pub trying-goes-on : {roomy : Bool} {k′ v′ : ℕ} {m′ : Memory} → v < n → Tries es capacity x d v k m roomy k′ m′ → roomy ≡ true → SameLengths m m′
-        → (left′ : ℕ) → left′ ≡ flip left v → NextVariable left′ v′ → Trying es capacity x d n listed k₀ m₀ left′ v′ k′ m′
-    trying-goes-on {k′ = k′} {v′ = v′} {m′ = m′} lt tried e same left′ q next =
-        subst (λ s. Trying es capacity x d n listed k₀ m₀ s v′ k′ m′) (sym q)
-        (record {
-          within = flip-lt n left v (t .within) lt;
-          next = subst (λ s. NextVariable s v′) q next;
+    pub trying-less : (left′ : ℕ) → v < n → left′ ≡ flip left v → length (members n left′) < length (members n left)
+    trying-less left′ lt q = le-of-eq (fewer left′ lt q)
+
+    -- what lets the next flip be tried
+    pub trying-fillable : {count : ℕ} {images moved : List ℕ} → Fillable n count images moved capacity x d k₀ heads links₀ m₀ → Fillable n count images moved capacity x d k heads links m
+    trying-fillable f =
+        let c = f .coverable in
+        record {
+          coverable = record { askable = record { few = c .askable .few; indexed = t .indexed; narrow = c .askable .narrow }; listed = c .listed; proper = c .proper; imaged = c .imaged };
+          room = lends-still (f .room) (t .lengths);
+          most = f .most;
+          shallow = f .shallow;
+          linked = subst (λ (j : ℕ). heads + 2 * heads ≤ j) (sym (t .linked)) (f .linked);
+        }
+
+    -- the next slot has a head, if there is one
+    pub trying-headed : v < n → Headed (k₀ + n) capacity heads → Headed (k + 1) capacity heads
+    trying-headed lt headed j below =
+        let less = fewer (flip left v) lt refl in
+        let bounded = t .bounded in
+        headed j (omega arith)
+
+    pub trying-goes-on : {roomy : Bool} {k′ v′ : ℕ} {m′ : Memory} {links′ : List ℕ} → v < n → Tries es capacity x d v k m roomy k′ m′ → Follows heads n k k′ (m′ .points) links′ → roomy ≡ true
+        → SameLengths m m′ → length links′ ≡ length links → (left′ : ℕ) → left′ ≡ flip left v → NextVariable left′ v′ → Now left′ v′ k′ m′ links′
+    trying-goes-on {k′ = k′} {v′ = v′} {m′ = m′} {links′ = links′} lt tried follows e same linked left′ q next =
+        let less = fewer left′ lt q in
+        let bounded = t .bounded in
+        let one = follows .one in
+        record {
+          within = subst (λ (s : ℕ). s < 2 ^ n) (sym q) (flip-lt n left v (t .within) lt);
+          next = next;
           lengths = lengths-trans (t .lengths) same;
-          advances = advances-on es capacity x d (forward lt) (subst (λ b. Tries es capacity x d v k m b k′ m′) e tried (members n (flip left v)));
-        })
+          linked = linked ∙ t .linked;
+          advances = subst (λ (s : ℕ). Advances es capacity x d (members n listed) k₀ m₀ true (members n s) k′ m′) (sym q)
+              (advances-on es capacity x d (forward lt) (subst (λ b. Tries es capacity x d v k m b k′ m′) e tried (members n (flip left v))));
+          indexed = follows .indexed;
+          bounded = omega arith;
+        }
 
     pub trying-stops : {roomy : Bool} {k′ : ℕ} {m′ : Memory} → v < n → Tries es capacity x d v k m roomy k′ m′ → roomy ≡ false
         → Advances es capacity x d (members n listed) k₀ m₀ false [] k′ m′

@@ -1,16 +1,18 @@
 // The flips of one point: each that is not covered by the filled slots fills the next (01: "the point with that name flipped, if not
 // covered by the filled slots, fills the next slot").
+use coverage::flip_covered;
 use points::Point;
 use slices::put_point;
-use symmetry::cover::covered;
 ghost use mathlib.Core.List.{[]};
-ghost use Prim.Native.Nat.{_<_, _^_};
-ghost use lib.ListN.{length};
+ghost use Prim.Native.Nat.{_+_, _<_, _^_};
+ghost use lib.ListN.{length, take};
 ghost use Rattle.math.specs.Bits.{members};
+ghost use Rattle.slices.specs.Slices.{pointsOf};
+ghost use Rattle.index.specs.Index.{Indexed};
 ghost use Rattle.permutations.specs.Permutations.{permutationsIn};
 ghost use Rattle.traversal.specs.Walk.{slot};
 ghost use Rattle.expansion.specs.Memory.{memory, Stored};
-ghost use Rattle.expansion.specs.Filling.{Fillable, Advances, Tries};
+ghost use Rattle.expansion.specs.Filling.{Fillable, Headed, Advances, Tries, Follows};
 
 // A slot's depth: how many flips lie between the target and its point.
 pub type Depth = u32;
@@ -49,42 +51,57 @@ pub fn fill(
 }
 
 // W7, W8: tries the point x, of depth d, with the variable v flipped: unless it is covered it fills the next slot, one deeper, if there is
-// one. A look-up compares it and its image under each permutation with each filled slot: at most (permutations + 1) · filled comparisons,
-// and n steps for each image. `expand` hands on what it requires.
+// one. It and its image under each permutation, one step each, are looked up in the index of the filled slots: permutations + 1 look-ups of at
+// most n + 1 comparisons, and one more where a slot is filled. `expand` hands on what it requires.
 fn try_flip(
     g: Frame,
     images: &[u8],
+    moved: &[u64],
     points: &mut [u64],
     falsified: &mut [u32],
     depths: &mut [Depth],
+    links: &mut [u32],
+    heads: usize,
     filled: usize,
     x: Point,
     d: Depth,
     v: u32,
 ) -> Grown
-    requires { ⌜ Fillable (g .variables) (g .permutations) (now images) (g .room) d (memory (now points) (now falsified) (now depths)) × (v < 64) ⌝ }
+    requires { ⌜ Fillable (g .variables) (g .permutations) (now images) (now moved) (g .room) x d filled heads (now links) (memory (now points) (now falsified) (now depths))
+        × Headed (filled + 1) (g .room) heads × (v < g .variables) ⌝ }
     ensures { λ r. ⌜ Tries (permutationsIn (g .variables) (g .permutations) (now (images .entry))) (g .room) x d v filled
         (memory (now (points .entry)) (now (falsified .entry)) (now (depths .entry))) (r .roomy) (r .filled)
-        (memory (now (points .exit)) (now (falsified .exit)) (now (depths .exit))) ⌝ }
+        (memory (now (points .exit)) (now (falsified .exit)) (now (depths .exit)))
+        × Follows heads (g .variables) filled (r .filled) (pointsOf (now (points .exit))) (now (links .exit)) ⌝ }
 {
-    let n = g.variables as usize;
-    let count = g.permutations as usize;
-    let room = g.room;
-    let y = points::flip(x, v);
-    let known = covered(points, filled, images, n, count, y);
+    let n = g.variables;
+    let known = flip_covered(
+        links,
+        heads,
+        points,
+        n,
+        filled,
+        images,
+        g.permutations,
+        moved,
+        x,
+        v,
+    );
     if known {
         return Grown {
             filled: filled,
             roomy: true,
         };
     }
-    if room <= filled {
+    if g.room <= filled {
         return Grown {
             filled: filled,
             roomy: false,
         };
     }
+    let y = points::flip(x, v);
     let deeper = d + 1;
+    index::add(links, heads, points, n, filled, y);
     fill(points, falsified, depths, filled, y, deeper);
     let more = filled + 1;
     Grown {
@@ -93,30 +110,48 @@ fn try_flip(
     }
 }
 
-// W7: tries the flips of the variables of a set, lowest first, until one finds no room. At most n flips, one look-up each. `process` sees
-// to what it requires, by refusal 10 for the set.
+// W7: tries the flips of the variables of a set, lowest first, until one finds no room; `moved` has the images of x. At most n flips, and
+// permutations + 2 look-ups for each. `process` sees to what it requires, by refusal 10 for the set.
 pub fn expand(
     g: Frame,
     images: &[u8],
+    moved: &[u64],
     points: &mut [u64],
     falsified: &mut [u32],
     depths: &mut [Depth],
+    links: &mut [u32],
+    heads: usize,
     filled: usize,
     x: Point,
     d: Depth,
     listed: Point,
 ) -> Grown
-    requires { ⌜ Fillable (g .variables) (g .permutations) (now images) (g .room) d (memory (now points) (now falsified) (now depths)) × (listed < 2 ^ g .variables) ⌝ }
+    requires { ⌜ Fillable (g .variables) (g .permutations) (now images) (now moved) (g .room) x d filled heads (now links) (memory (now points) (now falsified) (now depths))
+        × Headed (filled + g .variables) (g .room) heads × (listed < 2 ^ g .variables) ⌝ }
     ensures { λ r. ⌜ Advances (permutationsIn (g .variables) (g .permutations) (now (images .entry))) (g .room) x d (members (g .variables) listed) filled
         (memory (now (points .entry)) (now (falsified .entry)) (now (depths .entry))) (r .roomy) [] (r .filled)
-        (memory (now (points .exit)) (now (falsified .exit)) (now (depths .exit))) ⌝ }
+        (memory (now (points .exit)) (now (falsified .exit)) (now (depths .exit)))
+        × Indexed heads (g .variables) (take (r .filled) (pointsOf (now (points .exit)))) (now (links .exit)) ⌝ }
 {
     let n = g.variables;
     let mut left = listed;
     let mut v = points::next_variable(left);
     let mut held = filled;
     while v < n {
-        let grown = try_flip(g, images, points, falsified, depths, held, x, d, v);
+        let grown = try_flip(
+            g,
+            images,
+            moved,
+            points,
+            falsified,
+            depths,
+            links,
+            heads,
+            held,
+            x,
+            d,
+            v,
+        );
         let roomy = grown.roomy;
         held = grown.filled;
         if !roomy {

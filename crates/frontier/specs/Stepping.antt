@@ -1,24 +1,28 @@
--- What one step of the search and the search from a state do to the memory: the contracts of `process`, `explore` and `start`.
+-- What one step of the search and the search from a state do to the memory: the contracts of `process` and `explore`.
 -- Assumes nothing.
-use mathlib.Core.List.{List, [], _∷_, _++_}
+use mathlib.Core.List.{List, _++_}
 use mathlib.Core.Path.{_≡_}
-use Prim.Native.Nat.{ℕ, _+_, _≤_}
-use lib.ListN.{length}
+use Prim.Native.Nat.{ℕ, _+_, _*_, _≤_, _<_}
+use lib.ListN.{length, take}
+use Rattle.math.specs.Lists.{_∈_}
 use Rattle.points.specs.Points.{numbered}
 use Rattle.slices.specs.Slices.{clausesOf}
 use Rattle.images.specs.Contracts.{Listed}
-use Rattle.permutations.specs.Permutations.{permutationsIn}
-use Rattle.formula.specs.Limits.{maxVariables, maxClauses, maxSlots}
+use Rattle.index.specs.Index.{Indexed}
+use Rattle.permutations.specs.Permutations.{Permutation, IsPermutation, permutationsIn}
+use Rattle.formula.specs.Limits.{maxVariables, maxClauses, maxPermutations, maxSlots}
 use Rattle.formula.specs.Problem.{Problem}
 use Rattle.formula.specs.Reply.{Reply, satisfiable, unsatisfiable, unknown}
 use Rattle.frontier.specs.declared.Answer.{Answer}
 use Rattle.frontier.specs.declared.Answer.the-variants.{Satisfiable, Unsatisfiable, Unknown}
 use Rattle.expansion.specs.declared.Frame.{Frame}
 use Rattle.frontier.specs.declared.Step.{Step}
+use Rattle.frontier.specs.declared.Stage.{Stage}
+use Rattle.frontier.specs.declared.Stage.the-variants.{Answered, Paused}
 use Rattle.frontier.specs.declared.Step.the-variants.{Ends, Goes}
-use Rattle.expansion.specs.Memory.{Memory, Holds}
+use Rattle.expansion.specs.Memory.{Memory, Holds, SameLengths}
 use Rattle.traversal.specs.Invariants.{Ready, Invariants}
-use Rattle.traversal.specs.Walk.{Slot, slot, state, Walks}
+use Rattle.traversal.specs.Walk.{Slot, state, Walks}
 
 -- F10: what the code's answer says in document 01's terms
 abbrev pub answerOf : Answer → Reply
@@ -40,11 +44,23 @@ framed g images positive negative =
 -- what is known of it once refusals 10 to 13 have passed
 pub record Searchable (g : Frame) (images positive negative : List ℕ) : Type 0 where
   pub few : g .variables ≤ maxVariables
+  pub group : g .permutations ≤ maxPermutations
   pub listed : Listed (g .variables) (g .permutations) images
+  pub proper : (e : Permutation) → e ∈ permutationsIn (g .variables) (g .permutations) images → IsPermutation (g .variables) e
   pub clauses : length (clausesOf positive negative) ≤ maxClauses
   pub ready : Ready (framed g images positive negative)
   pub some : 1 ≤ g .room
   pub most : g .room ≤ maxSlots
+
+-- the links are an index of the points of the k slots filled, with two links for each head
+pub record Linked (n heads k : ℕ) (points links : List ℕ) : Type 0 where
+  pub indexed : Indexed heads n (take k points) links
+  pub linked : heads + 2 * heads ≤ length links
+
+-- if the step goes on, they are again
+abbrev pub StillLinked : ℕ → ℕ → Step → List ℕ → List ℕ → Type 0
+StillLinked n heads (Ends a) points links = Unit {0}
+StillLinked n heads (Goes k) points links = Indexed heads n (take k points) links
 
 module _ (pb : Problem) (capacity : ℕ) where
   -- the search has come to the slot of index i: in front of what the memory `old` has, m holds the processed slots p, i of them, and the
@@ -54,11 +70,6 @@ module _ (pb : Problem) (capacity : ℕ) where
     pub processed : length p ≡ i
     pub filled : length (p ++ w) ≡ k
     pub invariants : Invariants pb capacity p w
-
-  -- the memory m has the target in its first slot, in front of whatever was there
-  pub record Begun (m : Memory) : Type 0 where
-    pub old : Memory
-    pub holds : Holds old (slot (pb .target) 0 0 ∷ []) m
 
   -- there are slots at which the search stands
   pub record Midway (i k : ℕ) (m : Memory) : Type 0 where
@@ -89,10 +100,22 @@ module _ (pb : Problem) (capacity : ℕ) where
   abbrev pub Steps : ℕ → ℕ → Memory → Step → Memory → Type 0
   Steps i k m₀ step m = (old : Memory) (p w : List Slot) → Stands old p w i k m₀ → After old p w i step m
 
-  -- the loop over the slots, from the first
-  abbrev pub Walking : Memory → ℕ → ℕ → Memory → Type 0
-  Walking m₀ i k m = (old : Memory) → Holds old (slot (pb .target) 0 0 ∷ []) m₀ → GoesOn old [] (slot (pb .target) 0 0 ∷ []) i k m
+  -- many steps, from the slot of index i₀ with k₀ slots filled to that of index i with k
+  abbrev pub Walking : ℕ → ℕ → Memory → ℕ → ℕ → Memory → Type 0
+  Walking i₀ k₀ m₀ i k m = (old : Memory) (p w : List Slot) → Stands old p w i₀ k₀ m₀ → GoesOn old p w i k m
 
-  -- the search from the target in the first slot, answered
-  abbrev pub Answers : Memory → Reply → Memory → Type 0
-  Answers m₀ r m = (old : Memory) → Holds old (slot (pb .target) 0 0 ∷ []) m₀ → Ended old [] (slot (pb .target) 0 0 ∷ []) r m
+  -- the loop over the slots: it has come to the slot of index i with k filled, and the links are an index of their points
+  pub record Exploring (n heads i₀ k₀ : ℕ) (m₀ : Memory) (links₀ : List ℕ) (i k : ℕ) (m : Memory) (links : List ℕ) : Type 0 where
+    pub lengths : SameLengths m₀ m
+    pub same-links : length links ≡ length links₀
+    pub walking : Walking i₀ k₀ m₀ i k m
+    pub indexed : Indexed heads n (take k (m .points)) links
+
+  -- the search from the slot of index i, answered
+  abbrev pub Answers : ℕ → ℕ → Memory → Reply → Memory → Type 0
+  Answers i k m₀ r m = (old : Memory) (p w : List Slot) → Stands old p w i k m₀ → Ended old p w r m
+
+  -- what exploring from the slot of index i comes to; it pauses nowhere but where more slots can be lent than have heads
+  abbrev pub Explores : ℕ → ℕ → ℕ → Memory → Stage → Memory → Type 0
+  Explores heads i k m₀ (Answered a) m = Answers i k m₀ (answerOf a) m
+  Explores heads i k m₀ (Paused i′ k′) m = Walking i k m₀ i′ k′ m × (heads < capacity)

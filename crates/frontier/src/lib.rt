@@ -1,17 +1,21 @@
-// The search from the target, slot by slot, oldest first.
+// The search, slot by slot, oldest first, from any slot on.
+use coverage::images_into;
 use expansion::Depth;
 use expansion::Frame;
 use expansion::expand;
-use expansion::fill;
 use points::Point;
 use slices::clause_at;
 use slices::first_falsified;
 use slices::point_at;
-ghost use mathlib.Core.List.{[], _∷_};
-ghost use Prim.Native.Nat.{_<_};
-ghost use Rattle.traversal.specs.Walk.{slot};
+ghost use mathlib.Core.Bool.{_&&_};
+ghost use mathlib.Core.Path.{_≡_};
+ghost use Prim.Native.Nat.{_+_, _≤_, _<_};
+ghost use lib.Dec.{ltb};
+ghost use Rattle.slices.specs.Slices.{pointsOf};
+ghost use Rattle.formula.specs.Limits.{maxSlots};
+ghost use Rattle.expansion.specs.Filling.{Headed};
 ghost use Rattle.expansion.specs.Memory.{memory, Lends};
-ghost use Rattle.frontier.specs.Stepping.{answerOf, framed, Searchable, Begun, Midway, Steps, Answers, Ended};
+ghost use Rattle.frontier.specs.Stepping.{framed, Searchable, Linked, StillLinked, Midway, Steps, Explores};
 
 // What a search comes to; `search::Outcome` adds the refusals.
 pub enum Answer {
@@ -35,9 +39,15 @@ pub enum Step {
     Goes { filled: usize },
 }
 
+// What exploring comes to: the search's answer, or where it paused, since the index might be too small for one more step.
+pub enum Stage {
+    Answered(Answer),
+    Paused { at: usize, filled: usize },
+}
+
 // W5 to W8: processes the slot of index `at`. Its point satisfies all clauses, or the number of the first that it falsifies is stored, and
-// then the flips of that clause's variables are tried. One scan of the clauses, and at most n look-ups among the filled slots. `explore`
-// sees to what it requires.
+// then the flips of that clause's variables are tried. One scan of the clauses, the images of the point, n steps for each permutation, and at
+// most n times permutations + 2 look-ups. `explore` sees to what it requires.
 fn process(
     g: Frame,
     images: &[u8],
@@ -46,14 +56,18 @@ fn process(
     points: &mut [u64],
     falsified: &mut [u32],
     depths: &mut [Depth],
+    links: &mut [u32],
+    heads: usize,
     at: usize,
     filled: usize,
 ) -> Step
     requires { ⌜ Searchable g (now images) (now positive) (now negative) × Lends (g .room) (memory (now points) (now falsified) (now depths)) × (at < filled)
-        × Midway (framed g (now images) (now positive) (now negative)) (g .room) at filled (memory (now points) (now falsified) (now depths)) ⌝ }
+        × Midway (framed g (now images) (now positive) (now negative)) (g .room) at filled (memory (now points) (now falsified) (now depths))
+        × Linked (g .variables) heads filled (pointsOf (now points)) (now links) × Headed (filled + g .variables) (g .room) heads ⌝ }
     ensures { λ r. ⌜ Steps (framed g (now (images .entry)) (now (positive .entry)) (now (negative .entry))) (g .room) at filled
         (memory (now (points .entry)) (now (falsified .entry)) (now (depths .entry))) r
-        (memory (now (points .exit)) (now (falsified .exit)) (now (depths .exit))) ⌝ }
+        (memory (now (points .exit)) (now (falsified .exit)) (now (depths .exit)))
+        × StillLinked (g .variables) heads r (pointsOf (now (points .exit))) (now (links .exit)) ⌝ }
 {
     let x = point_at(points, at);
     let d = depths[at];
@@ -72,7 +86,22 @@ fn process(
     let before = number - 1;
     let c = clause_at(positive, negative, before);
     let listed = points::listed(c);
-    let grown = expand(g, images, points, falsified, depths, filled, x, d, listed);
+    let mut moved = [0u64; 16];
+    images_into(&mut moved, images, g.variables, g.permutations, x);
+    let grown = expand(
+        g,
+        images,
+        &moved,
+        points,
+        falsified,
+        depths,
+        links,
+        heads,
+        filled,
+        x,
+        d,
+        listed,
+    );
     let held = grown.filled;
     if grown.roomy {
         return Step::Goes { filled: held };
@@ -84,9 +113,22 @@ fn process(
     })
 }
 
-// W4, W9: processes the slots one after the other until one gives the answer or none is left. At most `room` steps. `start` sees to
-// what it requires: it has stored the target.
-fn explore(
+// Whether one more step might fill more slots than the index has heads.
+fn outgrown(g: Frame, heads: usize, filled: usize) -> bool
+    requires { ⌜ (filled ≤ maxSlots) × (g .variables ≤ 64) ⌝ }
+    ensures { λ r. ⌜ r ≡ ltb heads (g .room) && ltb heads (filled + g .variables) ⌝ }
+{
+    if heads < g.room {
+        let most = filled + g.variables as usize;
+        heads < most
+    } else {
+        false
+    }
+}
+
+// W4, W9: processes the slots one after the other, from index `from` on with `held` slots filled, until one gives the answer, none is left, or
+// the index might be too small. At most `room` steps. Its callers see to what it requires: they have stored the target and indexed the points.
+pub fn explore(
     g: Frame,
     images: &[u8],
     positive: &[u64],
@@ -94,16 +136,27 @@ fn explore(
     points: &mut [u64],
     falsified: &mut [u32],
     depths: &mut [Depth],
-) -> Answer
+    links: &mut [u32],
+    heads: usize,
+    from: usize,
+    held: usize,
+) -> Stage
     requires { ⌜ Searchable g (now images) (now positive) (now negative) × Lends (g .room) (memory (now points) (now falsified) (now depths))
-        × Begun (framed g (now images) (now positive) (now negative)) (g .room) (memory (now points) (now falsified) (now depths)) ⌝ }
-    ensures { λ r. ⌜ Answers (framed g (now (images .entry)) (now (positive .entry)) (now (negative .entry))) (g .room)
-        (memory (now (points .entry)) (now (falsified .entry)) (now (depths .entry))) (answerOf r)
+        × Midway (framed g (now images) (now positive) (now negative)) (g .room) from held (memory (now points) (now falsified) (now depths))
+        × Linked (g .variables) heads held (pointsOf (now points)) (now links) ⌝ }
+    ensures { λ r. ⌜ Explores (framed g (now (images .entry)) (now (positive .entry)) (now (negative .entry))) (g .room) heads from held
+        (memory (now (points .entry)) (now (falsified .entry)) (now (depths .entry))) r
         (memory (now (points .exit)) (now (falsified .exit)) (now (depths .exit))) ⌝ }
 {
-    let mut at = 0;
-    let mut filled = 1;
+    let mut at = from;
+    let mut filled = held;
     while at < filled {
+        if outgrown(g, heads, filled) {
+            return Stage::Paused {
+                at: at,
+                filled: filled,
+            };
+        }
         let step = process(
             g,
             images,
@@ -112,13 +165,15 @@ fn explore(
             points,
             falsified,
             depths,
+            links,
+            heads,
             at,
             filled,
         );
         let next = at + 1;
         match step {
             Step::Ends(answer) => {
-                return answer;
+                return Stage::Answered(answer);
             }
             Step::Goes { filled: more } => {
                 filled = more;
@@ -127,24 +182,5 @@ fn explore(
         at = next;
     }
     let slots = filled as u32;
-    Answer::Unsatisfiable { filled: slots }
-}
-
-// W3: stores the target in the first slot and searches from there. `search::search` sees to what it requires, by refusals 10 to 13.
-pub fn start(
-    g: Frame,
-    images: &[u8],
-    positive: &[u64],
-    negative: &[u64],
-    points: &mut [u64],
-    falsified: &mut [u32],
-    depths: &mut [Depth],
-) -> Answer
-    requires { ⌜ Searchable g (now images) (now positive) (now negative) × Lends (g .room) (memory (now points) (now falsified) (now depths)) ⌝ }
-    ensures { λ r. ⌜ Ended (framed g (now (images .entry)) (now (positive .entry)) (now (negative .entry))) (g .room)
-        (memory (now (points .entry)) (now (falsified .entry)) (now (depths .entry))) [] (slot (g .target) 0 0 ∷ []) (answerOf r)
-        (memory (now (points .exit)) (now (falsified .exit)) (now (depths .exit))) ⌝ }
-{
-    fill(points, falsified, depths, 0, g.target, 0);
-    explore(g, images, positive, negative, points, falsified, depths)
+    Stage::Answered(Answer::Unsatisfiable { filled: slots })
 }

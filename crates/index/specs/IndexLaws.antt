@@ -3,12 +3,12 @@ use mathlib.Core.Bool.{Bool, true, false, cond, true≢false}
 use mathlib.Core.List.{List, [], _∷_, _++_}
 use mathlib.Core.Path.{_≡_, refl, sym, ap, _∙_, subst}
 use Prim.Native.Nat.{ℕ, suc, _+_, _*_, _-_, _^_, _≤_, _<_}
-use native.Mathlib.Nat.{not-suc-le-zero}
-use native.Mathlib.Decide.{decLt, ℕ-discrete}
+use native.Mathlib.Nat.{le-trans, le-of-eq, not-suc-le-zero}
+use native.Mathlib.Decide.{decLt}
 use native.Mathlib.Numerals.{add-one}
 use native.Mathlib.Omega.{arith}
 use lib.Dec.{eqb}
-use lib.ListN.{length, take, set, length-set, List·getD-append, List·getD-eq-default}
+use lib.ListN.{length, take, set, replicate, length-set, length-replicate, getD-replicate, List·getD-append, List·getD-eq-default}
 use lib.Seq.{length-take-le, take-set-le, take-suc-set, getD-append-seam, getD-set-same, getD-set-other}
 use borrow.Author.Tests.{eq-eqb, ne-eqb, eqb-true, eqb-false}
 use Rattle.math.specs.Bits.{bit}
@@ -38,21 +38,13 @@ index-empty heads n links pos le zeros =
     apart : (v j : ℕ) → v ≡ 0 → v ≡ suc j → ⊥
     apart v j z e = omega arith
 
--- ---- the links made 0, lowest first
-
-pub zeros-more : (links : List ℕ) (i : ℕ) → i < length links → ((s : ℕ) → s < i → entry links s ≡ 0) → (s : ℕ) → s < i + 1 → entry (set links i 0) s ≡ 0
-zeros-more links i within zeros s lt = by (ℕ-discrete s i)
+-- an array of zeros is such links
+pub zeros-replicate : (k : ℕ) → AllZero (replicate k 0)
+zeros-replicate k s = by (decLt s k)
   where
-    by : Dec (s ≡ i) → entry (set links i 0) s ≡ 0
-    by (yes e) = ap (entry (set links i 0)) e ∙ getD-set-same links i 0 0 within
-    by (no ne) = getD-set-other links i s 0 0 ne ∙ zeros s (omega arith)
-
-pub zeros-all : (links : List ℕ) (i : ℕ) → length links ≤ i → ((s : ℕ) → s < i → entry links s ≡ 0) → AllZero links
-zeros-all links i past zeros s = by (decLt s i)
-  where
-    by : Dec (s < i) → entry links s ≡ 0
-    by (yes lt) = zeros s lt
-    by (no ge) = List·getD-eq-default links 0 (omega arith)
+    by : Dec (s < k) → entry (replicate k 0) s ≡ 0
+    by (yes lt) = getD-replicate k s 0 0 lt
+    by (no ge) = List·getD-eq-default (replicate k 0) 0 (le-trans (le-of-eq (length-replicate {A = ℕ} k 0)) (omega arith))
 
 -- ---- where a look-up ended
 

@@ -11,7 +11,7 @@ ghost use Rattle.math.specs.Bits.{bit};
 ghost use Rattle.math.specs.Lists.{has};
 ghost use Rattle.slices.specs.Slices.{pointsOf};
 ghost use Rattle.index.specs.Index.{headOf, childOf};
-ghost use Rattle.index.specs.Looking.{AllZero, Askable, Addable, Ends, Adds};
+ghost use Rattle.index.specs.Looking.{Askable, Addable, Ends, Adds};
 
 // Where a look-up ended: whether at the point itself, and the link.
 pub struct Spot {
@@ -53,17 +53,6 @@ fn put_link(links: &mut [u32], s: usize, value: u32)
 {
     if s < links.len() {
         links[s] = value;
-    }
-}
-
-// Makes every link 0: an index of no points (`index-empty`). One store a link.
-pub fn clear(links: &mut [u32])
-    ensures { λ _. ⌜ AllZero (now (links .exit)) ⌝ }
-{
-    let mut s = 0;
-    while s < links.len() {
-        links[s] = 0;
-        s += 1;
     }
 }
 

@@ -8,12 +8,14 @@ use native.Mathlib.Numerals.{add-one}
 use native.Mathlib.Omega.{arith}
 use lib.Dec.{ltb}
 use lib.ListN.{length, getD, take}
-use lib.Seq.{take-suc}
+use lib.Seq.{take-suc, length-take-le}
 use borrow.Author.Tests.{ltb-true, not-true}
-use Rattle.math.specs.Lists.{below}
+use Rattle.math.specs.Lists.{_∈_, below, Distinct}
+use Rattle.math.specs.PartLaws.{all-passing-below}
 use Rattle.math.specs.ScanLaws.{failing-begins, below-ends, below-stops, below-goes-on}
 use Rattle.formula.specs.Reply.{Fault, fault, faultAt}
 use Rattle.formula.specs.ReplyLaws.{fault-not-sound, faultAt-sound}
+use Rattle.certificate.specs.RowLaws.{points-pass, point-passes-take}
 use Rattle.certificate.specs.Rows.{pointPasses, pointsFault}
 use Rattle.transport.specs.TransportLaws.{no-point, over-limit, counted, passes-new, fails-bit}
 use Rattle.index.specs.Index.{Indexed}
@@ -92,6 +94,16 @@ module _ {heads n count : ℕ} {points links₀ : List ℕ} (p : Indexable heads
           tells = sym (s .decides ∙ below-ends (pointPasses n points) count i ge);
           full = λ _. subst (λ (k : ℕ). Indexed heads n (take k points) links) (le-antisymm (s .most) ge) (s .indexed);
         }
+
+-- different points of n digits are all indexed
+pub sifts-full : {heads n count : ℕ} {points : List ℕ} {k : ℕ} {links : List ℕ} → count ≤ length points → ((x : ℕ) → x ∈ take count points → x < 2 ^ n) → Distinct (take count points)
+    → Sifts heads n count points k links → Indexed heads n (take count points) links
+sifts-full {n = n} {count = count} {points = points} enough narrow distinct s = s .full (s .tells ∙ all-passing-below (pointPasses n points) count each)
+  where
+    each : (i : ℕ) → i < count → pointPasses n points i ≡ true
+    each i lt =
+        sym (point-passes-take n points count i lt)
+        ∙ points-pass n (take count points) narrow distinct i (subst (λ (j : ℕ). i < j) (sym (length-take-le count points enough)) lt)
 
 -- ---- row 16
 

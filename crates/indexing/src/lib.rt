@@ -22,7 +22,7 @@ fn point_enters(links: &mut [u32], heads: usize, points: &[u64], n: u32, i: usiz
 
 // The number, from 1, of the first of `count` points that fails; 0 if all pass, and then the links are an index of them. At most
 // count · (n + 1) comparisons.
-fn index_points(links: &mut [u32], heads: usize, points: &[u64], n: u32, count: usize) -> usize
+pub fn index_points(links: &mut [u32], heads: usize, points: &[u64], n: u32, count: usize) -> usize
     requires { ⌜ Indexable heads n count (pointsOf (now points)) (now links) ⌝ }
     ensures { λ r. ⌜ Sifts heads n count (pointsOf (now (points .entry))) r (now (links .exit)) ⌝ }
 {

@@ -5,15 +5,16 @@ use mathlib.Core.List.{List, [], _∷_}
 use mathlib.Core.Path.{_≡_, refl, sym, ap, ap₂, _∙_}
 use Prim.Native.Nat.{ℕ, zero, suc, _+_, _*_, _/_, _%_, _^_, _≤_, _<_, zero-le, suc-le-suc}
 use native.Mathlib.Decide.{ℕ-discrete}
-use native.Mathlib.Nat.{pow-succ', le-of-suc-le-suc, not-suc-le-zero, le-refl}
+use native.Mathlib.Nat.{pow-succ', le-of-suc-le-suc, not-suc-le-zero, le-refl, le-trans, le-of-eq}
 use native.Mathlib.Omega.{arith}
 use lib.Arith.{lt-one}
 use lib.Count.{ones, ones-step, trailingZeros, under}
 use lib.Dec.{eqb}
+use lib.ListN.{length}
 use borrow.Author.Tests.{eq-eqb, ne-eqb}
 use Rattle.math.specs.BitLaws.{bit-zero, bit-suc, bit-of-zero, bit-flip, digit-lt}
 use Rattle.math.specs.Bits.{bit, flip, members, Lowest}
-use Rattle.math.specs.ListLaws.{count-ext, count-map, range-suc, range-out, select-ext}
+use Rattle.math.specs.ListLaws.{count-ext, count-le, count-map, length-range, length-select, range-suc, range-out, select-ext}
 use Rattle.math.specs.Lists.{count, select, range, below}
 
 -- ---- the count of ones
@@ -119,6 +120,11 @@ unfolding members
 members-next n s v l h =
     select-lowest (bit s) (bit (flip s v)) v (l .member) (bit-off s v (l .member)) (λ j ne. bit-other s v j ne) 0 n
     (λ j ge lt. l .least j lt) zero-le (omega arith)
+
+-- at most n numbers are below n
+pub members-few : (n s : ℕ) → length (members n s) ≤ n
+unfolding members
+members-few n s = le-trans (le-of-eq (length-select (bit s) (below n))) (le-trans (count-le (bit s) (below n)) (le-of-eq (length-range 0 n)))
 
 -- the empty set has no members
 pub members-none : (n : ℕ) → members n 0 ≡ []

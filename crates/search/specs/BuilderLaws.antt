@@ -15,7 +15,7 @@ use Rattle.formula.specs.declared.Checked.the-variants.{Passed, Refused as Faul
 use Rattle.formula.specs.declared.Formula.{Formula}
 use Rattle.formula.specs.Limits.{capacity}
 use Rattle.formula.specs.Problem.{problemOf}
-use Rattle.formula.specs.RefusalLaws.{formula-passes, formula-listed}
+use Rattle.formula.specs.RefusalLaws.{formula-passes, formula-listed, permutation-passes, passes-few}
 use Rattle.formula.specs.Refusals.{formulaFault, permutationFault, symmetryFault, problemFault, faultOf}
 use Rattle.formula.specs.Reply.{Reply, Fault, sound, fault}
 use Rattle.formula.specs.ReplyLaws.{first-last, first-after, first-before, unless-sound}
@@ -119,6 +119,8 @@ module _ (f : Formula) (positive negative : List ℕ) where
               let fits = formula-passes f positive negative (r .0) .0 in
               record {
                 few = fits .few-variables;
+                group = passes-few (f .variables) (f .permutations) (f .images) (r .1);
+                proper = permutation-passes (f .variables) (permutationsIn (f .variables) (f .permutations) (f .images)) (r .1) .1;
                 listed = formula-listed f positive negative (r .0) (r .1) size;
                 clauses = le-trans (clauses-le positive negative) (le-trans (le-of-eq (fits .positive-length)) (fits .few-clauses));
                 ready = subst Ready (sym (framed-is k (r .0))) (ready-of-faults f positive negative k clean);

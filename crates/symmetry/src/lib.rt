@@ -11,8 +11,6 @@ ghost use Rattle.slices.specs.Slices.{clausesOf};
 ghost use Rattle.permutations.specs.Permutations.{sameClause, keeps};
 ghost use Rattle.images.specs.Contracts.{Movable};
 
-pub mod cover;
-
 // Whether two clauses are the same two sets.
 pub fn same_clause(c: Clause, d: Clause) -> bool
     ensures { λ r. ⌜ r ≡ sameClause (clauseOf c) (clauseOf d) ⌝ }
