@@ -11,10 +11,10 @@ use lib.ListN.{length, getD, take}
 use lib.Seq.{getD-take, take-take}
 use borrow.Author.Tests.{leb-true, le-leb, lt-leb, ltb-true, lt-ltb, eqb-true, eqb-false, not-true}
 use Rattle.math.specs.ListLaws.{and-split, and-join, here, has-in, in-has, not-true-false, getD-in, in-getD}
-use Rattle.math.specs.Lists.{_∈_, has, Distinct}
+use Rattle.math.specs.Lists.{_∈_, firstFailing, below, has, Distinct}
 use Rattle.math.specs.PartLaws.{distinct-by-index, distinct-earlier, same-failing-below}
 use Rattle.points.specs.Points.{Clause, Numbered, satisfies, numberedFrom}
-use Rattle.formula.specs.Reply.{fault, faultAt, sound}
+use Rattle.formula.specs.Reply.{Fault, fault, faultAt, sound}
 use Rattle.certificate.specs.Rows.{pointPasses, pointsFault, clauseNumbered, falsifies, numberPasses, numbersFault, roomFault}
 use Rattle.formula.specs.ReplyLaws.{tested}
 
@@ -28,6 +28,38 @@ unfolding pointsFault
 points-counted limit n count points h =
     let w = and-split (leb 1 count) (leb count limit) (tested (leb 1 count && leb count limit) _ 16 0 h .0) in
     (leb-true 1 count (w .0), leb-true count limit (w .1))
+
+module _ (limit n count : ℕ) (points : List ℕ) where
+  -- a bad count
+  pub no-point : count < 1 → fault 16 0 ≡ pointsFault limit n count points
+  unfolding pointsFault
+  no-point h = rw (lt-leb 1 count h)
+
+  pub over-limit : limit < count → fault 16 0 ≡ pointsFault limit n count points
+  unfolding pointsFault
+  over-limit h = rw (lt-leb count limit h) (by (leb 1 count) _)
+    where
+      by : (b : Bool) (t : Fault) → fault 16 0 ≡ cond (b && false) t (fault 16 0)
+      by true t = refl
+      by false t = refl
+
+  -- a good one: the first point that fails
+  pub counted : 1 ≤ count → count ≤ limit → pointsFault limit n count points ≡ faultAt 16 (firstFailing (pointPasses n points) (below count))
+  unfolding pointsFault
+  counted one few = rw (le-leb 1 count one, le-leb count limit few)
+
+module _ (n : ℕ) (points : List ℕ) (i x : ℕ) (at : x ≡ getD points i 0) (small : Bool) (test : small ≡ ltb x (2 ^ n)) where
+  -- a point with no bit at n or above passes if it is not among the earlier ones
+  pub passes-new : small ≡ true → (repeated : Bool) → repeated ≡ has x (take i points) → not repeated ≡ pointPasses n points i
+  unfolding pointPasses
+  passes-new inside repeated e =
+      ap₂ (λ a b. a && not b) (sym inside ∙ test) e ∙ ap (λ (y : ℕ). ltb y (2 ^ n) && not (has y (take i points))) at
+
+  -- any other fails
+  pub fails-bit : small ≡ false → false ≡ pointPasses n points i
+  unfolding pointPasses
+  fails-bit out =
+      ap (λ a. a && not (has x (take i points))) (sym out ∙ test) ∙ ap (λ (y : ℕ). ltb y (2 ^ n) && not (has y (take i points))) at
 
 module _ (n : ℕ) (points : List ℕ) where
   point-passed : (i : ℕ) → pointPasses n points i ≡ true → (getD points i 0 < 2 ^ n) × (getD points i 0 ∈ take i points → ⊥)

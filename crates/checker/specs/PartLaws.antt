@@ -27,8 +27,8 @@ use Rattle.certificate.specs.Certificate.{FileContents, contentsOf, wellFormed,
 use Rattle.certificate.specs.CertificateLaws.{wellFormed-sound}
 use Rattle.certificate.specs.Reader.{contentsIn, openedReply, openedContents}
 use Rattle.certificate.specs.ReaderLaws.{permutations-part, points-part, numbers-part}
+use Rattle.certificate.specs.RowLaws.{over-limit}
 use Rattle.certificate.specs.Rows.{fileFault, pointsFault, numbersFault}
-use Rattle.transport.specs.TransportLaws.{over-limit}
 use Rattle.flips.specs.Flips.{flipsFault}
 use Rattle.flips.specs.Loops.{Proper}
 use Rattle.entries.specs.Entries.{listsFault}

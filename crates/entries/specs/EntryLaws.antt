@@ -1,17 +1,13 @@
 -- Laws of the rows 16, 17 and 18 of the first entries of two slices, of entries copied to an array, and of arrays of zeros. Assumes nothing.
 use mathlib.Core.List.{List}
 use mathlib.Core.Path.{_≡_, sym, ap, _∙_}
-use Prim.Native.Nat.{ℕ, _+_, _*_, _≤_, _<_}
-use native.Mathlib.Decide.{decLt}
-use native.Mathlib.Nat.{le-of-eq, le-trans}
-use native.Mathlib.Omega.{arith}
-use lib.ListN.{length, take, replicate, length-replicate, getD-replicate, List·getD-eq-default}
+use Prim.Native.Nat.{ℕ, _+_, _*_, _≤_}
+use native.Mathlib.Nat.{le-of-eq}
+use lib.ListN.{length, take, replicate, length-replicate}
 use lib.Seq.{length-take-le}
 use Rattle.math.specs.Lists.{over}
 use Rattle.math.specs.PartLaws.{over-front}
 use Rattle.points.specs.Points.{Numbered}
-use Rattle.index.specs.Index.{entry}
-use Rattle.index.specs.Looking.{AllZero}
 use Rattle.permutations.specs.Permutations.{Permutation}
 use Rattle.formula.specs.Limits.{maxSlots}
 use Rattle.formula.specs.Reply.{Fault, sound}
@@ -20,6 +16,7 @@ use Rattle.certificate.specs.Bytes.{numberFrom, numbersIn}
 use Rattle.certificate.specs.BytesLaws.{length-entries}
 use Rattle.certificate.specs.RowLaws.{points-fault-take, numbers-fault-take}
 use Rattle.certificate.specs.Rows.{pointsFault, numbersFault}
+use Rattle.index.specs.IndexLaws.{zeros-replicate}
 use Rattle.flips.specs.FlipLaws.{flips-fault-take}
 use Rattle.flips.specs.Flips.{flipsFault}
 use Rattle.flips.specs.Loops.{Testable}
@@ -73,13 +70,6 @@ ready-testable r w e =
     record { given = r .given; enough = r .enough; indexed = w .full e }
 
 -- ---- arrays of zeros
-
-zeros-replicate : (k : ℕ) → AllZero (replicate k 0)
-zeros-replicate k s = by (decLt s k)
-  where
-    by : Dec (s < k) → entry (replicate k 0) s ≡ 0
-    by (yes lt) = getD-replicate k s 0 0 lt
-    by (no ge) = List·getD-eq-default (replicate k 0) 0 (le-trans (le-of-eq (length-replicate {A = ℕ} k 0)) (omega arith))
 
 pub zeros-lent : (limit k : ℕ) → 1 ≤ limit → limit ≤ maxSlots → limit + 2 * limit ≡ k → Lent limit (replicate limit 0) (replicate limit 0) (replicate k 0)
 zeros-lent limit k headed most size =

@@ -50,3 +50,9 @@ pub record Sifts (heads n count : ℕ) (points : List ℕ) (k : ℕ) (links′ :
 pub record Refuses (heads n count limit : ℕ) (points : List ℕ) (r : Fault) (links′ : List ℕ) : Type 0 where
   pub tells : r ≡ pointsFault limit n count points
   pub full : r ≡ sound → Indexed heads n (take count points) links′
+
+-- there are `count` points, of few variables, and no more than an array has room for
+pub record Counted (room n count : ℕ) (points : List ℕ) : Type 0 where
+  pub few : n ≤ maxVariables
+  pub enough : count ≤ length points
+  pub most : count ≤ room

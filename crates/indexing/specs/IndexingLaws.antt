@@ -1,13 +1,14 @@
--- Laws of tests of points that index them: the test of one point, the loop over all, and row 16. Assumes nothing.
+-- Laws of tests of points that index them: the test of one point, the loop over all, row 16, and arrays of links. Assumes nothing.
 use mathlib.Core.Bool.{Bool, true, false, not, true≢false}
 use mathlib.Core.List.{List, [], _∷_, _++_}
 use mathlib.Core.Path.{_≡_, sym, ap, _∙_, subst}
-use Prim.Native.Nat.{ℕ, _+_, _^_, _≤_, _<_}
-use native.Mathlib.Nat.{le-antisymm}
+use Prim.Native.Nat.{ℕ, _+_, _*_, _^_, _≤_, _<_}
+use native.Mathlib.Decide.{decLt}
+use native.Mathlib.Nat.{le-antisymm, le-of-eq, le-trans}
 use native.Mathlib.Numerals.{add-one}
 use native.Mathlib.Omega.{arith}
 use lib.Dec.{ltb}
-use lib.ListN.{length, getD, take}
+use lib.ListN.{length, getD, take, replicate, length-replicate}
 use lib.Seq.{take-suc, length-take-le}
 use borrow.Author.Tests.{ltb-true, not-true}
 use Rattle.math.specs.Lists.{_∈_, below, Distinct}
@@ -15,13 +16,12 @@ use Rattle.math.specs.PartLaws.{all-passing-below}
 use Rattle.math.specs.ScanLaws.{failing-begins, below-ends, below-stops, below-goes-on}
 use Rattle.formula.specs.Reply.{Fault, fault, faultAt}
 use Rattle.formula.specs.ReplyLaws.{fault-not-sound, faultAt-sound}
-use Rattle.certificate.specs.RowLaws.{points-pass, point-passes-take}
+use Rattle.certificate.specs.RowLaws.{no-point, over-limit, counted, passes-new, fails-bit, points-pass, point-passes-take}
 use Rattle.certificate.specs.Rows.{pointPasses, pointsFault}
-use Rattle.transport.specs.TransportLaws.{no-point, over-limit, counted, passes-new, fails-bit}
 use Rattle.index.specs.Index.{Indexed}
-use Rattle.index.specs.IndexLaws.{index-empty}
+use Rattle.index.specs.IndexLaws.{index-empty, zeros-replicate}
 use Rattle.index.specs.Looking.{Addable, Adds}
-use Rattle.indexing.specs.Indexing.{Growable, Grows, Indexable, Sifting, Sifts, Refuses}
+use Rattle.indexing.specs.Indexing.{Growable, Grows, Indexable, Sifting, Sifts, Refuses, Counted}
 
 -- ---- the test of one point
 
@@ -121,3 +121,13 @@ module _ {heads n count limit : ℕ} {points : List ℕ} (links : List ℕ) wher
 
     pub refuses-first : (r : Fault) → r ≡ faultAt 16 k → Refuses heads n count limit points r links
     refuses-first r e = record { tells = e ∙ each; full = λ h. s .full (faultAt-sound 16 k (sym e ∙ h)) }
+
+-- ---- links in an array of zeros
+
+-- an array for so many points: as many heads, and two links for each
+pub zeros-indexable : (size k : ℕ) → 1 ≤ size → size < 4294967296 → size + 2 * size ≡ k
+    → {n count : ℕ} {points : List ℕ} → Counted size n count points → Indexable size n count points (replicate k 0)
+zeros-indexable size k headed small links c =
+    let long : length (replicate {A = ℕ} k 0) ≡ k = length-replicate {A = ℕ} k 0 in
+    let most = c .most in
+    record { few = c .few; headed = headed; enough = c .enough; small = omega arith; room = omega (arith, long, links, most); zeros = zeros-replicate k }

@@ -1,9 +1,12 @@
-// Refusal 16 by an index of the points, which it leaves behind: whether each point has no bit at n or above and is new.
+// Refusal 16 by an index of the points: whether each point has no bit at n or above and is new. The checker goes on with the index, the writer
+// does not.
 use formula::Checked;
 use slices::point_at;
+ghost use mathlib.Core.Path.{_≡_};
 ghost use Rattle.slices.specs.Slices.{pointsOf};
 ghost use Rattle.formula.specs.Refusals.{faultOf};
-ghost use Rattle.indexing.specs.Indexing.{Growable, Grows, Indexable, Sifts, Refuses};
+ghost use Rattle.certificate.specs.Rows.{pointsFault};
+ghost use Rattle.indexing.specs.Indexing.{Growable, Grows, Indexable, Sifts, Refuses, Counted};
 
 // Whether the point at index i has no bit at n or above and equals none of the i before it, of which the links are an index; if so it is added.
 // At most n + 1 comparisons.
@@ -61,5 +64,38 @@ pub fn points_refusal(
         Checked::Passed
     } else {
         Checked::Refused { code: 16, place: k }
+    }
+}
+
+// The same of at most 1,024 points, with links of its own: 12 KiB of the stack.
+fn few_refusal(points: &[u64], n: u32, count: usize, limit: usize) -> Checked
+    requires { ⌜ Counted 1024 n count (pointsOf (now points)) ⌝ }
+    ensures { λ r. ⌜ faultOf r ≡ pointsFault limit n count (pointsOf (now (points .entry))) ⌝ }
+{
+    let mut links = [0u32; 3072];
+    points_refusal(&mut links, 1024, points, n, count, limit)
+}
+
+// The same of at most 65,536 points: 768 KiB of the stack.
+fn many_refusal(points: &[u64], n: u32, count: usize, limit: usize) -> Checked
+    requires { ⌜ Counted 65536 n count (pointsOf (now points)) ⌝ }
+    ensures { λ r. ⌜ faultOf r ≡ pointsFault limit n count (pointsOf (now (points .entry))) ⌝ }
+{
+    let mut links = [0u32; 196608];
+    points_refusal(&mut links, 65536, points, n, count, limit)
+}
+
+// R16: refusal 16 for callers that need no index after it. The links suit the count, since each is made 0 first.
+pub fn local_refusal(points: &[u64], n: u32, count: usize, limit: usize) -> Checked
+    requires { ⌜ Counted 65536 n limit (pointsOf (now points)) ⌝ }
+    ensures { λ r. ⌜ faultOf r ≡ pointsFault limit n count (pointsOf (now (points .entry))) ⌝ }
+{
+    if limit < count {
+        return Checked::Refused { code: 16, place: 0 };
+    }
+    if count <= 1024 {
+        few_refusal(points, n, count, limit)
+    } else {
+        many_refusal(points, n, count, limit)
     }
 }

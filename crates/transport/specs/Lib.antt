@@ -1,2 +1,2 @@
--- What the loops of the rows 16 and 17 go by.
+-- What the loop of row 17 goes by.
 pub mod TransportLaws

@@ -1,11 +1,9 @@
-// Refusals 16 and 17: whether each point is new and has the number of a clause that it falsifies. The writer and the checker share 17; the
-// checker has 16 by an index (`indexing`), the writer, which is lent no room for one, by comparing. Document 002 calls the map from points
-// to such clauses a transport function.
+// Refusal 17, for the writer and the checker: whether each point has the number of a clause that it falsifies. Document 002 calls the map
+// from points to such clauses a transport function.
 use formula::Checked;
 use points::Point;
 use slices::clause_at;
 use slices::clause_count;
-use slices::contains;
 use slices::point_at;
 ghost use mathlib.Core.Path.{_≡_};
 ghost use lib.ListN.{getD};
@@ -13,60 +11,13 @@ ghost use Rattle.math.specs.Lists.{firstFailing, below};
 ghost use Rattle.points.specs.Points.{numbered};
 ghost use Rattle.slices.specs.Slices.{pointsOf, clausesOf};
 ghost use Rattle.formula.specs.Refusals.{faultOf};
-ghost use Rattle.certificate.specs.Rows.{pointPasses, pointsFault, clauseNumbered, falsifies, numberPasses, numbersFault};
+ghost use Rattle.certificate.specs.Rows.{clauseNumbered, falsifies, numberPasses, numbersFault};
 
 // The clause number at index i, 0 past the end.
 pub fn number_at(numbers: &[u32], i: usize) -> u32
     ensures { λ r. ⌜ r ≡ getD (now (numbers .entry)) i 0 ⌝ }
 {
     if i < numbers.len() { numbers[i] } else { 0 }
-}
-
-// Whether the point at index i has no bit at n or above and equals none of the i before it, with each of which it is compared.
-fn point_passes(points: &[u64], n: u32, i: usize) -> bool
-    ensures { λ r. ⌜ r ≡ pointPasses n (pointsOf (now (points .entry))) i ⌝ }
-{
-    let x = point_at(points, i);
-    let small = points::below(x, n);
-    if small {
-        let repeated = contains(points, i, x);
-        return !repeated;
-    }
-    false
-}
-
-// The number, from 1, of the first of `count` points that fails; 0 if all pass. Each is compared with all before it: at most count²/2
-// comparisons.
-fn first_bad_point(points: &[u64], n: u32, count: usize) -> usize
-    ensures { λ r. ⌜ r ≡ firstFailing (pointPasses n (pointsOf (now (points .entry)))) (below count) ⌝ }
-{
-    let mut i = 0;
-    while i < count {
-        let fine = point_passes(points, n, i);
-        if !fine {
-            return i + 1;
-        }
-        i += 1;
-    }
-    0
-}
-
-// R16: refusal 16, of the first `count` points, of which at most `limit` are allowed.
-pub fn points_refusal(points: &[u64], n: u32, count: usize, limit: usize) -> Checked
-    ensures { λ r. ⌜ faultOf r ≡ pointsFault limit n count (pointsOf (now (points .entry))) ⌝ }
-{
-    if count < 1 {
-        return Checked::Refused { code: 16, place: 0 };
-    }
-    if limit < count {
-        return Checked::Refused { code: 16, place: 0 };
-    }
-    let k = first_bad_point(points, n, count);
-    if k == 0 {
-        Checked::Passed
-    } else {
-        Checked::Refused { code: 16, place: k }
-    }
 }
 
 // Whether some clause has the number k, and the point falsifies it.

@@ -1,8 +1,9 @@
--- Laws of the writer's answer, one for each way out: refusals 10 to 17, refusal 19, and a certificate. Assumes nothing.
+-- Laws of the writer's answer, one for each way out: refusals 10 to 17, refusal 19, and a certificate; and of what row 16 requires. Assumes nothing.
 use mathlib.Core.List.{List, [], _∷_, _++_}
 use mathlib.Core.Path.{_≡_, sym, ap, ap₂, _∙_}
 use Prim.Native.Nat.{ℕ, _≤_, _<_}
 use native.Mathlib.Nat.{le-of-eq, le-trans}
+use native.Mathlib.Omega.{arith}
 use lib.ListN.{length, drop}
 use Rattle.math.specs.Lists.{over}
 use Rattle.points.specs.Points.{numbered}
@@ -24,8 +25,22 @@ use Rattle.certificate.specs.RowLaws.{too-short, long-enough}
 use Rattle.certificate.specs.Rows.{pointsFault, numbersFault, roomFault}
 use Rattle.certificate.specs.Writer.{replyOf, lengthNeeded, writeFault, writeReply, certificateOf, writeOutput, Wrote}
 use Rattle.certificate.specs.WriterLaws.{WriterPassed, write-rows, passed-writer, few-slots, certificate-length, output-written, reply-written}
+use Rattle.indexing.specs.Indexing.{Counted}
 use Rattle.writer.specs.Parts.{slotsFault, parts, Storable}
 use Rattle.writer.specs.PartsLaws.{parts-encode}
+
+-- what row 16 requires where nothing was found before: few variables, and a point for each slot lent
+pub slots-counted : (f : Formula) (positive negative : List ℕ) (earlier : Fault) → earlier ≡ problemFault f positive negative
+    → (points : List ℕ) (a b limit : ℕ) → limit ≡ capacity (length (pointsOf points)) a b → earlier ≡ sound → Counted maxSlots (f .variables) limit points
+unfolding problemFault problemOf capacity
+slots-counted f positive negative earlier is points a b limit lent passed =
+    let es = permutationsIn (f .variables) (f .permutations) (f .images) in
+    let rest = permutationFault (f .variables) es ∷ symmetryFault (numbered (clausesOf positive negative)) es ∷ [] in
+    record {
+      few = formula-passes f positive negative (first-split (formulaFault f positive negative) rest (sym is ∙ passed) .0) .0 .few-variables;
+      enough = omega arith;
+      most = omega arith;
+    }
 
 module _ (f : Formula) (positive negative points numbers depths : List ℕ) (count : ℕ) (out : List ℕ) where
   abbrev perms : List Permutation

@@ -4,12 +4,12 @@ use formula::Checked;
 use formula::Formula;
 use formula::refusals::problem_refusal;
 use formula::room::room;
+use indexing::local_refusal;
 use output::put_bytes;
 use output::put_contents;
 use output::put_numbers;
 use output::put_points;
 use transport::numbers_refusal;
-use transport::points_refusal;
 ghost use mathlib.Core.Path.{_≡_};
 ghost use Prim.Native.Nat.{_≤_};
 ghost use Rattle.math.specs.Lists.{over};
@@ -17,11 +17,13 @@ ghost use Rattle.points.specs.Points.{numbered};
 ghost use Rattle.slices.specs.Slices.{pointsOf, clausesOf};
 ghost use Rattle.formula.specs.Limits.{maxVariables, maxPermutations, maxSlots};
 ghost use Rattle.formula.specs.Refusals.{faultOf};
+ghost use Rattle.formula.specs.Reply.{sound};
 ghost use Rattle.certificate.specs.Certificate.{certificateLength};
 ghost use Rattle.certificate.specs.Writer.{Wrote};
+ghost use Rattle.indexing.specs.Indexing.{Counted};
 ghost use Rattle.writer.specs.Parts.{slotsFault, parts, Storable};
 
-// What was found before; else refusals 16 and 17, in this order, of the first `count` slots of at most `lent`.
+// What was found before; else refusals 16 and 17, in this order, of the first `count` slots of at most `lent`. `write` sees to what it requires.
 fn slots_refusal(
     found: Checked,
     n: u32,
@@ -32,13 +34,14 @@ fn slots_refusal(
     lent: usize,
     count: u32,
 ) -> Checked
+    requires { ⌜ (faultOf found ≡ sound → Counted maxSlots n lent (pointsOf (now points))) ⌝ }
     ensures { λ r. ⌜ faultOf r ≡ slotsFault (faultOf found) lent n (numbered (clausesOf (now (positive .entry)) (now (negative .entry)))) count (pointsOf (now (points .entry))) (now (falsified .entry)) ⌝ }
 {
     let Checked::Passed = found else {
         return found;
     };
     let many = count as usize;
-    let sixteen = points_refusal(points, n, many, lent);
+    let sixteen = local_refusal(points, n, many, lent);
     let Checked::Passed = sixteen else {
         return sixteen;
     };
@@ -81,7 +84,7 @@ fn put_certificate(
 }
 
 // D2.4, N5, C6, R19: writes the certificate of the formula and of the first `count` slots; refusals 10, 11, 12, 16, 17 and 19 leave `out` as it was.
-// Beside refusal 12, it compares each point with all before it, at most count²/2 comparisons, and stores each byte once.
+// Beside refusal 12, it looks each point up among those before it, at most count · (n + 1) comparisons, and stores each byte once.
 pub fn write(
     f: Formula,
     positive: &[u64],

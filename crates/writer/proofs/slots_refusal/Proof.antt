@@ -16,8 +16,8 @@ enum-told-2 c = search needs
 returns : tie.Need-returns
 returns c = stops-earlier _ _ _ _ _ _ _ (subst IsFault (sym (ap faultOf (c .enum-told2 .given .1))) tt)
 
-points-refusal-requires : tie.Need-points-refusal-requires
-points-refusal-requires c κs = tt
+local-refusal-requires : tie.Need-local-refusal-requires
+local-refusal-requires c κs = c .before .before .before .before .before .before .pre (ap faultOf (c .enum-told .given .1))
 
 enum-told-3 : tie.Need-enum-told-3
 enum-told-3 c = search needs
@@ -28,7 +28,7 @@ enum-told-4 c = search needs
 returns-2 : tie.Need-returns-2
 returns-2 c =
     let sixteen = c .before .before in
-    stops-16 _ _ _ _ _ _ _ (ap faultOf (sixteen .before .enum-told .given .1)) (faultOf (sixteen .points-refusal .result)) (sixteen .points-refusal .ensures) (subst IsFault (sym (ap faultOf (c .enum-told4 .given .1))) tt)
+    stops-16 _ _ _ _ _ _ _ (ap faultOf (sixteen .before .enum-told .given .1)) (faultOf (sixteen .local-refusal .result)) (sixteen .local-refusal .ensures) (subst IsFault (sym (ap faultOf (c .enum-told4 .given .1))) tt)
 
 numbers-refusal-requires : tie.Need-numbers-refusal-requires
 numbers-refusal-requires c κs = tt
@@ -37,7 +37,7 @@ returns-3 : tie.Need-returns-3
 returns-3 c =
     let sixteen = c .before .before .before in
     c .numbers-refusal .ensures
-    ∙ ends-17 _ _ _ _ _ _ _ (ap faultOf (sixteen .before .enum-told .given .1)) (faultOf (sixteen .points-refusal .result)) (sixteen .points-refusal .ensures) (ap faultOf (c .before .enum-told3 .given .1))
+    ∙ ends-17 _ _ _ _ _ _ _ (ap faultOf (sixteen .before .enum-told .given .1)) (faultOf (sixteen .local-refusal .result)) (sixteen .local-refusal .ensures) (ap faultOf (c .before .enum-told3 .given .1))
 
 pub slots-refusal-spec : {M : Type 1} → statement M
 slots-refusal-spec =
@@ -46,7 +46,7 @@ slots-refusal-spec =
     enum-told
     enum-told-2
     returns
-    points-refusal-requires
+    local-refusal-requires
     enum-told-3
     enum-told-4
     returns-2

@@ -2,7 +2,7 @@
 use mathlib.Core.Path.{_≡_, sym}
 use lib.ListN.{length}
 use borrow.Author.Needs.{needs}
-use Rattle.writer.specs.WriteLaws.{wrote-faulty, within-limits, wrote-too-short, storable-of, wrote-all}
+use Rattle.writer.specs.WriteLaws.{slots-counted, wrote-faulty, within-limits, wrote-too-short, storable-of, wrote-all}
 use Rattle.writer.proofs.write.Statement.{statement}
 use Rattle.writer.proofs.write.Tie as tie
 
@@ -13,7 +13,7 @@ room-requires : tie.Need-room-requires
 room-requires c κs = tt
 
 slots-refusal-requires : tie.Need-slots-refusal-requires
-slots-refusal-requires c κs = tt
+slots-refusal-requires c κs = slots-counted _ _ _ _ (c .before .problem-refusal .ensures) _ _ _ _ (c .room .ensures)
 
 enum-told : tie.Need-enum-told
 enum-told c = search needs
