@@ -1,35 +1,16 @@
-// Which flips of a point are covered by the points of an index, modulo one listed permutation. The images of the point are made once: that
-// of a flip is one of them with one more flip.
-use images::image_of_point;
-use images::permutation_at;
+// Which flips of a point are covered by the points of an index, modulo one listed permutation. The images of the point are at hand: that of a
+// flip is one of them with one more flip, and those of the next point are these with a few.
 use index::contains;
 use points::Point;
 use slices::point_at;
 use slices::put_point;
 ghost use mathlib.Core.Path.{_≡_};
-ghost use Prim.Native.Nat.{_+_, _-_, _*_, _≤_, _<_};
+ghost use Prim.Native.Nat.{_+_, _-_, _*_, _^_, _≤_, _<_};
 ghost use lib.ListN.{length, getD, take};
 ghost use Rattle.math.specs.Bits.{flip};
 ghost use Rattle.slices.specs.Slices.{pointsOf};
 ghost use Rattle.permutations.specs.Permutations.{covered, permutationsIn};
-ghost use Rattle.images.specs.Contracts.{Listed};
-ghost use Rattle.coverage.specs.Coverage.{imagesOf, Coverable, Sends};
-
-// Stores the images of the point under the permutations, in their order: n steps for each.
-pub fn images_into(moved: &mut [u64], images: &[u8], n: u32, permutations: u32, x: Point)
-    requires { ⌜ Listed n permutations (now images) × (permutations ≤ length (now moved)) ⌝ }
-    ensures { λ _. ⌜ take permutations (pointsOf (now (moved .exit))) ≡ imagesOf (permutationsIn n permutations (now (images .entry))) x ⌝ }
-{
-    let size = n as usize;
-    let group = permutations as usize;
-    let mut i = 0;
-    while i < group {
-        let e = permutation_at(images, size, i);
-        let image = image_of_point(e, x);
-        put_point(moved, i, image);
-        i += 1;
-    }
-}
+ghost use Rattle.coverage.specs.Coverage.{Permuting, Imaged, Coverable, Turns, Sends};
 
 // The image stored at index i, flipped where the permutation of index i sends variable v: the image of the flipped point (`image-flip`).
 fn flipped_image(moved: &[u64], images: &[u8], n: u32, i: usize, v: u32) -> Point
@@ -40,6 +21,35 @@ fn flipped_image(moved: &[u64], images: &[u8], n: u32, i: usize, v: u32) -> Poin
     let to = images[place] as u32 - 1;
     let image = point_at(moved, i);
     points::flip(image, to)
+}
+
+// Turns the images of a point into those of the point with variable v flipped: one step for each permutation.
+fn flip_images(moved: &mut [u64], images: &[u8], n: u32, permutations: u32, v: u32)
+    requires { ⌜ Permuting n permutations (now images) × (permutations ≤ length (now moved)) × (v < n) ⌝ }
+    ensures { λ _. ⌜ Turns n permutations (now (images .entry)) v (pointsOf (now (moved .entry))) (pointsOf (now (moved .exit))) ⌝ }
+{
+    let group = permutations as usize;
+    let mut i = 0;
+    while i < group {
+        let image = flipped_image(moved, images, n, i, v);
+        put_point(moved, i, image);
+        i += 1;
+    }
+}
+
+// Turns the images of x into those of y: one step for each permutation and each variable in which they differ, which are two where both were
+// filled from one point.
+pub fn move_images(moved: &mut [u64], images: &[u8], n: u32, permutations: u32, x: Point, y: Point)
+    requires { ⌜ Permuting n permutations (now images) × Imaged n permutations (now images) x (pointsOf (now moved)) × (y < 2 ^ n) ⌝ }
+    ensures { λ _. ⌜ Imaged n permutations (now (images .entry)) y (pointsOf (now (moved .exit))) ⌝ }
+{
+    let mut left = points::differing(x, y);
+    let mut v = points::next_variable(left);
+    while v < n {
+        flip_images(moved, images, n, permutations, v);
+        left = points::flip(left, v);
+        v = points::next_variable(left);
+    }
 }
 
 // Whether x with variable v flipped, or an image of that, is among the first k points, of which the links are an index; `moved` holds the

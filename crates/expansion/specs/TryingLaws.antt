@@ -48,7 +48,7 @@ module _ (es : List Permutation) (capacity x d n listed k₀ heads : ℕ) (m₀ 
     trying-fillable f =
         let c = f .coverable in
         record {
-          coverable = record { askable = record { few = c .askable .few; indexed = t .indexed; narrow = c .askable .narrow }; listed = c .listed; proper = c .proper; imaged = c .imaged };
+          coverable = record { askable = record { few = c .askable .few; indexed = t .indexed; narrow = c .askable .narrow }; permuting = c .permuting; imaged = c .imaged };
           room = lends-still (f .room) (t .lengths);
           most = f .most;
           shallow = f .shallow;

@@ -20,7 +20,7 @@ use Rattle.points.specs.Points.{Clause, Numbered, listed, variables, numbered}
 use Rattle.slices.specs.Slices.{noLiterals}
 use Rattle.theory.specs.Notions.{ClausesBelow}
 use Rattle.permutations.specs.Permutations.{Permutation, covered, permutationsIn}
-use Rattle.coverage.specs.Coverage.{imagesOf, Coverable}
+use Rattle.coverage.specs.Coverage.{Permuting, Imaged, Coverable}
 use Rattle.formula.specs.Reply.{faultAt}
 use Rattle.certificate.specs.RowLaws.{clause-found}
 use Rattle.certificate.specs.Rows.{clauseNumbered}
@@ -97,24 +97,23 @@ module _ (t : ℕ → Bool) (n x s : ℕ) (few : n ≤ 64) where
 
 -- ---- what can be looked up
 
--- the flips of a point that is indexed, where its images are known
-pub tested-coverable : {n permutations : ℕ} {images positive negative : List ℕ} {count : ℕ} {points : List ℕ} {heads : ℕ} {links : List ℕ}
-    → Testable n permutations images positive negative count points heads links → (i x : ℕ) → i < count → x ≡ getD points i 0
-    → (moved : List ℕ) → take permutations moved ≡ imagesOf (permutationsIn n permutations images) x → Coverable heads n count points links permutations images moved x
-tested-coverable {n} {count = count} {points = points} t i x lt at moved imaged =
-    record {
-      askable =
-          record {
-            few = t .given .few;
-            indexed = t .indexed;
-            narrow =
-                subst (λ (y : ℕ). y < 2 ^ n) (getD-take count points i 0 lt ∙ sym at)
-                (t .indexed .indexes .narrow i (subst (λ (m : ℕ). i < m) (sym (length-take-le count points (t .enough))) lt));
-          };
-      listed = t .given .listed;
-      proper = t .given .proper;
-      imaged = imaged;
-    }
+module _ {n permutations : ℕ} {images positive negative : List ℕ} {count : ℕ} {points : List ℕ} {heads : ℕ} {links : List ℕ}
+    (t : Testable n permutations images positive negative count points heads links) where
+  pub tested-permuting : Permuting n permutations images
+  tested-permuting = record { few = t .given .few; listed = t .given .listed; proper = t .given .proper }
+
+  -- an indexed point has n digits
+  pub tested-narrow : (i : ℕ) → i < count → getD points i 0 < 2 ^ n
+  tested-narrow i lt =
+      subst (λ (y : ℕ). y < 2 ^ n) (getD-take count points i 0 lt)
+      (t .indexed .indexes .narrow i (subst (λ (m : ℕ). i < m) (sym (length-take-le count points (t .enough))) lt))
+
+  -- the flips of a point that is indexed, where its images are known
+  pub tested-coverable : (i x : ℕ) → x ≡ getD points i 0 → (moved : List ℕ) → Imaged n permutations images (getD points i 0) moved
+      → Coverable heads n count points links permutations images moved x
+  tested-coverable i x at moved known =
+      let own = subst (λ (y : ℕ). Imaged n permutations images y moved) (sym at) known in
+      record { askable = record { few = t .given .few; indexed = t .indexed; narrow = own .narrow }; permuting = tested-permuting; imaged = own .imaged }
 
 -- ---- the test of one point, and the row
 

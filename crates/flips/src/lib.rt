@@ -1,6 +1,6 @@
 // Refusal 18: whether each flip of a point by a variable of its clause is covered by the points, modulo the listed permutations.
 use coverage::flip_covered;
-use coverage::images_into;
+use coverage::move_images;
 use formula::Checked;
 use points::Point;
 use slices::clause_at;
@@ -9,12 +9,12 @@ use slices::point_at;
 use transport::number_at;
 ghost use mathlib.Core.Path.{_≡_};
 ghost use Prim.Native.Nat.{_<_, _^_};
-ghost use lib.ListN.{take};
+ghost use lib.ListN.{getD, take};
 ghost use Rattle.math.specs.Lists.{firstFailing, below};
 ghost use Rattle.points.specs.Points.{numbered};
 ghost use Rattle.slices.specs.Slices.{pointsOf, clausesOf};
 ghost use Rattle.permutations.specs.Permutations.{covered, permutationsIn};
-ghost use Rattle.coverage.specs.Coverage.{Coverable};
+ghost use Rattle.coverage.specs.Coverage.{Imaged, Coverable};
 ghost use Rattle.formula.specs.Refusals.{faultOf};
 ghost use Rattle.certificate.specs.Rows.{clauseNumbered};
 ghost use Rattle.flips.specs.Flips.{flipsPass, flipsFault};
@@ -77,8 +77,7 @@ fn flips_covered(
     true
 }
 
-// Whether the flips of the point at index i, by the clause that the number there names, are covered. The images of the point are made once,
-// n steps for each of at most 16 permutations.
+// Whether the flips of the point at index i, by the clause that the number there names, are covered; `moved` has the images of the point.
 fn flips_pass(
     positive: &[u64],
     negative: &[u64],
@@ -90,17 +89,17 @@ fn flips_pass(
     images: &[u8],
     n: u32,
     permutations: u32,
+    moved: &[u64],
     i: usize,
 ) -> bool
-    requires { ⌜ Testable n permutations (now images) (now positive) (now negative) count (now points) heads (now links) × (i < count) ⌝ }
+    requires { ⌜ Testable n permutations (now images) (now positive) (now negative) count (now points) heads (now links) × (i < count)
+        × Imaged n permutations (now images) (getD (pointsOf (now points)) i 0) (pointsOf (now moved)) ⌝ }
     ensures { λ r. ⌜ r ≡ flipsPass n (numbered (clausesOf (now (positive .entry)) (now (negative .entry)))) (permutationsIn n permutations (now (images .entry)))
         (take count (pointsOf (now (points .entry)))) (now (numbers .entry)) i ⌝ }
 {
     let k = number_at(numbers, i);
     let x = point_at(points, i);
     let listed = variables_of(positive, negative, k);
-    let mut moved = [0u64; 16];
-    images_into(&mut moved, images, n, permutations, x);
     flips_covered(
         links,
         heads,
@@ -109,13 +108,14 @@ fn flips_pass(
         images,
         n,
         permutations,
-        &moved,
+        moved,
         x,
         listed,
     )
 }
 
-// The number, from 1, of the first of `count` points with a flip that is not covered; 0 if there is none.
+// The number, from 1, of the first of `count` points with a flip that is not covered; 0 if there is none. From point to point the images are
+// turned, one step for each permutation and each variable in which the points differ.
 fn first_uncovered(
     positive: &[u64],
     negative: &[u64],
@@ -132,8 +132,13 @@ fn first_uncovered(
     ensures { λ r. ⌜ r ≡ firstFailing (flipsPass n (numbered (clausesOf (now (positive .entry)) (now (negative .entry)))) (permutationsIn n permutations (now (images .entry)))
         (take count (pointsOf (now (points .entry)))) (now (numbers .entry))) (below count) ⌝ }
 {
+    let mut moved = [0u64; 16];
+    let mut seen: Point = 0;
     let mut i = 0;
     while i < count {
+        let x = point_at(points, i);
+        move_images(&mut moved, images, n, permutations, seen, x);
+        seen = x;
         let fine = flips_pass(
             positive,
             negative,
@@ -145,6 +150,7 @@ fn first_uncovered(
             images,
             n,
             permutations,
+            &moved,
             i,
         );
         if !fine {

@@ -3,13 +3,12 @@
 use mathlib.Core.List.{List, _++_}
 use mathlib.Core.Path.{_≡_}
 use Prim.Native.Nat.{ℕ, _+_, _*_, _≤_, _<_}
-use lib.ListN.{length, take}
-use Rattle.math.specs.Lists.{_∈_}
+use lib.ListN.{length, getD, take}
 use Rattle.points.specs.Points.{numbered}
 use Rattle.slices.specs.Slices.{clausesOf}
-use Rattle.images.specs.Contracts.{Listed}
 use Rattle.index.specs.Index.{Indexed}
-use Rattle.permutations.specs.Permutations.{Permutation, IsPermutation, permutationsIn}
+use Rattle.permutations.specs.Permutations.{permutationsIn}
+use Rattle.coverage.specs.Coverage.{Permuting, Imaged}
 use Rattle.formula.specs.Limits.{maxVariables, maxClauses, maxPermutations, maxSlots}
 use Rattle.formula.specs.Problem.{Problem}
 use Rattle.formula.specs.Reply.{Reply, satisfiable, unsatisfiable, unknown}
@@ -45,8 +44,7 @@ framed g images positive negative =
 pub record Searchable (g : Frame) (images positive negative : List ℕ) : Type 0 where
   pub few : g .variables ≤ maxVariables
   pub group : g .permutations ≤ maxPermutations
-  pub listed : Listed (g .variables) (g .permutations) images
-  pub proper : (e : Permutation) → e ∈ permutationsIn (g .variables) (g .permutations) images → IsPermutation (g .variables) e
+  pub permuting : Permuting (g .variables) (g .permutations) images
   pub clauses : length (clausesOf positive negative) ≤ maxClauses
   pub ready : Ready (framed g images positive negative)
   pub some : 1 ≤ g .room
@@ -56,6 +54,10 @@ pub record Searchable (g : Frame) (images positive negative : List ℕ) : Type 0
 pub record Linked (n heads k : ℕ) (points links : List ℕ) : Type 0 where
   pub indexed : Indexed heads n (take k points) links
   pub linked : heads + 2 * heads ≤ length links
+
+-- the point of the slot of index i, the next that is processed, and `moved` has its images
+abbrev pub Next : ℕ → ℕ → List ℕ → List ℕ → ℕ → List ℕ → Type 0
+Next n count images points i moved = Imaged n count images (getD points i 0) moved
 
 -- if the step goes on, they are again
 abbrev pub StillLinked : ℕ → ℕ → Step → List ℕ → List ℕ → Type 0

@@ -8,7 +8,7 @@ use native.Mathlib.Nat.{le-trans, le-of-eq}
 use native.Mathlib.Numerals.{add-one}
 use native.Mathlib.Omega.{arith}
 use lib.Bits.{or-lt}
-use lib.ListN.{length, getD, set, take, length-map, length-set}
+use lib.ListN.{length, getD, set, length-map, length-set}
 use lib.Seq.{getD-at}
 use Rattle.math.specs.Bits.{members}
 use Rattle.math.specs.Lists.{over}
@@ -25,12 +25,12 @@ use Rattle.formula.specs.Reply.{satisfiable, unknown}
 use Rattle.expansion.specs.declared.Frame.{Frame}
 use Rattle.frontier.specs.declared.Answer.the-variants.{Unknown}
 use Rattle.frontier.specs.declared.Step.the-variants.{Ends, Goes}
-use Rattle.coverage.specs.Coverage.{imagesOf}
+use Rattle.coverage.specs.Coverage.{Imaged}
 use Rattle.expansion.specs.Filling.{Fillable, Advances}
 use Rattle.expansion.specs.FillingLaws.{lends-still, ended, advances-ends}
 use Rattle.expansion.specs.Memory.{Memory, memory, Holds, Lends}
 use Rattle.frontier.specs.NumberLaws.{number-none, number-found}
-use Rattle.frontier.specs.Stepping.{framed, Searchable, Linked, Stands, Midway, GoesOn, Ended, Steps}
+use Rattle.frontier.specs.Stepping.{framed, Searchable, Linked, Next, Stands, Midway, GoesOn, Ended, Steps}
 use Rattle.traversal.specs.ExpansionLaws.{invariants-step}
 use Rattle.traversal.specs.InvariantLaws.{first-in}
 use Rattle.traversal.specs.Invariants.{slotAt}
@@ -131,6 +131,16 @@ module _ (g : Frame) (images positive negative : List ℕ) (ok : Searchable g im
             stands = st;
             holds = subst (λ j. Holds old ((p ++ withNumber s (f .0) ∷ []) ++ w) (numberedIn i j m₀)) (sym (f .2)) (number-stored old p w s (f .0) i m₀ (st .holds) (st .processed));
           }
+
+  -- the point of the next slot is one of n digits, as those of all filled slots are
+  pub next-narrow : {i k : ℕ} {m₀ : Memory} → i < k → Midway pb (g .room) i k m₀ → getD (m₀ .points) i 0 < 2 ^ g .variables
+  next-narrow {i} {k} {m₀} lt at = by (at .front) (at .back) (at .stands)
+    where
+      by : (p w : List Slot) → Stands pb (g .room) (at .old) p w i k m₀ → getD (m₀ .points) i 0 < 2 ^ g .variables
+      by p [] st = absurd (one-waits lt st)
+      by p (s ∷ w) st =
+          subst (λ (y : ℕ). y < 2 ^ g .variables) (sym (slot-read (λ (t : Slot). t .point) p w s (at .old .points) (m₀ .points) i (st .holds .points-held) (st .processed)))
+          (st .invariants .filled .below s (Memᴰ·append-right p (here s w)))
 
   -- ---- the slot that is taken, and its flips
 
@@ -240,18 +250,14 @@ module _ (g : Frame) (images positive negative : List ℕ) (ok : Searchable g im
     pub read-shallow : Midway pb (g .room) i k m₀ → d < maxSlots
     read-shallow at = taken-shallow (taken-read (at .stands)) lt
 
-    -- the point read is one of n digits, as those of all filled slots are
-    pub read-narrow : Midway pb (g .room) i k m₀ → x < 2 ^ g .variables
-    read-narrow at =
-        let t = taken-read (at .stands) in
-        subst (λ (y : ℕ). y < 2 ^ g .variables) (sym (t .point)) (t .stands .invariants .filled .below (t .taken) (Memᴰ·append-right (at .front) (here (t .taken) (t .rest))))
-
-    -- what lets its flips be tried, once its images are made
+    -- what lets its flips be tried, where its images are at hand
     pub read-fillable : {moved : List ℕ} {heads : ℕ} {links : List ℕ} → Midway pb (g .room) i k m₀ → Linked (g .variables) heads k (m₀ .points) links → Lends (g .room) m₀
-        → take (g .permutations) moved ≡ imagesOf (pb .permutations) x → Fillable (g .variables) (g .permutations) images moved (g .room) x d k heads links (numberedIn i number m₀)
-    read-fillable at l room e =
+        → Next (g .variables) (g .permutations) images (m₀ .points) i moved
+        → Fillable (g .variables) (g .permutations) images moved (g .room) x d k heads links (numberedIn i number m₀)
+    read-fillable {moved} at l room e =
+        let own = subst (λ (y : ℕ). Imaged (g .variables) (g .permutations) images y moved) (sym (a .point-read)) e in
         record {
-          coverable = record { askable = record { few = ok .few; indexed = l .indexed; narrow = read-narrow at }; listed = ok .listed; proper = ok .proper; imaged = e };
+          coverable = record { askable = record { few = ok .few; indexed = l .indexed; narrow = own .narrow }; permuting = ok .permuting; imaged = own .imaged };
           room = lends-still room (record { points-length = refl; falsified-length = length-set (m₀ .falsified) i number; depths-length = refl });
           most = ok .most;
           shallow = read-shallow at;

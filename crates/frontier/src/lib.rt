@@ -1,5 +1,5 @@
 // The search, slot by slot, oldest first, from any slot on.
-use coverage::images_into;
+use coverage::move_images;
 use expansion::Depth;
 use expansion::Frame;
 use expansion::expand;
@@ -15,7 +15,7 @@ ghost use Rattle.slices.specs.Slices.{pointsOf};
 ghost use Rattle.formula.specs.Limits.{maxSlots};
 ghost use Rattle.expansion.specs.Filling.{Headed};
 ghost use Rattle.expansion.specs.Memory.{memory, Lends};
-ghost use Rattle.frontier.specs.Stepping.{framed, Searchable, Linked, StillLinked, Midway, Steps, Explores};
+ghost use Rattle.frontier.specs.Stepping.{framed, Searchable, Linked, Next, StillLinked, Midway, Steps, Explores};
 
 // What a search comes to; `search::Outcome` adds the refusals.
 pub enum Answer {
@@ -46,8 +46,8 @@ pub enum Stage {
 }
 
 // W5 to W8: processes the slot of index `at`. Its point satisfies all clauses, or the number of the first that it falsifies is stored, and
-// then the flips of that clause's variables are tried. One scan of the clauses, the images of the point, n steps for each permutation, and at
-// most n times permutations + 2 look-ups. `explore` sees to what it requires.
+// then the flips of that clause's variables are tried; `moved` has the images of the point. One scan of the clauses, and at most n times
+// permutations + 2 look-ups. `explore` sees to what it requires.
 fn process(
     g: Frame,
     images: &[u8],
@@ -58,12 +58,14 @@ fn process(
     depths: &mut [Depth],
     links: &mut [u32],
     heads: usize,
+    moved: &[u64],
     at: usize,
     filled: usize,
 ) -> Step
     requires { ⌜ Searchable g (now images) (now positive) (now negative) × Lends (g .room) (memory (now points) (now falsified) (now depths)) × (at < filled)
         × Midway (framed g (now images) (now positive) (now negative)) (g .room) at filled (memory (now points) (now falsified) (now depths))
-        × Linked (g .variables) heads filled (pointsOf (now points)) (now links) × Headed (filled + g .variables) (g .room) heads ⌝ }
+        × Linked (g .variables) heads filled (pointsOf (now points)) (now links) × Headed (filled + g .variables) (g .room) heads
+        × Next (g .variables) (g .permutations) (now images) (pointsOf (now points)) at (pointsOf (now moved)) ⌝ }
     ensures { λ r. ⌜ Steps (framed g (now (images .entry)) (now (positive .entry)) (now (negative .entry))) (g .room) at filled
         (memory (now (points .entry)) (now (falsified .entry)) (now (depths .entry))) r
         (memory (now (points .exit)) (now (falsified .exit)) (now (depths .exit)))
@@ -86,12 +88,10 @@ fn process(
     let before = number - 1;
     let c = clause_at(positive, negative, before);
     let listed = points::listed(c);
-    let mut moved = [0u64; 16];
-    images_into(&mut moved, images, g.variables, g.permutations, x);
     let grown = expand(
         g,
         images,
-        &moved,
+        moved,
         points,
         falsified,
         depths,
@@ -127,7 +127,8 @@ fn outgrown(g: Frame, heads: usize, filled: usize) -> bool
 }
 
 // W4, W9: processes the slots one after the other, from index `from` on with `held` slots filled, until one gives the answer, none is left, or
-// the index might be too small. At most `room` steps. Its callers see to what it requires: they have stored the target and indexed the points.
+// the index might be too small. At most `room` steps; from one to the next the images of the points are turned, one step for each permutation and
+// each variable in which the points differ. Its callers see to what it requires: they have stored the target and indexed the points.
 pub fn explore(
     g: Frame,
     images: &[u8],
@@ -148,6 +149,8 @@ pub fn explore(
         (memory (now (points .entry)) (now (falsified .entry)) (now (depths .entry))) r
         (memory (now (points .exit)) (now (falsified .exit)) (now (depths .exit))) ⌝ }
 {
+    let mut moved = [0u64; 16];
+    let mut seen: Point = 0;
     let mut at = from;
     let mut filled = held;
     while at < filled {
@@ -157,6 +160,9 @@ pub fn explore(
                 filled: filled,
             };
         }
+        let x = point_at(points, at);
+        move_images(&mut moved, images, g.variables, g.permutations, seen, x);
+        seen = x;
         let step = process(
             g,
             images,
@@ -167,6 +173,7 @@ pub fn explore(
             depths,
             links,
             heads,
+            &moved,
             at,
             filled,
         );

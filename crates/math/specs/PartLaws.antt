@@ -9,7 +9,7 @@ use native.Mathlib.Nat.{not-suc-le-zero, le-of-suc-le-suc, zero-add}
 use native.Mathlib.Decide.{ℕ-discrete}
 use native.Mathlib.Omega.{arith}
 use lib.Dec.{eqb}
-use lib.ListN.{length, getD, getElem?, take, drop, length-append, length-drop}
+use lib.ListN.{length, getD, getElem?, take, drop, replicate, length-append, length-drop}
 use lib.Seq.{take-at, drop-at}
 use borrow.Author.Tests.{eq-eqb, ne-eqb}
 use Rattle.math.specs.ListLaws.{here, getD-in, in-getD, count-pos, count-none, range-out, range-in}
@@ -55,6 +55,12 @@ module _ {A : Type 0} where
   index-none (x ∷ xs) (suc i) h = index-none xs i (le-of-suc-le-suc h)
 
   -- ---- new contents in front of what was there
+
+  -- the first of equal elements
+  pub take-replicate : (k size : ℕ) (a : A) → k ≤ size → take k (replicate size a) ≡ replicate k a
+  take-replicate zero size a le = refl
+  take-replicate (suc k) zero a le = absurd (not-suc-le-zero le)
+  take-replicate (suc k) (suc size) a le = ap (λ (l : List A). a ∷ l) (take-replicate k size a (le-of-suc-le-suc le))
 
   pub over-front : (k : ℕ) (new old : List A) → length new ≡ k → take k (over new old) ≡ new
   unfolding over

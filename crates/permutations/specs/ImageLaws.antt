@@ -6,7 +6,7 @@ use mathlib.Core.Path.{_≡_, refl, sym, ap, ap₂, _∙_, subst}
 use Prim.Native.Nat.{ℕ, zero, suc, _-_, _*_, _/_, _%_, _^_, _≤_, _<_}
 use native.Mathlib.Nat.{zero-mul, one-mul, not-suc-le-zero, le-of-suc-le-suc, lt-of-le-of-lt, mul-le-mul-right, le-of-eq}
 use native.Mathlib.Omega.{arith}
-use lib.Bits.{or-lt}
+use lib.Bits.{bitOr, or-lt, or-zero-r}
 use lib.Dec.{eqb}
 use lib.ListN.{length, getD}
 use lib.Pow.{pow-pos, pow-lt}
@@ -32,6 +32,12 @@ Positive vs = (v : ℕ) → v ∈ vs → 1 ≤ v
 step : (v : ℕ) (vs : List ℕ) (s j : ℕ) → bit (moved (v ∷ vs) s) j ≡ (eqb (s % 2) 1 && eqb (v - 1) j) || bit (moved vs (s / 2)) j
 unfolding moved
 step v vs s j = bit-or (s % 2 * 2 ^ (v - 1)) (moved vs (s / 2)) j ∙ ap (λ b. b || bit (moved vs (s / 2)) j) (bit-digit (s % 2) (v - 1) j (digit-lt s))
+
+-- of the empty set nothing is sent
+pub moved-none : (vs : List ℕ) → moved vs 0 ≡ 0
+unfolding moved
+moved-none [] = refl
+moved-none (v ∷ vs) = ap (bitOr (0 * 2 ^ (v - 1))) (moved-none vs) ∙ or-zero-r (0 * 2 ^ (v - 1)) ∙ zero-mul (2 ^ (v - 1))
 
 -- nothing is sent where no number of the list points
 pub moved-off : (vs : List ℕ) (s j : ℕ) → Positive vs → (suc j ∈ vs → ⊥) → bit (moved vs s) j ≡ false

@@ -10,13 +10,17 @@ use Rattle.math.specs.Bits.{members, Lowest}
 use Rattle.math.specs.SetLaws.{members-none}
 use Rattle.points.specs.Contracts.{NextVariable}
 
+-- where the lowest is not below n, a set of numbers below n is empty
+pub next-empty : (n left v : ℕ) → NextVariable left v → left < 2 ^ n → n ≤ v → left ≡ 0
+next-empty n left v next within ge = by (ℕ-discrete left 0)
+  where
+    by : Dec (left ≡ 0) → left ≡ 0
+    by (yes e) = e
+    by (no ne) = absurd (true≢false (sym (next .lowest ne .member) ∙ bit-above n left v within ge))
+
 module _ (n left v : ℕ) (few : n ≤ 64) (next : NextVariable left v) where
   pub next-lowest : v < n → Lowest left v
   next-lowest lt = next .lowest (λ e. let z : v ≡ 64 = next .empty e in omega arith)
 
   pub next-none : left < 2 ^ n → n ≤ v → members n left ≡ []
-  next-none within ge = by (ℕ-discrete left 0)
-    where
-      by : Dec (left ≡ 0) → members n left ≡ []
-      by (yes e) = ap (members n) e ∙ members-none n
-      by (no ne) = absurd (true≢false (sym (next .lowest ne .member) ∙ bit-above n left v within ge))
+  next-none within ge = ap (members n) (next-empty n left v next within ge) ∙ members-none n

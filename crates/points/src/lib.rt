@@ -1,7 +1,7 @@
 // Points and clauses: the leaf functions. Outside this crate no operator touches a point, but for the hash in `index::head_of`.
 ghost use mathlib.Core.Path.{_≡_};
 ghost use Prim.Native.Nat.{_<_, _*_, _/_, _%_, _^_};
-ghost use lib.Bits.{bitOr};
+ghost use lib.Bits.{bitOr, bitXor};
 ghost use lib.Dec.{eqb, ltb};
 ghost use Rattle.math.specs.Bits.{bit, flip};
 ghost use Rattle.points.specs.Points.{satisfies, distance, listed};
@@ -76,6 +76,13 @@ pub fn next_variable(s: Point) -> u32
     ensures { λ r. ⌜ NextVariable s r ⌝ }
 {
     u64::trailing_zeros(s)
+}
+
+// The set of the variables in which two points differ.
+pub fn differing(x: Point, y: Point) -> Point
+    ensures { λ r. ⌜ r ≡ bitXor x y ⌝ }
+{
+    x ^ y
 }
 
 // F1: the number of variables in which two points differ, by the count of ones.

@@ -120,8 +120,12 @@ module _ (f : Formula) (positive negative : List ℕ) where
               record {
                 few = fits .few-variables;
                 group = passes-few (f .variables) (f .permutations) (f .images) (r .1);
-                proper = permutation-passes (f .variables) (permutationsIn (f .variables) (f .permutations) (f .images)) (r .1) .1;
-                listed = formula-listed f positive negative (r .0) (r .1) size;
+                permuting =
+                    record {
+                      few = fits .few-variables;
+                      listed = formula-listed f positive negative (r .0) (r .1) size;
+                      proper = permutation-passes (f .variables) (permutationsIn (f .variables) (f .permutations) (f .images)) (r .1) .1;
+                    };
                 clauses = le-trans (clauses-le positive negative) (le-trans (le-of-eq (fits .positive-length)) (fits .few-clauses));
                 ready = subst Ready (sym (framed-is k (r .0))) (ready-of-faults f positive negative k clean);
                 some = lent-of-faults f positive negative k clean;

@@ -35,7 +35,7 @@ loop-holds : tie.Need-loop-holds Inv-loop μ-loop
 loop-holds c = let pre = c .before .before .before .before .before .before .before .pre in flip-not-found (pre .0) _ (pre .1) _ (c .before .before .flip .ensures) _ (c .before .contains .ensures) (c .if1 .left)
 
 flipped-image-requires : tie.Need-flipped-image-requires Inv-loop μ-loop
-flipped-image-requires c κs = let pre = c .before .before .before .before .before .before .before .before .before .pre in flip-sends (pre .0) _ (pre .1) _ (c .loop-test .taken)
+flipped-image-requires c κs = let pre = c .before .before .before .before .before .before .before .before .before .pre in flip-sends (pre .0 .permuting) _ (pre .1) _ (c .loop-test .taken)
 
 contains-requires-2 : tie.Need-contains-requires-2 Inv-loop μ-loop
 contains-requires-2 c κs =

@@ -33,12 +33,12 @@ same-length : tie.Need-same-length
 same-length c = search needs
 
 returns : tie.Need-returns
-returns c = (λ old p w st. step-met _ _ _ _ (c .before .before .before .before .before .before .before .before .before .before .before .before .before .pre .0) _ _ (c .before .before .before .before .point-at .ensures) (c .before .before .first-falsified .ensures) (c .before .before .before .before .before .before .before .before .before .before .before .before .before .pre .2) w _ (c .before .if1 .taken) (c .distance .ensures) st, tt)
+returns c = (λ old p w st. step-met _ _ _ _ (c .before .before .before .before .before .before .before .before .before .before .before .before .before .before .pre .0) _ _ (c .before .before .before .before .point-at .ensures) (c .before .before .first-falsified .ensures) (c .before .before .before .before .before .before .before .before .before .before .before .before .before .before .pre .2) w _ (c .before .if1 .taken) (c .distance .ensures) st, tt)
 
 cast-stored : tie.Need-cast-stored
 cast-stored c =
-    let a = c .before .before .before .before .before .before .before .before .before .before .before .before .args in
-    omega (arith, c .before .first-falsified .ensures, falsified-le (clausesOf (a .positive .now) (a .negative .now)) (c .before .before .before .point-at .result) 0, c .before .before .before .before .before .before .before .before .before .before .before .before .pre .0 .clauses)
+    let a = c .before .before .before .before .before .before .before .before .before .before .before .before .before .args in
+    omega (arith, c .before .first-falsified .ensures, falsified-le (clausesOf (a .positive .now) (a .negative .now)) (c .before .before .before .point-at .result) 0, c .before .before .before .before .before .before .before .before .before .before .before .before .before .pre .0 .clauses)
 
 mul-falsified : tie.Need-mul-falsified
 mul-falsified c = search needs
@@ -57,8 +57,8 @@ listed-requires c κs = search needs
 
 -- what is known when the flips are tried
 read : (c : tie.After-listed)
-    → let a = c .before .before .before .before .before .before .before .before .before .before .before .before .before .before .args in
-    Read (a .g) (a .images .now) (a .positive .now) (a .negative .now) (c .before .before .before .before .before .before .before .before .before .before .before .before .before .before .pre .0) (a .at) (c .before .before .before .before .before .point-at .result) (getD (a .depths .now) (a .at) 0)
+    → let a = c .before .before .before .before .before .before .before .before .before .before .before .before .before .before .before .args in
+    Read (a .g) (a .images .now) (a .positive .now) (a .negative .now) (c .before .before .before .before .before .before .before .before .before .before .before .before .before .before .before .pre .0) (a .at) (c .before .before .before .before .before .point-at .result) (getD (a .depths .now) (a .at) 0)
     (c .before .before .before .first-falsified .result) (c .listed .result) (clauseOf (c .before .clause-at .result)) (memory (a .points .now) (a .falsified .now) (a .depths .now))
 read c =
     record {
@@ -70,20 +70,11 @@ read c =
       listed-read = c .listed .ensures;
     }
 
-slice-aggregate-images-into : tie.Need-slice-aggregate-images-into
-slice-aggregate-images-into c = search needs
-
-images-into-requires : tie.Need-images-into-requires
-images-into-requires c κs = search needs
-
-slice-aggregate-expand : tie.Need-slice-aggregate-expand
-slice-aggregate-expand c = search needs
-
 expand-requires : tie.Need-expand-requires
 expand-requires c κs =
-    let pre = c .before .before .before .before .before .before .before .before .before .before .before .before .before .before .before .before .before .before .before .before .before .before .pre in
-    let a = read (c .before .before .before .before .before .before .before .before) in
-    (read-fillable _ _ _ _ (pre .0) (pre .2) a (pre .3) (pre .4) (pre .1) (c .before .before .before .before .before .before .images-into .ensures), pre .5, read-below _ _ _ _ (pre .0) (pre .2) a (pre .3))
+    let pre = c .before .before .before .before .before .before .before .before .before .before .before .before .before .before .before .before .before .before .before .pre in
+    let a = read (c .before .before .before .before) in
+    (read-fillable _ _ _ _ (pre .0) (pre .2) a (pre .3) (pre .4) (pre .1) (pre .6), pre .5, read-below _ _ _ _ (pre .0) (pre .2) a (pre .3))
 
 same-length-2 : tie.Need-same-length-2
 same-length-2 c = search needs
@@ -100,11 +91,11 @@ same-length-5 c = search needs
 returns-2 : tie.Need-returns-2
 returns-2 c =
     let flips = c .before .before .before .before .before .before .before .before .before .expand .ensures in
-    (read-goes _ _ _ _ (c .before .before .before .before .before .before .before .before .before .before .before .before .before .before .before .before .before .before .before .before .before .before .before .before .before .before .before .before .before .before .before .before .pre .0) (c .before .before .before .before .before .before .before .before .before .before .before .before .before .before .before .before .before .before .before .before .before .before .before .before .before .before .before .before .before .before .before .before .pre .2) (read (c .before .before .before .before .before .before .before .before .before .before .before .before .before .before .before .before .before .before)) (flips .0) (c .if2 .taken), flips .1)
+    (read-goes _ _ _ _ (c .before .before .before .before .before .before .before .before .before .before .before .before .before .before .before .before .before .before .before .before .before .before .before .before .before .before .before .before .before .pre .0) (c .before .before .before .before .before .before .before .before .before .before .before .before .before .before .before .before .before .before .before .before .before .before .before .before .before .before .before .before .before .pre .2) (read (c .before .before .before .before .before .before .before .before .before .before .before .before .before .before)) (flips .0) (c .if2 .taken), flips .1)
 
 cast-total : tie.Need-cast-total
 cast-total c =
-    omega (arith, read-room _ _ _ _ (c .before .before .before .before .before .before .before .before .before .before .before .before .before .before .before .before .before .before .before .before .before .before .before .before .before .before .before .before .before .before .before .before .pre .0) (c .before .before .before .before .before .before .before .before .before .before .before .before .before .before .before .before .before .before .before .before .before .before .before .before .before .before .before .before .before .before .before .before .pre .2) (read (c .before .before .before .before .before .before .before .before .before .before .before .before .before .before .before .before .before .before)) (c .before .before .before .before .before .before .before .before .before .expand .ensures .0) (c .before .before .before .before .before .before .before .before .before .before .before .before .before .before .before .before .before .before .before .before .before .before .before .before .before .before .before .before .before .before .before .before .pre .3), c .before .before .before .before .before .before .before .before .before .before .before .before .before .before .before .before .before .before .before .before .before .before .before .before .before .before .before .before .before .before .before .before .pre .0 .most)
+    omega (arith, read-room _ _ _ _ (c .before .before .before .before .before .before .before .before .before .before .before .before .before .before .before .before .before .before .before .before .before .before .before .before .before .before .before .before .before .pre .0) (c .before .before .before .before .before .before .before .before .before .before .before .before .before .before .before .before .before .before .before .before .before .before .before .before .before .before .before .before .before .pre .2) (read (c .before .before .before .before .before .before .before .before .before .before .before .before .before .before)) (c .before .before .before .before .before .before .before .before .before .expand .ensures .0) (c .before .before .before .before .before .before .before .before .before .before .before .before .before .before .before .before .before .before .before .before .before .before .before .before .before .before .before .before .before .pre .3), c .before .before .before .before .before .before .before .before .before .before .before .before .before .before .before .before .before .before .before .before .before .before .before .before .before .before .before .before .before .pre .0 .most)
 
 same-length-6 : tie.Need-same-length-6
 same-length-6 c = search needs
@@ -119,7 +110,7 @@ same-length-9 : tie.Need-same-length-9
 same-length-9 c = search needs
 
 returns-3 : tie.Need-returns-3
-returns-3 c = (read-stuck _ _ _ _ (c .before .before .before .before .before .before .before .before .before .before .before .before .before .before .before .before .before .before .before .before .before .before .before .before .before .before .before .before .before .before .before .before .pre .0) (c .before .before .before .before .before .before .before .before .before .before .before .before .before .before .before .before .before .before .before .before .before .before .before .before .before .before .before .before .before .before .before .before .pre .2) (read (c .before .before .before .before .before .before .before .before .before .before .before .before .before .before .before .before .before .before)) (c .before .before .before .before .before .before .before .before .before .expand .ensures .0) (c .if2 .left), tt)
+returns-3 c = (read-stuck _ _ _ _ (c .before .before .before .before .before .before .before .before .before .before .before .before .before .before .before .before .before .before .before .before .before .before .before .before .before .before .before .before .before .pre .0) (c .before .before .before .before .before .before .before .before .before .before .before .before .before .before .before .before .before .before .before .before .before .before .before .before .before .before .before .before .before .pre .2) (read (c .before .before .before .before .before .before .before .before .before .before .before .before .before .before)) (c .before .before .before .before .before .before .before .before .before .expand .ensures .0) (c .if2 .left), tt)
 
 pub process-spec : {M : Type 1} → statement M
 process-spec =
@@ -139,9 +130,6 @@ process-spec =
     sub-before
     clause-at-requires
     listed-requires
-    slice-aggregate-images-into
-    images-into-requires
-    slice-aggregate-expand
     expand-requires
     same-length-2
     same-length-3
