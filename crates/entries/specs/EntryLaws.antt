@@ -1,8 +1,10 @@
 -- Laws of the rows 16, 17 and 18 of the first entries of two slices, of entries copied to an array, and of arrays of zeros. Assumes nothing.
+use mathlib.Core.Bool.{true}
 use mathlib.Core.List.{List}
 use mathlib.Core.Path.{_≡_, sym, ap, _∙_}
-use Prim.Native.Nat.{ℕ, _+_, _*_, _≤_}
+use Prim.Native.Nat.{ℕ, _≤_}
 use native.Mathlib.Nat.{le-of-eq}
+use native.Mathlib.Omega.{arith}
 use lib.ListN.{length, take, replicate, length-replicate}
 use lib.Seq.{length-take-le}
 use Rattle.math.specs.Lists.{over}
@@ -20,8 +22,9 @@ use Rattle.index.specs.IndexLaws.{zeros-replicate}
 use Rattle.flips.specs.FlipLaws.{flips-fault-take}
 use Rattle.flips.specs.Flips.{flipsFault}
 use Rattle.flips.specs.Loops.{Testable}
-use Rattle.indexing.specs.Indexing.{Refuses}
-use Rattle.entries.specs.Entries.{listsFault, Ready, Lent}
+use Rattle.indexing.specs.Indexing.{Refuses, suits}
+use Rattle.indexing.specs.IndexingLaws.{zeros-links, links-indexable}
+use Rattle.entries.specs.Entries.{listsFault, Ready, Decodable, Lent}
 
 -- ---- the rows 16, 17 and 18, of the first entries of two slices
 
@@ -60,25 +63,27 @@ module _ (n : ℕ) (cs : List Numbered) (es : List Permutation) (points numbers 
 pub copied : (w count : ℕ) (body old new : List ℕ) → new ≡ over (numbersIn w count body) old → take count new ≡ numbersIn w count body
 copied w count body old new e = ap (take count) e ∙ over-front count (numbersIn w count body) old (length-entries numberFrom w count body)
 
--- ---- what row 18 is handed
+-- ---- what rows 16 and 18 are handed
+
+-- the first entries, copied to a slice as long as the one lent, can be indexed
+pub lent-ready : {n permutations : ℕ} {images positive negative : List ℕ} {count limit : ℕ} {points numbers held named links : List ℕ}
+    → Decodable n permutations images positive negative count limit points numbers → Lent limit held named links → (filled : List ℕ) → length filled ≡ length held
+    → Ready n permutations images positive negative count filled limit links
+lent-ready d l filled same =
+    let under = d .most in
+    let long = l .held-long in
+    record { given = d .given; indexable = links-indexable (l .linked) (record { few = d .given .few; enough = omega arith; most = under }) }
 
 -- where row 16 finds nothing it has left an index of the points
 pub ready-testable : {n permutations : ℕ} {images positive negative : List ℕ} {count : ℕ} {points : List ℕ} {heads : ℕ} {links : List ℕ}
     → Ready n permutations images positive negative count points heads links → {f : Fault} {links′ : List ℕ} → Refuses heads n count maxSlots points f links′ → f ≡ sound
     → Testable n permutations images positive negative count points heads links′
 ready-testable r w e =
-    record { given = r .given; enough = r .enough; indexed = w .full e }
+    record { given = r .given; enough = r .indexable .enough; indexed = w .full e }
 
 -- ---- arrays of zeros
 
-pub zeros-lent : (limit k : ℕ) → 1 ≤ limit → limit ≤ maxSlots → limit + 2 * limit ≡ k → Lent limit (replicate limit 0) (replicate limit 0) (replicate k 0)
-zeros-lent limit k headed most size =
+pub zeros-lent : (limit k : ℕ) → suits limit k ≡ true → Lent limit (replicate limit 0) (replicate limit 0) (replicate k 0)
+zeros-lent limit k h =
     let long : limit ≤ length (replicate {A = ℕ} limit 0) = le-of-eq (sym (length-replicate {A = ℕ} limit 0)) in
-    record {
-      headed = headed;
-      most = most;
-      held-long = long;
-      named-long = long;
-      room = le-of-eq (size ∙ sym (length-replicate {A = ℕ} k 0));
-      zeros = zeros-replicate k;
-    }
+    record { held-long = long; named-long = long; linked = zeros-links limit k h }

@@ -12,8 +12,7 @@ ghost use Rattle.points.specs.Points.{numbered};
 ghost use Rattle.slices.specs.Slices.{pointsOf, clausesOf};
 ghost use Rattle.permutations.specs.Permutations.{permutationsIn};
 ghost use Rattle.formula.specs.Refusals.{faultOf};
-ghost use Rattle.certificate.specs.Bytes.{numbersIn, pointWidth, numberWidth};
-ghost use Rattle.entries.specs.Entries.{listsFault, Ready, Decodable, Lent};
+ghost use Rattle.entries.specs.Entries.{listsFault, entriesFault, Ready, Decodable, Lent};
 
 // N8: the tests of the first `count` points and numbers of two slices, in their order. The first leaves an index of the points in the links,
 // which are all 0 before. `copied_refusal` hands on what it requires.
@@ -73,8 +72,7 @@ fn copied_refusal(
 ) -> Checked
     requires { ⌜ Decodable n permutations (now images) (now positive) (now negative) count heads (now points) (now numbers)
         × Lent heads (pointsOf (now held)) (now named) (now links) ⌝ }
-    ensures { λ r. ⌜ faultOf r ≡ listsFault n (numbered (clausesOf (now (positive .entry)) (now (negative .entry)))) (permutationsIn n permutations (now (images .entry)))
-        (numbersIn pointWidth count (now (points .entry))) (numbersIn numberWidth count (now (numbers .entry))) ⌝ }
+    ensures { λ r. ⌜ faultOf r ≡ entriesFault n permutations (now (images .entry)) (now (positive .entry)) (now (negative .entry)) count (now (points .entry)) (now (numbers .entry)) ⌝ }
 {
     points_into(held, points, count);
     numbers_into(named, numbers, count);
@@ -104,8 +102,7 @@ fn few_refusal(
     permutations: u32,
 ) -> Checked
     requires { ⌜ Decodable n permutations (now images) (now positive) (now negative) count 1024 (now points) (now numbers) ⌝ }
-    ensures { λ r. ⌜ faultOf r ≡ listsFault n (numbered (clausesOf (now (positive .entry)) (now (negative .entry)))) (permutationsIn n permutations (now (images .entry)))
-        (numbersIn pointWidth count (now (points .entry))) (numbersIn numberWidth count (now (numbers .entry))) ⌝ }
+    ensures { λ r. ⌜ faultOf r ≡ entriesFault n permutations (now (images .entry)) (now (positive .entry)) (now (negative .entry)) count (now (points .entry)) (now (numbers .entry)) ⌝ }
 {
     let mut held = [0u64; 1024];
     let mut named = [0u32; 1024];
@@ -138,8 +135,7 @@ fn many_refusal(
     permutations: u32,
 ) -> Checked
     requires { ⌜ Decodable n permutations (now images) (now positive) (now negative) count 65536 (now points) (now numbers) ⌝ }
-    ensures { λ r. ⌜ faultOf r ≡ listsFault n (numbered (clausesOf (now (positive .entry)) (now (negative .entry)))) (permutationsIn n permutations (now (images .entry)))
-        (numbersIn pointWidth count (now (points .entry))) (numbersIn numberWidth count (now (numbers .entry))) ⌝ }
+    ensures { λ r. ⌜ faultOf r ≡ entriesFault n permutations (now (images .entry)) (now (positive .entry)) (now (negative .entry)) count (now (points .entry)) (now (numbers .entry)) ⌝ }
 {
     let mut held = [0u64; 65536];
     let mut named = [0u32; 65536];
@@ -172,8 +168,7 @@ pub fn decoded_refusal(
     permutations: u32,
 ) -> Checked
     requires { ⌜ Decodable n permutations (now images) (now positive) (now negative) count 65536 (now points) (now numbers) ⌝ }
-    ensures { λ r. ⌜ faultOf r ≡ listsFault n (numbered (clausesOf (now (positive .entry)) (now (negative .entry)))) (permutationsIn n permutations (now (images .entry)))
-        (numbersIn pointWidth count (now (points .entry))) (numbersIn numberWidth count (now (numbers .entry))) ⌝ }
+    ensures { λ r. ⌜ faultOf r ≡ entriesFault n permutations (now (images .entry)) (now (positive .entry)) (now (negative .entry)) count (now (points .entry)) (now (numbers .entry)) ⌝ }
 {
     if count <= 1024 {
         few_refusal(

@@ -1,12 +1,13 @@
 -- What the functions that index points while they test them require and promise. Assumes nothing.
-use mathlib.Core.Bool.{Bool, true}
+use mathlib.Core.Bool.{Bool, true, _&&_}
 use mathlib.Core.List.{List}
 use mathlib.Core.Path.{_≡_}
 use Prim.Native.Nat.{ℕ, _+_, _*_, _≤_, _<_}
+use lib.Dec.{leb, eqb}
 use lib.ListN.{length, take, drop}
 use Rattle.math.specs.Lists.{firstFailing, below}
 use Rattle.math.specs.ScanLaws.{onFrom}
-use Rattle.formula.specs.Limits.{maxVariables}
+use Rattle.formula.specs.Limits.{maxVariables, maxSlots}
 use Rattle.formula.specs.Reply.{Fault, sound}
 use Rattle.certificate.specs.Rows.{pointPasses, pointsFault}
 use Rattle.index.specs.Index.{Indexed}
@@ -56,3 +57,14 @@ pub record Counted (room n count : ℕ) (points : List ℕ) : Type 0 where
   pub few : n ≤ maxVariables
   pub enough : count ≤ length points
   pub most : count ≤ room
+
+-- links that are all 0, for so many points: as many heads, and two for each
+pub record Links (size : ℕ) (links : List ℕ) : Type 0 where
+  pub headed : 1 ≤ size
+  pub most : size ≤ maxSlots
+  pub room : size + 2 * size ≤ length links
+  pub zeros : AllZero links
+
+-- whether k links are what so many points need
+abbrev pub suits : ℕ → ℕ → Bool
+suits size k = leb 1 size && leb size maxSlots && eqb (size + 2 * size) k

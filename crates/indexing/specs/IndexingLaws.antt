@@ -1,19 +1,20 @@
 -- Laws of tests of points that index them: the test of one point, the loop over all, row 16, and arrays of links. Assumes nothing.
-use mathlib.Core.Bool.{Bool, true, false, not, true≢false}
+use mathlib.Core.Bool.{Bool, true, false, not, _&&_, true≢false}
 use mathlib.Core.List.{List, [], _∷_, _++_}
 use mathlib.Core.Path.{_≡_, sym, ap, _∙_, subst}
 use Prim.Native.Nat.{ℕ, _+_, _*_, _^_, _≤_, _<_}
-use native.Mathlib.Decide.{decLt}
-use native.Mathlib.Nat.{le-antisymm, le-of-eq, le-trans}
+use native.Mathlib.Nat.{le-antisymm, le-of-eq}
 use native.Mathlib.Numerals.{add-one}
 use native.Mathlib.Omega.{arith}
-use lib.Dec.{ltb}
+use lib.Dec.{leb, ltb, eqb}
 use lib.ListN.{length, getD, take, replicate, length-replicate}
 use lib.Seq.{take-suc, length-take-le}
-use borrow.Author.Tests.{ltb-true, not-true}
+use borrow.Author.Tests.{leb-true, ltb-true, eqb-true, not-true}
+use Rattle.math.specs.ListLaws.{and-split}
 use Rattle.math.specs.Lists.{_∈_, below, Distinct}
 use Rattle.math.specs.PartLaws.{all-passing-below}
 use Rattle.math.specs.ScanLaws.{failing-begins, below-ends, below-stops, below-goes-on}
+use Rattle.formula.specs.Limits.{maxSlots}
 use Rattle.formula.specs.Reply.{Fault, fault, faultAt}
 use Rattle.formula.specs.ReplyLaws.{fault-not-sound, faultAt-sound}
 use Rattle.certificate.specs.RowLaws.{no-point, over-limit, counted, passes-new, fails-bit, points-pass, point-passes-take}
@@ -21,7 +22,7 @@ use Rattle.certificate.specs.Rows.{pointPasses, pointsFault}
 use Rattle.index.specs.Index.{Indexed}
 use Rattle.index.specs.IndexLaws.{index-empty, zeros-replicate}
 use Rattle.index.specs.Looking.{Addable, Adds}
-use Rattle.indexing.specs.Indexing.{Growable, Grows, Indexable, Sifting, Sifts, Refuses, Counted}
+use Rattle.indexing.specs.Indexing.{Growable, Grows, Indexable, Sifting, Sifts, Refuses, Counted, Links, suits}
 
 -- ---- the test of one point
 
@@ -124,10 +125,21 @@ module _ {heads n count limit : ℕ} {points : List ℕ} (links : List ℕ) wher
 
 -- ---- links in an array of zeros
 
--- an array for so many points: as many heads, and two links for each
-pub zeros-indexable : (size k : ℕ) → 1 ≤ size → size < 4294967296 → size + 2 * size ≡ k
-    → {n count : ℕ} {points : List ℕ} → Counted size n count points → Indexable size n count points (replicate k 0)
-zeros-indexable size k headed small links c =
-    let long : length (replicate {A = ℕ} k 0) ≡ k = length-replicate {A = ℕ} k 0 in
-    let most = c .most in
-    record { few = c .few; headed = headed; enough = c .enough; small = omega arith; room = omega (arith, long, links, most); zeros = zeros-replicate k }
+pub zeros-links : (size k : ℕ) → suits size k ≡ true → Links size (replicate k 0)
+zeros-links size k h =
+    let outer = and-split (leb 1 size && leb size maxSlots) (eqb (size + 2 * size) k) h in
+    let inner = and-split (leb 1 size) (leb size maxSlots) (outer .0) in
+    record {
+      headed = leb-true 1 size (inner .0);
+      most = leb-true size maxSlots (inner .1);
+      room = le-of-eq (eqb-true (size + 2 * size) k (outer .1) ∙ sym (length-replicate {A = ℕ} k 0));
+      zeros = zeros-replicate k;
+    }
+
+-- points for which there is room can be indexed
+pub links-indexable : {size n count : ℕ} {points links : List ℕ} → Links size links → Counted size n count points → Indexable size n count points links
+links-indexable l c =
+    let room = l .room in
+    let under = c .most in
+    let most = l .most in
+    record { few = c .few; headed = l .headed; enough = c .enough; small = omega arith; room = omega arith; zeros = l .zeros }

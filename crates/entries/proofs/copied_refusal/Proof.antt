@@ -5,7 +5,7 @@ use Rattle.points.specs.Points.{numbered}
 use Rattle.slices.specs.Slices.{clausesOf}
 use Rattle.permutations.specs.Permutations.{permutationsIn}
 use Rattle.certificate.specs.Bytes.{pointWidth, numberWidth}
-use Rattle.entries.specs.EntryLaws.{copied}
+use Rattle.entries.specs.EntryLaws.{copied, lent-ready}
 use Rattle.entries.specs.Entries.{listsFault}
 use Rattle.entries.proofs.copied_refusal.Statement.{statement}
 use Rattle.entries.proofs.copied_refusal.Tie as tie
@@ -17,7 +17,7 @@ numbers-into-requires : tie.Need-numbers-into-requires
 numbers-into-requires c κs = search needs
 
 lists-refusal-requires : tie.Need-lists-refusal-requires
-lists-refusal-requires c κs = search needs
+lists-refusal-requires c κs = let pre = c .before .before .before .before .before .before .before .before .before .before .before .before .before .before .before .before .before .before .before .pre in lent-ready (pre .0) (pre .1) _ (c .before .before .before .before .before .before .before .before .before .points-into .kept .0)
 
 same-length : tie.Need-same-length
 same-length c = search needs

@@ -29,7 +29,7 @@ same-length c = search needs
 
 returns : tie.Need-returns
 returns c =
-    stops-16 _ _ _ _ _ _ (c .before .before .before .before .before .before .before .before .before .before .before .before .pre .enough) (faultOf (c .before .before .before .before .points-refusal .result)) (c .before .before .before .before .points-refusal .ensures .tells)
+    stops-16 _ _ _ _ _ _ (c .before .before .before .before .before .before .before .before .before .before .before .before .pre .indexable .enough) (faultOf (c .before .before .before .before .points-refusal .result)) (c .before .before .before .before .points-refusal .ensures .tells)
     (subst IsFault (sym (ap faultOf (c .enum-told2 .given .1))) tt)
 
 numbers-refusal-requires : tie.Need-numbers-refusal-requires
@@ -53,7 +53,7 @@ sixteen c = sym (c .before .before .before .before .points-refusal .ensures .tel
 
 returns-2 : tie.Need-returns-2
 returns-2 c =
-    stops-17 _ _ _ _ _ _ (c .before .before .before .before .before .before .before .before .before .before .before .before .before .before .before .pre .enough) (faultOf (c .before .before .numbers-refusal .result)) (sixteen (c .before .before .before)) (c .before .before .numbers-refusal .ensures)
+    stops-17 _ _ _ _ _ _ (c .before .before .before .before .before .before .before .before .before .before .before .before .before .before .before .pre .indexable .enough) (faultOf (c .before .before .numbers-refusal .result)) (sixteen (c .before .before .before)) (c .before .before .numbers-refusal .ensures)
     (subst IsFault (sym (ap faultOf (c .enum-told4 .given .1))) tt)
 
 flips-refusal-requires : tie.Need-flips-refusal-requires
@@ -69,7 +69,7 @@ seventeen c = sym (c .before .before .numbers-refusal .ensures) ∙ ap faultOf (
 
 returns-3 : tie.Need-returns-3
 returns-3 c =
-    ends-18 _ _ _ _ _ _ (c .before .before .before .before .before .before .before .before .before .before .before .before .before .before .before .before .before .pre .enough) (faultOf (c .flips-refusal .result)) (sixteen (c .before .before .before .before .before)) (seventeen (c .before .before)) (c .flips-refusal .ensures)
+    ends-18 _ _ _ _ _ _ (c .before .before .before .before .before .before .before .before .before .before .before .before .before .before .before .before .before .pre .indexable .enough) (faultOf (c .flips-refusal .result)) (sixteen (c .before .before .before .before .before)) (seventeen (c .before .before)) (c .flips-refusal .ensures)
 
 pub lists-refusal-spec : {M : Type 1} → statement M
 lists-refusal-spec =

@@ -1,7 +1,6 @@
 -- `entries::many_refusal` meets its contract: arrays of zeros are what the test is to be lent. Assumes nothing.
 use mathlib.Core.Path.{refl}
 use borrow.Author.Needs.{needs}
-use borrow.Author.Tests.{leb-true}
 use Rattle.entries.specs.EntryLaws.{zeros-lent}
 use Rattle.entries.proofs.many_refusal.Statement.{statement}
 use Rattle.entries.proofs.many_refusal.Tie as tie
@@ -16,7 +15,7 @@ slice-aggregate-copied-refusal-3 : tie.Need-slice-aggregate-copied-refusal-3
 slice-aggregate-copied-refusal-3 c = search needs
 
 copied-refusal-requires : tie.Need-copied-refusal-requires
-copied-refusal-requires c κs = (c .before .before .before .before .before .before .before .before .pre, zeros-lent 65536 196608 (leb-true 1 65536 refl) (leb-true 65536 65536 refl) refl)
+copied-refusal-requires c κs = (c .before .before .before .before .before .before .before .before .pre, zeros-lent 65536 196608 refl)
 
 returns : tie.Need-returns
 returns c = search needs

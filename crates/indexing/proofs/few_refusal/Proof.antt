@@ -1,8 +1,7 @@
 -- `indexing::few_refusal` meets its contract: an array of zeros is what the test is to be lent. Assumes nothing.
 use mathlib.Core.Path.{refl}
 use borrow.Author.Needs.{needs}
-use borrow.Author.Tests.{leb-true}
-use Rattle.indexing.specs.IndexingLaws.{zeros-indexable}
+use Rattle.indexing.specs.IndexingLaws.{zeros-links, links-indexable}
 use Rattle.indexing.proofs.few_refusal.Statement.{statement}
 use Rattle.indexing.proofs.few_refusal.Tie as tie
 
@@ -10,7 +9,7 @@ slice-aggregate-points-refusal : tie.Need-slice-aggregate-points-refusal
 slice-aggregate-points-refusal c = search needs
 
 points-refusal-requires : tie.Need-points-refusal-requires
-points-refusal-requires c κs = zeros-indexable 1024 3072 (leb-true 1 1024 refl) (leb-true 1025 4294967296 refl) refl (c .before .before .pre)
+points-refusal-requires c κs = links-indexable (zeros-links 1024 3072 refl) (c .before .before .pre)
 
 returns : tie.Need-returns
 returns c = search needs
