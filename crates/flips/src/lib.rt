@@ -161,7 +161,8 @@ fn first_uncovered(
     0
 }
 
-// R18: refusal 18, of the first `count` points and numbers: the flips of count points by at most n variables each. Refusals 10, 11 and 16 see to what it requires.
+// R18: refusal 18, of the first `count` points and numbers. For each point its images, permutations · n steps, and at most
+// n · (permutations + 1) look-ups, each of at most n + 1 comparisons. Refusals 10, 11 and 16 see to what it requires.
 pub fn flips_refusal(
     positive: &[u64],
     negative: &[u64],

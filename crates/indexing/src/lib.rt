@@ -85,7 +85,8 @@ fn many_refusal(points: &[u64], n: u32, count: usize, limit: usize) -> Checked
     points_refusal(&mut links, 65536, points, n, count, limit)
 }
 
-// R16: refusal 16 for callers that need no index after it. The links suit the count, since each is made 0 first.
+// R16: refusal 16 for callers that need no index after it: at most count · (n + 1) comparisons. The array suits the count, since each of its
+// links is made 0 first.
 pub fn local_refusal(points: &[u64], n: u32, count: usize, limit: usize) -> Checked
     requires { ⌜ Counted 65536 n limit (pointsOf (now points)) ⌝ }
     ensures { λ r. ⌜ faultOf r ≡ pointsFault limit n count (pointsOf (now (points .entry))) ⌝ }
