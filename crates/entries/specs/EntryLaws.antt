@@ -18,7 +18,6 @@ use Rattle.certificate.specs.Bytes.{numberFrom, numbersIn}
 use Rattle.certificate.specs.BytesLaws.{length-entries}
 use Rattle.certificate.specs.RowLaws.{points-fault-take, numbers-fault-take}
 use Rattle.certificate.specs.Rows.{pointsFault, numbersFault}
-use Rattle.index.specs.IndexLaws.{zeros-replicate}
 use Rattle.flips.specs.FlipLaws.{flips-fault-take}
 use Rattle.flips.specs.Flips.{flipsFault}
 use Rattle.flips.specs.Loops.{Testable}

@@ -1,3 +1,2 @@
--- The search in stages: what a stage is lent, and its laws.
-pub mod Stages
+-- The laws of a search in stages.
 pub mod StageLaws

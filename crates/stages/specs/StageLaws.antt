@@ -1,23 +1,21 @@
 -- Laws of a stage: its links become an index of the filled points, it pauses at once where they are too few, and the stage behind a paused one
 -- answers for both. Assumes nothing.
 use mathlib.Core.List.{List, [], _∷_, _++_}
-use mathlib.Core.Path.{_≡_, refl, sym, _∙_, subst}
-use Prim.Native.Nat.{ℕ, _+_, _*_, _^_, _≤_, _<_}
+use mathlib.Core.Path.{_≡_, refl, sym, subst}
+use Prim.Native.Nat.{ℕ, _^_, _≤_, _<_}
 use native.Mathlib.Nat.{le-trans, le-of-eq}
 use native.Mathlib.Omega.{arith}
-use lib.ListN.{length, take, replicate, length-replicate}
-use lib.Seq.{length-take-le}
+use lib.ListN.{length, take}
 use Rattle.math.specs.ListLaws.{map-out}
 use Rattle.math.specs.Lists.{_∈_, Distinct}
-use Rattle.index.specs.IndexLaws.{zeros-replicate}
 use Rattle.formula.specs.Limits.{maxSlots}
 use Rattle.formula.specs.Problem.{Problem}
 use Rattle.formula.specs.Reply.{Reply}
 use Rattle.traversal.specs.InvariantLaws.{invariants-start}
 use Rattle.traversal.specs.Invariants.{Ready}
 use Rattle.traversal.specs.Walk.{Slot, slot, pointsIn}
-use Rattle.indexing.specs.Indexing.{Indexable, Sifts}
-use Rattle.indexing.specs.IndexingLaws.{sifts-full}
+use Rattle.indexing.specs.Indexing.{Indexable, Links, Sifts}
+use Rattle.indexing.specs.IndexingLaws.{links-indexable, sifts-full}
 use Rattle.expansion.specs.declared.Frame.{Frame}
 use Rattle.expansion.specs.FillingLaws.{held-points}
 use Rattle.expansion.specs.Memory.{Memory, Holds, Lends}
@@ -26,11 +24,6 @@ use Rattle.frontier.specs.declared.Stage.the-variants.{Answered, Paused}
 use Rattle.frontier.specs.declared.Answer.{Answer}
 use Rattle.frontier.specs.Stepping.{answerOf, framed, Searchable, Linked, Stands, Midway, Walking, Explores, Answers, Ended}
 use Rattle.frontier.specs.WalkingLaws.{walking-begins, walking-midway, walking-answers, midway-room}
-use Rattle.stages.specs.Stages.{Blank}
-
--- an array of zeros is what a stage is lent
-pub zeros-blank : (heads k : ℕ) → 1 ≤ heads → heads + 2 * heads ≡ k → Blank heads (replicate k 0)
-zeros-blank heads k headed size = record { headed = headed; linked = le-of-eq (size ∙ sym (length-replicate {A = ℕ} k 0)); zeros = zeros-replicate k }
 
 module _ (g : Frame) (images positive negative : List ℕ) (ok : Searchable g images positive negative) where
   abbrev pb : Problem
@@ -38,16 +31,13 @@ module _ (g : Frame) (images positive negative : List ℕ) (ok : Searchable g im
 
   -- ---- the index of the filled points
 
-  module _ {heads i k : ℕ} {m : Memory} {links : List ℕ} (at : Midway pb (g .room) i k m) (room : Lends (g .room) m) (blank : Blank heads links) (few : k ≤ heads) where
+  module _ {heads i k : ℕ} {m : Memory} {links : List ℕ} (at : Midway pb (g .room) i k m) (room : Lends (g .room) m) (blank : Links heads links) (few : k ≤ heads) where
     enough : k ≤ length (m .points)
     enough = le-trans (midway-room at) (room .points-room)
 
     pub stage-indexable : Indexable heads (g .variables) k (m .points) links
     stage-indexable =
-        let linked = blank .linked in
-        let lent = midway-room at in
-        let most = ok .most in
-        record { few = ok .few; headed = blank .headed; enough = enough; small = omega arith; room = omega arith; zeros = blank .zeros }
+        links-indexable blank (record { few = ok .few; enough = enough; most = few })
 
     held : take k (m .points) ≡ pointsIn (at .front ++ at .back)
     held = held-points k (at .stands .holds) (at .stands .filled)
@@ -61,7 +51,7 @@ module _ (g : Frame) (images positive negative : List ℕ) (ok : Searchable g im
     stage-linked s same =
         record {
           indexed = sifts-full enough narrow (subst Distinct (sym held) (at .stands .invariants .filled .distinct)) s;
-          linked = le-trans (blank .linked) (le-of-eq (sym same));
+          linked = le-trans (blank .room) (le-of-eq (sym same));
         }
 
   -- ---- stages behind one another

@@ -9,9 +9,9 @@ use frontier::explore;
 use indexing::index_points;
 ghost use mathlib.Core.List.{[], _∷_};
 ghost use Rattle.traversal.specs.Walk.{slot};
+ghost use Rattle.indexing.specs.Indexing.{Links};
 ghost use Rattle.expansion.specs.Memory.{memory, Lends};
 ghost use Rattle.frontier.specs.Stepping.{answerOf, framed, Searchable, Midway, Explores, Answers, Ended};
-ghost use Rattle.stages.specs.Stages.{Blank};
 
 // Explores from index `at` on with an index of at most `heads` points, made here of those filled: one look-up each. The stages see to what it
 // requires.
@@ -29,7 +29,7 @@ fn explore_with(
     filled: usize,
 ) -> Stage
     requires { ⌜ Searchable g (now images) (now positive) (now negative) × Lends (g .room) (memory (now points) (now falsified) (now depths))
-        × Midway (framed g (now images) (now positive) (now negative)) (g .room) at filled (memory (now points) (now falsified) (now depths)) × Blank heads (now links) ⌝ }
+        × Midway (framed g (now images) (now positive) (now negative)) (g .room) at filled (memory (now points) (now falsified) (now depths)) × Links heads (now links) ⌝ }
     ensures { λ r. ⌜ Explores (framed g (now (images .entry)) (now (positive .entry)) (now (negative .entry))) (g .room) heads at filled
         (memory (now (points .entry)) (now (falsified .entry)) (now (depths .entry))) r
         (memory (now (points .exit)) (now (falsified .exit)) (now (depths .exit))) ⌝ }

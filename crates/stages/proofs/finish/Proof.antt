@@ -1,7 +1,8 @@
 -- `stages::finish` meets its contract: with a head for each slot that can be lent it does not pause. Assumes nothing.
 use mathlib.Core.Path.{refl}
 use borrow.Author.Tests.{leb-true}
-use Rattle.stages.specs.StageLaws.{zeros-blank, stage-answered, stage-last}
+use Rattle.indexing.specs.IndexingLaws.{zeros-links}
+use Rattle.stages.specs.StageLaws.{stage-answered, stage-last}
 use borrow.Author.Needs.{needs}
 use Rattle.stages.proofs.finish.Statement.{statement}
 use Rattle.stages.proofs.finish.Tie as tie
@@ -10,7 +11,7 @@ slice-aggregate-explore-with : tie.Need-slice-aggregate-explore-with
 slice-aggregate-explore-with c = search needs
 
 explore-with-requires : tie.Need-explore-with-requires
-explore-with-requires c κs = let pre = c .before .before .before .before .before .before .before .before .before .before .pre in (pre .0, pre .1, pre .2, zeros-blank 65536 196608 (leb-true 1 65536 refl) refl)
+explore-with-requires c κs = let pre = c .before .before .before .before .before .before .before .before .before .before .pre in (pre .0, pre .1, pre .2, zeros-links 65536 196608 refl)
 
 enum-known-stage : tie.Need-enum-known-stage
 enum-known-stage c = search needs

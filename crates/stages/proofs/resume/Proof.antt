@@ -1,8 +1,8 @@
 -- `stages::resume` meets its contract: where it pauses, the last stage answers for both. Assumes nothing.
 use mathlib.Core.Path.{refl}
-use borrow.Author.Tests.{leb-true}
 use Rattle.expansion.specs.FillingLaws.{lends-still}
-use Rattle.stages.specs.StageLaws.{zeros-blank, stage-answered, stage-midway, stage-followed}
+use Rattle.indexing.specs.IndexingLaws.{zeros-links}
+use Rattle.stages.specs.StageLaws.{stage-answered, stage-midway, stage-followed}
 use borrow.Author.Needs.{needs}
 use Rattle.stages.proofs.resume.Statement.{statement}
 use Rattle.stages.proofs.resume.Tie as tie
@@ -11,7 +11,7 @@ slice-aggregate-explore-with : tie.Need-slice-aggregate-explore-with
 slice-aggregate-explore-with c = search needs
 
 explore-with-requires : tie.Need-explore-with-requires
-explore-with-requires c κs = let pre = c .before .before .before .before .before .before .before .before .before .before .pre in (pre .0, pre .1, pre .2, zeros-blank 8192 24576 (leb-true 1 8192 refl) refl)
+explore-with-requires c κs = let pre = c .before .before .before .before .before .before .before .before .before .before .pre in (pre .0, pre .1, pre .2, zeros-links 8192 24576 refl)
 
 enum-known-stage : tie.Need-enum-known-stage
 enum-known-stage c = search needs

@@ -1,11 +1,11 @@
 -- `stages::start` meets its contract: the first slot holds the target, in front of what was there, and the stages answer from it. Assumes nothing.
 use mathlib.Core.List.{[], _∷_}
 use mathlib.Core.Path.{refl}
-use borrow.Author.Tests.{leb-true}
 use Rattle.expansion.specs.FillingLaws.{lends-still, lends-fewer, lengths-trans, held-first}
 use Rattle.expansion.specs.Memory.{memory, Holds, SameLengths}
 use Rattle.traversal.specs.Walk.{slot}
-use Rattle.stages.specs.StageLaws.{zeros-blank, stage-answered, stage-midway, stage-followed, begun-midway, begun-ends}
+use Rattle.indexing.specs.IndexingLaws.{zeros-links}
+use Rattle.stages.specs.StageLaws.{stage-answered, stage-midway, stage-followed, begun-midway, begun-ends}
 use borrow.Author.Needs.{needs}
 use Rattle.stages.proofs.start.Statement.{statement}
 use Rattle.stages.proofs.start.Tie as tie
@@ -28,7 +28,7 @@ explore-with-requires : tie.Need-explore-with-requires
 explore-with-requires c κs =
     let pre = c .before .before .before .before .before .before .before .before .before .before .before .before .before .before .before .before .before .before .before .before .pre in
     let first = stored (c .before .before .before .before .before .before .before .before .before .before) in
-    (pre .0, lends-still (pre .1) (first .1), begun-midway _ _ _ _ (pre .0) (first .0), zeros-blank 512 1536 (leb-true 1 512 refl) refl)
+    (pre .0, lends-still (pre .1) (first .1), begun-midway _ _ _ _ (pre .0) (first .0), zeros-links 512 1536 refl)
 
 enum-known-stage : tie.Need-enum-known-stage
 enum-known-stage c = search needs
