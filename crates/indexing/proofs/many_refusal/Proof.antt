@@ -1,18 +1,19 @@
 -- `indexing::many_refusal` meets its contract: an array of zeros is what the test is to be lent. Assumes nothing.
-use mathlib.Core.Path.{refl}
-use borrow.Author.Needs.{needs}
+use mathlib.Core.Path.{refl, sym}
+use Prim.Native.Nat.{ℕ}
+use lib.ListN.{length-replicate}
 use Rattle.indexing.specs.IndexingLaws.{zeros-links, links-indexable}
 use Rattle.indexing.proofs.many_refusal.Statement.{statement}
 use Rattle.indexing.proofs.many_refusal.Tie as tie
 
 slice-aggregate-points-refusal : tie.Need-slice-aggregate-points-refusal
-slice-aggregate-points-refusal c = search needs
+slice-aggregate-points-refusal c = sym (length-replicate {A = ℕ} 196608 0)
 
 points-refusal-requires : tie.Need-points-refusal-requires
 points-refusal-requires c κs = links-indexable (zeros-links 65536 196608 refl) (c .before .before .pre)
 
 returns : tie.Need-returns
-returns c = search needs
+returns c = c .before .points-refusal .ensures .tells
 
 pub many-refusal-spec : {M : Type 1} → statement M
 many-refusal-spec =
