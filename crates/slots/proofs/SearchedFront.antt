@@ -38,19 +38,13 @@ use Rattle.search.specs.Builder.{Searched}
 use Rattle.search.proofs.Outcome as O
 use Rattle.search.proofs.Outcome.Laws as O′
 use Rattle.columns.specs.Slots.{Within}
-use Rattle.slots.proofs.search_front as search-front
+use Rattle.lending.proofs.Spelled.{formula-val}
+use Rattle.fronts.proofs.search_front as search-front
 
 abbrev pub SearchFront : {M : Type 1} (𝓤 : URA M) (H : Heap 𝓤) (A : Atoms 𝓤) (mem : Memory → SProp 𝓤) (run : Routine → Fun 𝓤) → Contract 𝓤
 SearchFront 𝓤 H A mem run = tripleOf 𝓤 H A search-front.signature (search-front.spec 𝓤 H A mem run)
 
--- how a formula is spelled
-abbrev pub formula-val : Formula → Val
-formula-val f = LL.val F.the-type F′.the-laws f
-
 module _ {M : Type 1} (𝓤 : URA M) (H : Heap 𝓤) (A : Atoms 𝓤) (W : Given 𝓤 H A) where
-  pub formula-typed : (f : Formula) → Is F.the-row f (formula-val f ∷ []) → T (hasTy F′.mir (formula-val f)) × WT (formula-val f)
-  formula-typed f g = LL.lawful F.the-type F′.the-laws 𝓤 H A W .typed f _ g .0
-
   pub outcome-typed : (r : Outcome) (w : Val) → Is O.the-row r (w ∷ []) → T (hasTy O′.mir w) × WT w
   outcome-typed r w g = EL.lawful O.the-type O′.the-laws 𝓤 H A W tt .typed r (w ∷ []) g .0
 

@@ -52,26 +52,27 @@ use Rattle.columns.specs.declared.Slot.{Slot}
 use Rattle.columns.specs.Slots.{pointsIn, falsifiedIn, depthsIn, joined, front}
 use Rattle.columns.specs.SlotLaws.{front-length, joined-long}
 use Rattle.slots.specs.SearchLaws.{searched-whole}
-use Rattle.slots.proofs.Places.{k, gk, used, P, N, D, many, long₁, long₂, long₃, fits-in, fronts-in}
+use Rattle.lending.proofs.Places.{k, gk, used, P, N, D, many, long₁, long₂, long₃, fits-in, fronts-in}
 use Rattle.columns.proofs.Row.{R, mut-again}
-use Rattle.slots.proofs.Lent.{lend, unlend, share, unshare, zeros-typed, abstracted, emptied, big-lit, room64, room32}
-use Rattle.slots.proofs.LeastCalled as Count
-use Rattle.slots.proofs.LeastCalled.{Least}
+use Rattle.lending.proofs.Lent.{lend, unlend, share, unshare, zeros-typed, abstracted, emptied, big-lit, room64, room32}
+use Rattle.lending.proofs.LeastCalled as Count
+use Rattle.lending.proofs.LeastCalled.{Least}
 use Rattle.columns.proofs.CopiedOut as Out
 use Rattle.columns.proofs.CopiedOut.{CopyOut}
 use Rattle.columns.proofs.CopiedBack as Back
 use Rattle.columns.proofs.CopiedBack.{CopyBack}
 use Rattle.slots.proofs.SearchedFront as Front
-use Rattle.slots.proofs.SearchedFront.{SearchFront, formula-val, formula-typed, outcome-typed}
+use Rattle.lending.proofs.Spelled.{formula-val, formula-typed}
+use Rattle.slots.proofs.SearchedFront.{SearchFront, outcome-typed}
 use Rattle.columns.proofs.copy_out.Symbol as copy-out-def
 use Rattle.columns.proofs.copy_out.Symbol.{name as #columns·copy-out}
 use Rattle.columns.proofs.copy_out.Met as copy-out-thm
 use Rattle.columns.proofs.copy_back.Symbol as copy-back-def
 use Rattle.columns.proofs.copy_back.Symbol.{name as #columns·copy-back}
 use Rattle.columns.proofs.copy_back.Met as copy-back-thm
-use Rattle.slots.proofs.search_front.Symbol as search-front-def
-use Rattle.slots.proofs.search_front.Symbol.{name as #slots·search-front}
-use Rattle.slots.proofs.search_front.Met as search-front-thm
+use Rattle.fronts.proofs.search_front.Symbol as search-front-def
+use Rattle.fronts.proofs.search_front.Symbol.{name as #fronts·search-front}
+use Rattle.fronts.proofs.search_front.Met as search-front-thm
 use Rattle.slots.proofs.search_slots.Key.{name as #slots·search-slots}
 use Rattle.slots.proofs.search_slots as this
 use Rattle.slots.proofs.search_slots.Statement as stated
@@ -123,7 +124,7 @@ module _ {M : Type 1} (𝓤 : URA M) (H : Heap 𝓤) (A : Atoms 𝓤) (W : Given
         owned ! F.the-row (Is F.the-row) (LL.makes F.the-type F′.the-plain 𝓤 H A) f (formula-val f ∷ []) gf $ fjoin ! $ frame ! $ done !
 
     module _ (C : Calls 𝓤 H) (Λ : Loops 𝓤 H) (fm : FmC 𝓤 H (W .laws) C) (known₀ : Triple 𝓤 (C #slices·least) (Least 𝓤 H A mem run)) (known₁ : Triple 𝓤 (C #columns·copy-out) (CopyOut 𝓤 H A mem run))
-        (known₂ : Triple 𝓤 (C #slots·search-front) (SearchFront 𝓤 H A mem run)) (known₃ : Triple 𝓤 (C #columns·copy-back) (CopyBack 𝓤 H A mem run)) where
+        (known₂ : Triple 𝓤 (C #fronts·search-front) (SearchFront 𝓤 H A mem run)) (known₃ : Triple 𝓤 (C #columns·copy-back) (CopyBack 𝓤 H A mem run)) where
       walk : ent 𝓤 (onEntry 𝓤 H A this.signature (κ₀, (κ₁, (κ₂, tt))) (q₀, (q₁, (q₂, tt))) x at)
           (WpFn 𝓤 H C Λ code.function (formula-val f ∷ sliceVal (c₀, d₀) (length us) ∷ sliceVal (c₁, d₁) (length vs) ∷ sliceVal (b, o) (length ys) ∷ []) Post)
       walk =
@@ -209,7 +210,7 @@ module _ {M : Type 1} (𝓤 : URA M) (H : Heap 𝓤) (A : Atoms 𝓤) (W : Given
           by ! (exits r w₂ ps′ fs′ ds′ (s₁ ∙ long₁ ys ps e₁) (s₂ ∙ long₂ ys fs e₂) (s₃ ∙ long₃ ys ds e₃) (searched-whole f us vs ys (k ys) refl ps fs ds ps′ fs′ ds′ r (many ys ps′ (s₁ ∙ long₁ ys ps e₁)) (many ys fs′ (s₂ ∙ long₂ ys fs e₂)) (many ys ds′ (s₃ ∙ long₃ ys ds e₃)) told))))))))))))))))))))))))))))))))))))))))))))))))))))))))))))))
 
 module _ {M : Type 1} (𝓤 : URA M) (H : Heap 𝓤) (A : Atoms 𝓤) (W : Given 𝓤 H A) (mem : Memory → SProp 𝓤) (run : Routine → Fun 𝓤) (𝓣 : Tables 𝓤 H) (known₀ : Triple 𝓤 (𝓣 .C #slices·least) (Least 𝓤 H A mem run)) (known₁ : Triple 𝓤 (𝓣 .C #columns·copy-out) (CopyOut 𝓤 H A mem run))
-    (known₂ : Triple 𝓤 (𝓣 .C #slots·search-front) (SearchFront 𝓤 H A mem run)) (known₃ : Triple 𝓤 (𝓣 .C #columns·copy-back) (CopyBack 𝓤 H A mem run)) where
+    (known₂ : Triple 𝓤 (𝓣 .C #fronts·search-front) (SearchFront 𝓤 H A mem run)) (known₃ : Triple 𝓤 (𝓣 .C #columns·copy-back) (CopyBack 𝓤 H A mem run)) where
   walks : Walks 𝓤 H A this.ended stayed (WpFn 𝓤 H (𝓣 .C) (𝓣 .Λ) code.function) (this.clauses 𝓤 H A mem run)
   walks = walked 𝓤 H A this.ended stayed (this.clauses 𝓤 H A mem run) (WpFn 𝓤 H (𝓣 .C) (𝓣 .Λ) code.function) (λ κs. (LL.vals F.the-type F′.the-laws, (slice-vals, (slice-vals, (slice-vals, tt)))))
       (λ κs. (LL.tells F.the-type F′.the-laws, (shr-slice-tells (named 0) (κs .0) u64, (shr-slice-tells (named 1) (κs .1 .0) u64, (mut-slice-tells (named 2) (κs .1 .1 .0) R, tt)))))
@@ -230,5 +231,5 @@ search-slots-spec 𝓤 H 𝓜 𝓖 𝓡 =
     (meets 𝓤 H (𝓖 .A) (givenOf 𝓤 H 𝓜 𝓖) (𝓜 .mem) (𝓡 .run) (tablesOf 𝓤 H 𝓜 (tables 𝓤 H 𝓜 𝓡 code.env))
     (cited 𝓤 H (Least 𝓤 H (𝓖 .A) (𝓜 .mem) (𝓡 .run)) 𝓜 𝓡 code.env #slices·least least-def.routine code.calls-slices·least (least-thm.met 𝓤 H 𝓜 𝓖 𝓡))
     (cited 𝓤 H (CopyOut 𝓤 H (𝓖 .A) (𝓜 .mem) (𝓡 .run)) 𝓜 𝓡 code.env #columns·copy-out copy-out-def.routine code.calls-columns·copy-out (copy-out-thm.met 𝓤 H 𝓜 𝓖 𝓡))
-    (cited 𝓤 H (SearchFront 𝓤 H (𝓖 .A) (𝓜 .mem) (𝓡 .run)) 𝓜 𝓡 code.env #slots·search-front search-front-def.routine code.calls-slots·search-front (search-front-thm.met 𝓤 H 𝓜 𝓖 𝓡))
+    (cited 𝓤 H (SearchFront 𝓤 H (𝓖 .A) (𝓜 .mem) (𝓡 .run)) 𝓜 𝓡 code.env #fronts·search-front search-front-def.routine code.calls-fronts·search-front (search-front-thm.met 𝓤 H 𝓜 𝓖 𝓡))
     (cited 𝓤 H (CopyBack 𝓤 H (𝓖 .A) (𝓜 .mem) (𝓡 .run)) 𝓜 𝓡 code.env #columns·copy-back copy-back-def.routine code.calls-columns·copy-back (copy-back-thm.met 𝓤 H 𝓜 𝓖 𝓡)))

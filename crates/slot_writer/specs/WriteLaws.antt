@@ -22,8 +22,7 @@ use Rattle.certificate.specs.RowLaws.{points-fault-take, numbers-fault-take}
 use Rattle.certificate.specs.Writer.{Wrote, writeFault, writeReply, writeOutput, certificateOf, lengthNeeded}
 use Rattle.columns.specs.declared.Slot.{Slot}
 use Rattle.columns.specs.Slots.{pointsIn, falsifiedIn, depthsIn, front}
-use Rattle.columns.specs.SlotLaws.{column-long}
-use Rattle.slots.specs.SearchLaws.{front-take, min-thrice}
+use Rattle.columns.specs.SlotLaws.{column-long, front-take, min-thrice}
 
 -- ---- tests in order
 

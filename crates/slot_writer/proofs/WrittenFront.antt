@@ -38,8 +38,8 @@ use Rattle.certificate.specs.Writer.{Wrote}
 use Rattle.certificate.proofs.Written as O
 use Rattle.certificate.proofs.Written.Laws as O′
 use Rattle.columns.specs.Slots.{Within}
-use Rattle.slots.proofs.SearchedFront.{formula-val}
-use Rattle.slots.proofs.write_front as write-front
+use Rattle.lending.proofs.Spelled.{formula-val}
+use Rattle.fronts.proofs.write_front as write-front
 
 abbrev pub WriteFront : {M : Type 1} (𝓤 : URA M) (H : Heap 𝓤) (A : Atoms 𝓤) (mem : Memory → SProp 𝓤) (run : Routine → Fun 𝓤) → Contract 𝓤
 WriteFront 𝓤 H A mem run = tripleOf 𝓤 H A write-front.signature (write-front.spec 𝓤 H A mem run)

@@ -1,0 +1,4 @@
+pub mod LeastCalled
+pub mod Lent
+pub mod Places
+pub mod Spelled
