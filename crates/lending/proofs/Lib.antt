@@ -1,3 +1,4 @@
+pub mod Called
 pub mod LeastCalled
 pub mod Lent
 pub mod Places
