@@ -19,7 +19,6 @@ use types.Kit.{Goal, Soaks, Given, Item, ‵, raw, _⊛_, Seq, Step, step, _$_, 
 use denote.Laws.{Is, shows}
 use denote.Plain.{uint-makes}
 use denote.Builtin.{u8, u32, u64}
-use denote.Ref.{RefT}
 use denote.Slice.{sliceVal, ShrSlice}
 use denote.Struct.Laws as LL
 use denote.Steps.{owned, nothing, heard, peeks}
@@ -29,6 +28,7 @@ use Rattle.formula.proofs.Formula as F
 use Rattle.formula.proofs.Formula.Laws as F′
 use Rattle.interface.specs.Words.{formulaFrom}
 use Rattle.interface.proofs.formula_from as formula-from
+use Rattle.lending.proofs.Lent.{at-list}
 use Rattle.lending.proofs.Called.{Does, asked, answered}
 
 abbrev pub FormulaFrom : {M : Type 1} (𝓤 : URA M) (H : Heap 𝓤) (A : Atoms 𝓤) (mem : Memory → SProp 𝓤) (run : Routine → Fun 𝓤) → Contract 𝓤
@@ -36,16 +36,13 @@ FormulaFrom 𝓤 H A mem run = Does 𝓤 H A formula-from.ended (formula-from.cl
 
 -- the arguments
 module _ (v c g p : ℕ) (κ : Lft) (q : Share) (b o : ℕ) (δ : GName) (bytes : List ℕ) where
-  abbrev images : RefT (List ℕ)
-  images = record { ptr = (b, o); name = δ; now = bytes }
-
   module _ {M : Type 1} (𝓤 : URA M) (H : Heap 𝓤) (A : Atoms 𝓤) (mem : Memory → SProp 𝓤) (run : Routine → Fun 𝓤) where
     abbrev pub bound : FormulaFrom 𝓤 H A mem run .Ghost
-    bound = (((κ, tt), (q, tt), tt, (v, (c, (g, (p, (images, tt))))), (vint w32 v ∷ [], (vint w32 c ∷ [], (vint w64 g ∷ [], (vint w32 p ∷ [], (sliceVal (b, o) (length bytes) ∷ [], tt)))))), tt)
+    bound = (((κ, tt), (q, tt), tt, (v, (c, (g, (p, (at-list b o δ bytes, tt))))), (vint w32 v ∷ [], (vint w32 c ∷ [], (vint w64 g ∷ [], (vint w32 p ∷ [], (sliceVal (b, o) (length bytes) ∷ [], tt)))))), tt)
 
     module _ {K : Type 0} (W : Given 𝓤 H A) {Γ : List (Item 𝓤)} {G : Goal 𝓤 H} where
       pub asks : K → v < 2 ^ 32 → c < 2 ^ 32 → g < 2 ^ 64 → p < 2 ^ 32
-          → Step K W (raw (FormulaFrom 𝓤 H A mem run .pre bound) ∷ Γ) G (‵ (ShrSlice (named 0) κ u8 .own images (sliceVal (b, o) (length bytes) ∷ [])) ∷ ‵ (flft κ q) ∷ Γ) G
+          → Step K W (raw (FormulaFrom 𝓤 H A mem run .pre bound) ∷ Γ) G (‵ (ShrSlice (named 0) κ u8 .own (at-list b o δ bytes) (sliceVal (b, o) (length bytes) ∷ [])) ∷ ‵ (flft κ q) ∷ Γ) G
       asks t gv gc gg gp = step (λ s. nothing t $ move t (1 ∷ 0 ∷ []) $ fjoin t $ owned t u32 (Is u32) (uint-makes 𝓤 H A W w32) p (vint w32 p ∷ []) (refl, gp) $ fjoin t $
           owned t u64 (Is u64) (uint-makes 𝓤 H A W w64) g (vint w64 g ∷ []) (refl, gg) $ fjoin t $ owned t u32 (Is u32) (uint-makes 𝓤 H A W w32) c (vint w32 c ∷ []) (refl, gc) $ fjoin t $
           owned t u32 (Is u32) (uint-makes 𝓤 H A W w32) v (vint w32 v ∷ []) (refl, gv) $ fjoin t $ nothing t $ move t (2 ∷ 0 ∷ []) $ join t $

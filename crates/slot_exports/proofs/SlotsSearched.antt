@@ -19,7 +19,6 @@ use types.Kit.{Goal, Soaks, Given, Item, ‵, raw, _⊛_, Seq, Step, step, _$_, 
 use denote.Laws.{Is, shows}
 use denote.Builtin.{u64}
 use denote.Enum.Laws as EL
-use denote.Ref.{RefT}
 use denote.Slice.{sliceVal, MutSlice, ShrSlice, finally}
 use denote.Steps.{nothing, heard, peeks}
 use denote.Triple.Statement.{Contract}
@@ -33,6 +32,7 @@ use Rattle.columns.specs.declared.Slot.{Slot}
 use Rattle.columns.specs.Slots.{pointsIn, falsifiedIn, depthsIn}
 use Rattle.columns.proofs.Row.{R}
 use Rattle.slots.proofs.search_slots as search-slots
+use Rattle.lending.proofs.Lent.{at-list}
 use Rattle.lending.proofs.Called.{Does, asked, answered}
 
 abbrev pub SearchSlots : {M : Type 1} (𝓤 : URA M) (H : Heap 𝓤) (A : Atoms 𝓤) (mem : Memory → SProp 𝓤) (run : Routine → Fun 𝓤) → Contract 𝓤
@@ -40,15 +40,6 @@ SearchSlots 𝓤 H A mem run = Does 𝓤 H A search-slots.ended (search-slots.cl
 
 -- the arguments
 module _ (f : Formula) (wf : Val) (κ₁ κ₂ κ₃ : Lft) (q₁ q₂ q₃ : Share) (c₁ d₁ c₂ d₂ b o : ℕ) (δ₁ δ₂ γ : GName) (us vs : List ℕ) (ys : List Slot) where
-  abbrev positive : RefT (List ℕ)
-  positive = record { ptr = (c₁, d₁); name = δ₁; now = us }
-
-  abbrev negative : RefT (List ℕ)
-  negative = record { ptr = (c₂, d₂); name = δ₂; now = vs }
-
-  abbrev slots : RefT (List Slot)
-  slots = record { ptr = (b, o); name = γ; now = ys }
-
   abbrev pub Told : Outcome → List Slot → Type 0
   Told r zs = Searched f us vs (pointsIn ys) (falsifiedIn ys) (depthsIn ys) r (pointsIn zs) (falsifiedIn zs) (depthsIn zs)
 
@@ -57,11 +48,11 @@ module _ (f : Formula) (wf : Val) (κ₁ κ₂ κ₃ : Lft) (q₁ q₂ q₃ : Sh
 
   module _ {M : Type 1} (𝓤 : URA M) (H : Heap 𝓤) (A : Atoms 𝓤) (mem : Memory → SProp 𝓤) (run : Routine → Fun 𝓤) where
     abbrev pub bound : SearchSlots 𝓤 H A mem run .Ghost
-    bound = (((κ₁, (κ₂, (κ₃, tt))), (q₁, (q₂, (q₃, tt))), tt, (f, (positive, (negative, (slots, tt)))), (wf ∷ [], (sliceVal (c₁, d₁) (length us) ∷ [], (sliceVal (c₂, d₂) (length vs) ∷ [], (sliceVal (b, o) (length ys) ∷ [], tt))))), tt)
+    bound = (((κ₁, (κ₂, (κ₃, tt))), (q₁, (q₂, (q₃, tt))), tt, (f, (at-list c₁ d₁ δ₁ us, (at-list c₂ d₂ δ₂ vs, (at-list b o γ ys, tt)))), (wf ∷ [], (sliceVal (c₁, d₁) (length us) ∷ [], (sliceVal (c₂, d₂) (length vs) ∷ [], (sliceVal (b, o) (length ys) ∷ [], tt))))), tt)
 
     module _ {K : Type 0} (W : Given 𝓤 H A) {Γ : List (Item 𝓤)} {G : Goal 𝓤 H} where
-      pub asks : K → Step K W (raw (SearchSlots 𝓤 H A mem run .pre bound) ∷ Γ) G (‵ (F.the-row .own f (wf ∷ [])) ∷ ‵ (ShrSlice (named 0) κ₁ u64 .own positive (sliceVal (c₁, d₁) (length us) ∷ []))
-          ∷ ‵ (ShrSlice (named 1) κ₂ u64 .own negative (sliceVal (c₂, d₂) (length vs) ∷ [])) ∷ ‵ (MutSlice (named 2) κ₃ R .own slots (sliceVal (b, o) (length ys) ∷ [])) ∷ ‵ (flft κ₁ q₁) ∷ ‵ (flft κ₂ q₂) ∷ ‵ (flft κ₃ q₃) ∷ Γ) G
+      pub asks : K → Step K W (raw (SearchSlots 𝓤 H A mem run .pre bound) ∷ Γ) G (‵ (F.the-row .own f (wf ∷ [])) ∷ ‵ (ShrSlice (named 0) κ₁ u64 .own (at-list c₁ d₁ δ₁ us) (sliceVal (c₁, d₁) (length us) ∷ []))
+          ∷ ‵ (ShrSlice (named 1) κ₂ u64 .own (at-list c₂ d₂ δ₂ vs) (sliceVal (c₂, d₂) (length vs) ∷ [])) ∷ ‵ (MutSlice (named 2) κ₃ R .own (at-list b o γ ys) (sliceVal (b, o) (length ys) ∷ [])) ∷ ‵ (flft κ₁ q₁) ∷ ‵ (flft κ₂ q₂) ∷ ‵ (flft κ₃ q₃) ∷ Γ) G
       asks t = step (λ s. nothing t $ move t (4 ∷ 0 ∷ []) $ fjoin t $ move t (3 ∷ 0 ∷ []) $ fjoin t $ move t (2 ∷ 0 ∷ []) $ fjoin t $ move t (1 ∷ 0 ∷ []) $ fjoin t $
           nothing t $ move t (4 ∷ 0 ∷ []) $ join t $ move t (3 ∷ 0 ∷ []) $ join t $ move t (2 ∷ 0 ∷ []) $ join t $ asked search-slots.ended (search-slots.clauses 𝓤 H A mem run) bound (tokens 𝓤) t (id⊢ 𝓤 _) (id⊢ 𝓤 _) $ s)
 

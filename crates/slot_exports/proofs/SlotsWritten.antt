@@ -20,7 +20,6 @@ use denote.Laws.{Is, shows}
 use denote.Plain.{uint-makes}
 use denote.Builtin.{u8, u32, u64}
 use denote.Enum.Laws as EL
-use denote.Ref.{RefT}
 use denote.Slice.{sliceVal, MutSlice, ShrSlice, finally}
 use denote.Steps.{owned, nothing, heard, peeks}
 use denote.Triple.Statement.{Contract}
@@ -34,6 +33,7 @@ use Rattle.columns.specs.declared.Slot.{Slot}
 use Rattle.columns.specs.Slots.{pointsIn, falsifiedIn, depthsIn}
 use Rattle.columns.proofs.Row.{R}
 use Rattle.slot_writer.proofs.write_slots as write-slots
+use Rattle.lending.proofs.Lent.{at-list}
 use Rattle.lending.proofs.Called.{Does, asked, answered}
 
 abbrev pub WriteSlots : {M : Type 1} (𝓤 : URA M) (H : Heap 𝓤) (A : Atoms 𝓤) (mem : Memory → SProp 𝓤) (run : Routine → Fun 𝓤) → Contract 𝓤
@@ -41,18 +41,6 @@ WriteSlots 𝓤 H A mem run = Does 𝓤 H A write-slots.ended (write-slots.claus
 
 -- the arguments
 module _ (f : Formula) (wf : Val) (κ₁ κ₂ κ₃ κ₄ : Lft) (q₁ q₂ q₃ q₄ : Share) (c₁ d₁ c₂ d₂ b o b₄ o₄ : ℕ) (δ₁ δ₂ γ δ₄ : GName) (us vs : List ℕ) (ys : List Slot) (count : ℕ) (os : List ℕ) where
-  abbrev positive : RefT (List ℕ)
-  positive = record { ptr = (c₁, d₁); name = δ₁; now = us }
-
-  abbrev negative : RefT (List ℕ)
-  negative = record { ptr = (c₂, d₂); name = δ₂; now = vs }
-
-  abbrev slots : RefT (List Slot)
-  slots = record { ptr = (b, o); name = γ; now = ys }
-
-  abbrev out : RefT (List ℕ)
-  out = record { ptr = (b₄, o₄); name = δ₄; now = os }
-
   abbrev pub Told : Written → List ℕ → Type 0
   Told r zs = Wrote f us vs (pointsIn ys) (falsifiedIn ys) (depthsIn ys) count os r zs
 
@@ -61,11 +49,11 @@ module _ (f : Formula) (wf : Val) (κ₁ κ₂ κ₃ κ₄ : Lft) (q₁ q₂ q�
 
   module _ {M : Type 1} (𝓤 : URA M) (H : Heap 𝓤) (A : Atoms 𝓤) (mem : Memory → SProp 𝓤) (run : Routine → Fun 𝓤) where
     abbrev pub bound : WriteSlots 𝓤 H A mem run .Ghost
-    bound = (((κ₁, (κ₂, (κ₃, (κ₄, tt)))), (q₁, (q₂, (q₃, (q₄, tt)))), tt, (f, (positive, (negative, (slots, (count, (out, tt)))))), (wf ∷ [], (sliceVal (c₁, d₁) (length us) ∷ [], (sliceVal (c₂, d₂) (length vs) ∷ [], (sliceVal (b, o) (length ys) ∷ [], (vint w32 count ∷ [], (sliceVal (b₄, o₄) (length os) ∷ [], tt))))))), tt)
+    bound = (((κ₁, (κ₂, (κ₃, (κ₄, tt)))), (q₁, (q₂, (q₃, (q₄, tt)))), tt, (f, (at-list c₁ d₁ δ₁ us, (at-list c₂ d₂ δ₂ vs, (at-list b o γ ys, (count, (at-list b₄ o₄ δ₄ os, tt)))))), (wf ∷ [], (sliceVal (c₁, d₁) (length us) ∷ [], (sliceVal (c₂, d₂) (length vs) ∷ [], (sliceVal (b, o) (length ys) ∷ [], (vint w32 count ∷ [], (sliceVal (b₄, o₄) (length os) ∷ [], tt))))))), tt)
 
     module _ {K : Type 0} (W : Given 𝓤 H A) {Γ : List (Item 𝓤)} {G : Goal 𝓤 H} where
-      pub asks : K → count < 2 ^ 32 → Step K W (raw (WriteSlots 𝓤 H A mem run .pre bound) ∷ Γ) G (‵ (F.the-row .own f (wf ∷ [])) ∷ ‵ (ShrSlice (named 0) κ₁ u64 .own positive (sliceVal (c₁, d₁) (length us) ∷ []))
-          ∷ ‵ (ShrSlice (named 1) κ₂ u64 .own negative (sliceVal (c₂, d₂) (length vs) ∷ [])) ∷ ‵ (ShrSlice (named 2) κ₃ R .own slots (sliceVal (b, o) (length ys) ∷ [])) ∷ ‵ (MutSlice (named 3) κ₄ u8 .own out (sliceVal (b₄, o₄) (length os) ∷ []))
+      pub asks : K → count < 2 ^ 32 → Step K W (raw (WriteSlots 𝓤 H A mem run .pre bound) ∷ Γ) G (‵ (F.the-row .own f (wf ∷ [])) ∷ ‵ (ShrSlice (named 0) κ₁ u64 .own (at-list c₁ d₁ δ₁ us) (sliceVal (c₁, d₁) (length us) ∷ []))
+          ∷ ‵ (ShrSlice (named 1) κ₂ u64 .own (at-list c₂ d₂ δ₂ vs) (sliceVal (c₂, d₂) (length vs) ∷ [])) ∷ ‵ (ShrSlice (named 2) κ₃ R .own (at-list b o γ ys) (sliceVal (b, o) (length ys) ∷ [])) ∷ ‵ (MutSlice (named 3) κ₄ u8 .own (at-list b₄ o₄ δ₄ os) (sliceVal (b₄, o₄) (length os) ∷ []))
           ∷ ‵ (flft κ₁ q₁) ∷ ‵ (flft κ₂ q₂) ∷ ‵ (flft κ₃ q₃) ∷ ‵ (flft κ₄ q₄) ∷ Γ) G
       asks t gc = step (λ s. nothing t $ move t (5 ∷ 0 ∷ []) $ fjoin t $ owned t u32 (Is u32) (uint-makes 𝓤 H A W w32) count (vint w32 count ∷ []) (refl, gc) $ fjoin t $ move t (4 ∷ 0 ∷ []) $ fjoin t $ move t (3 ∷ 0 ∷ []) $ fjoin t $
           move t (2 ∷ 0 ∷ []) $ fjoin t $ move t (1 ∷ 0 ∷ []) $ fjoin t $ nothing t $ move t (5 ∷ 0 ∷ []) $ join t $ move t (4 ∷ 0 ∷ []) $ join t $ move t (3 ∷ 0 ∷ []) $ join t $ move t (2 ∷ 0 ∷ []) $ join t $

@@ -17,13 +17,14 @@ use types.Kit.{Goal, Soaks, Given, Item, ‵, raw, _⊛_, Seq, Step, step, _$_, 
 use denote.RattleType.{RattleType}
 use denote.Builtin.{u64, unit}
 use denote.Exit.{yes}
-use denote.Ref.{RefT, now}
+use denote.Ref.{now}
 use denote.Signature.{Signature, plain, mutSliceOf}
 use denote.Slice.{sliceVal, MutSlice, finally}
 use denote.Steps.{nothing, heard}
 use denote.Triple.Clauses.{Clauses, Ended}
 use denote.Triple.Statement.{Contract}
 use Rattle.math.specs.Lists.{over}
+use Rattle.lending.proofs.Lent.{at-list}
 use Rattle.lending.proofs.Called.{Does, asked, answered}
 
 module _ (E : RattleType) (told : E .Denot → List ℕ) where
@@ -38,15 +39,12 @@ module _ (E : RattleType) (told : E .Denot → List ℕ) where
 
   -- the arguments
   module _ (κ : Lft) (q : Share) (b o : ℕ) (δ : GName) (ws : List ℕ) (r : E .Denot) (w : Val) where
-    abbrev reply : RefT (List ℕ)
-    reply = record { ptr = (b, o); name = δ; now = ws }
-
     module _ {M : Type 1} (𝓤 : URA M) (H : Heap 𝓤) (A : Atoms 𝓤) where
       abbrev pub bound : PutWords 𝓤 H A .Ghost
-      bound = (((κ, tt), (q, tt), tt, (reply, (r, tt)), (sliceVal (b, o) (length ws) ∷ [], (w ∷ [], tt))), tt)
+      bound = (((κ, tt), (q, tt), tt, (at-list b o δ ws, (r, tt)), (sliceVal (b, o) (length ws) ∷ [], (w ∷ [], tt))), tt)
 
       module _ {K : Type 0} (W : Given 𝓤 H A) {Γ : List (Item 𝓤)} {G : Goal 𝓤 H} where
-        pub asks : K → 4 ≤ length ws → Step K W (raw (PutWords 𝓤 H A .pre bound) ∷ Γ) G (‵ (MutSlice (named 0) κ u64 .own reply (sliceVal (b, o) (length ws) ∷ [])) ∷ ‵ (E .own r (w ∷ [])) ∷ ‵ (flft κ q) ∷ Γ) G
+        pub asks : K → 4 ≤ length ws → Step K W (raw (PutWords 𝓤 H A .pre bound) ∷ Γ) G (‵ (MutSlice (named 0) κ u64 .own (at-list b o δ ws) (sliceVal (b, o) (length ws) ∷ [])) ∷ ‵ (E .own r (w ∷ [])) ∷ ‵ (flft κ q) ∷ Γ) G
         asks t roomy = step (λ s. nothing t $ move t (2 ∷ 0 ∷ []) $ fjoin t $ move t (1 ∷ 0 ∷ []) $ fjoin t $ nothing t $ move t (2 ∷ 0 ∷ []) $ join t $
             asked ended (clauses 𝓤) bound (‵ (flft κ q) ⊛ ‵ ftrue) t (id⊢ 𝓤 _) (factI 𝓤 (4 ≤ length ws) (emp 𝓤) roomy) $ s)
 

@@ -23,7 +23,6 @@ use sound.WpLaws.{FmC, fmOf, WpFn-mono}
 use denote.RattleType.{owns}
 use denote.Laws.{Is}
 use denote.Builtin.{u8, u32, u64}
-use denote.Ref.{RefT}
 use denote.Slice.{sliceVal, MutSlice, ShrSlice, Room, slice-vals, mut-slice-tells, shr-slice-tells, finally}
 use denote.Plain.{uint-vals, uint-tells, uint-makes}
 use denote.Signature.{plain, shrSliceOf}
@@ -52,6 +51,7 @@ use Rattle.columns.specs.Slots.{pointsIn, falsifiedIn, depthsIn}
 use Rattle.columns.proofs.Row.{R}
 use Rattle.exports.specs.Builder.{SearchTold}
 use Rattle.exports.specs.BuilderLaws.{tells-nothing, tells-search}
+use Rattle.lending.proofs.Lent.{at-list}
 use Rattle.lending.proofs.Called.{given-up, free-all, placed}
 use Rattle.slot_exports.proofs.FormulaMade as Made
 use Rattle.slot_exports.proofs.FormulaMade.{FormulaFrom}
@@ -89,21 +89,6 @@ words r = wordsOf (replyOf r)
 
 module _ {M : Type 1} (𝓤 : URA M) (H : Heap 𝓤) (A : Atoms 𝓤) (W : Given 𝓤 H A) (mem : Memory → SProp 𝓤) (run : Routine → Fun 𝓤) (κ₀ κ₁ κ₂ κ₃ κ₄ : Lft) (q₀ q₁ q₂ q₃ q₄ : Share) (c₀ d₀ c₁ d₁ c₂ d₂ b o b₄ o₄ : ℕ) (δ₀ δ₁ δ₂ γ δ₄ : GName)
     (v c g p : ℕ) (is us vs : List ℕ) (ys : List Slot) (ws : List ℕ) where
-  abbrev images : RefT (List ℕ)
-  images = record { ptr = (c₀, d₀); name = δ₀; now = is }
-
-  abbrev positive : RefT (List ℕ)
-  positive = record { ptr = (c₁, d₁); name = δ₁; now = us }
-
-  abbrev negative : RefT (List ℕ)
-  negative = record { ptr = (c₂, d₂); name = δ₂; now = vs }
-
-  abbrev slots : RefT (List Slot)
-  slots = record { ptr = (b, o); name = γ; now = ys }
-
-  abbrev reply : RefT (List ℕ)
-  reply = record { ptr = (b₄, o₄); name = δ₄; now = ws }
-
   abbrev args : List Val
   args = vint w32 v ∷ vint w32 c ∷ vint w64 g ∷ vint w32 p ∷ sliceVal (c₀, d₀) (length is) ∷ sliceVal (c₁, d₁) (length us) ∷ sliceVal (c₂, d₂) (length vs) ∷ sliceVal (b, o) (length ys) ∷ sliceVal (b₄, o₄) (length ws) ∷ []
 
@@ -113,7 +98,7 @@ module _ {M : Type 1} (𝓤 : URA M) (H : Heap 𝓤) (A : Atoms 𝓤) (W : Given
       (κ₀, (κ₁, (κ₂, (κ₃, (κ₄, tt))))),
       (q₀, (q₁, (q₂, (q₃, (q₄, tt))))),
       tt,
-      (v, (c, (g, (p, (images, (positive, (negative, (slots, (reply, tt))))))))),
+      (v, (c, (g, (p, (at-list c₀ d₀ δ₀ is, (at-list c₁ d₁ δ₁ us, (at-list c₂ d₂ δ₂ vs, (at-list b o γ ys, (at-list b₄ o₄ δ₄ ws, tt))))))))),
       (vint w32 v ∷ [], (vint w32 c ∷ [], (vint w64 g ∷ [], (vint w32 p ∷ [], (sliceVal (c₀, d₀) (length is) ∷ [], (sliceVal (c₁, d₁) (length us) ∷ [], (sliceVal (c₂, d₂) (length vs) ∷ [], (sliceVal (b, o) (length ys) ∷ [], (sliceVal (b₄, o₄) (length ws) ∷ [], tt))))))))),
     ),
     tt,
@@ -161,7 +146,7 @@ module _ {M : Type 1} (𝓤 : URA M) (H : Heap 𝓤) (A : Atoms 𝓤) (W : Given
           forget ! 36 refl $ forget ! 34 refl $ forget ! 32 refl $ forget ! 30 refl $ forget ! 28 refl $ forget ! 26 refl $ forget ! 24 refl $ forget ! 22 refl $ forget ! 20 refl $ forget ! 18 refl $ forget ! 12 refl $ forget ! 10 refl $
           move ! (36 ∷ 37 ∷ 34 ∷ 35 ∷ 32 ∷ 33 ∷ 30 ∷ 31 ∷ 28 ∷ 29 ∷ 26 ∷ 27 ∷ 24 ∷ 25 ∷ 22 ∷ 23 ∷ 20 ∷ 21 ∷ 18 ∷ 19 ∷ 16 ∷ 17 ∷ 14 ∷ 15 ∷ 12 ∷ 13 ∷ 10 ∷ 11 ∷ 8 ∷ 9 ∷ 6 ∷ 7 ∷ 4 ∷ 5 ∷ 2 ∷ 3 ∷ 0 ∷ 1 ∷ []) $
           free-all ! (placed mirs.locals (l₀ ∷ l₁ ∷ l₂ ∷ l₃ ∷ l₄ ∷ l₅ ∷ l₆ ∷ l₇ ∷ l₈ ∷ l₉ ∷ l₁₀ ∷ l₁₁ ∷ l₁₂ ∷ l₁₃ ∷ l₁₄ ∷ l₁₅ ∷ l₁₆ ∷ l₁₇ ∷ l₁₈ ∷ [])) (
-          given-up ! (named 4) κ₄ u64 reply (sliceVal (b₄, o₄) (length ws) ∷ []) $ move ! (1 ∷ []) $ given-up ! (named 3) κ₃ R slots (sliceVal (b, o) (length ys) ∷ []) $ keep ! (9 ∷ 8 ∷ 7 ∷ 6 ∷ 5 ∷ 0 ∷ 1 ∷ []) $
+          given-up ! (named 4) κ₄ u64 (at-list b₄ o₄ δ₄ ws) (sliceVal (b₄, o₄) (length ws) ∷ []) $ move ! (1 ∷ []) $ given-up ! (named 3) κ₃ R (at-list b o γ ys) (sliceVal (b, o) (length ys) ∷ []) $ keep ! (9 ∷ 8 ∷ 7 ∷ 6 ∷ 5 ∷ 0 ∷ 1 ∷ []) $
           by ! (exits 0 (lit< tt) ys ws refl refl (tells-nothing (formulaFrom v c g p is) us vs (pointsIn ys) (falsifiedIn ys) (depthsIn ys) ws (ltb→lt (length ws) 4 small)))))
           -- the formula is made
           (λ large. skips ! $ exec ! C Λ (placed mirs.locals (l₀ ∷ l₁ ∷ l₂ ∷ l₃ ∷ l₄ ∷ l₅ ∷ l₆ ∷ l₇ ∷ l₈ ∷ l₉ ∷ l₁₀ ∷ l₁₁ ∷ l₁₂ ∷ l₁₃ ∷ l₁₄ ∷ l₁₅ ∷ l₁₆ ∷ l₁₇ ∷ l₁₈ ∷ [])) mirs.t-4 (atRet (placed mirs.locals (l₀ ∷ l₁ ∷ l₂ ∷ l₃ ∷ l₄ ∷ l₅ ∷ l₆ ∷ l₇ ∷ l₈ ∷ l₉ ∷ l₁₀ ∷ l₁₁ ∷ l₁₂ ∷ l₁₃ ∷ l₁₄ ∷ l₁₅ ∷ l₁₆ ∷ l₁₇ ∷ l₁₈ ∷ [])) Post) $
