@@ -18,9 +18,10 @@ fn held(i: usize) -> Slot {
     Slot { point: 1000 + i as u64, falsified: 2000 + i as u32, depth: 3000 + i as u32 }
 }
 
-// Searches in both forms: what was told, the reply and the slots, of the slot form and of the parallel one.
+// What a search returns, its reply and the slots that it leaves.
 type Found = (u32, Vec<u64>, Vec<Slot>);
 
+// The same search in the slot form and in the parallel form.
 fn both(s: &Sheet, count: usize, words: usize) -> (Found, Found) {
     let mut slots: Vec<Slot> = (0..count).map(held).collect();
     let mut points: Vec<u64> = slots.iter().map(|t| t.point).collect();
@@ -32,7 +33,7 @@ fn both(s: &Sheet, count: usize, words: usize) -> (Found, Found) {
     ((told, reply, slots), (parallel, wanted, joined(&points, &falsified, &depths)))
 }
 
-// A search in both forms that answers these words; those of a refusal leave every slot as it was.
+// A search in both forms that answers these words; a refusal leaves every slot as it was.
 fn searched(count: &mut Count, name: &str, s: &Sheet, slots: usize, wanted: [u64; 4]) -> Vec<Slot> {
     let (found, parallel) = both(s, slots, 5);
     count.compare(&format!("{name}: the reply"), found.1[..4].to_vec(), wanted.to_vec());

@@ -14,8 +14,7 @@ use base.Logic.{SProp, ent, id⊢, sep, emp, via, comm∗, emp∗, monoL}
 use base.Fml.{Lft, froom, fdies, fres}
 use prog.Wp.{Heap, Env}
 use ghost.Atoms.{Atoms}
-use contract.Lifetimes.{Lfts}
-use types.Kit.{Goal, Soaks, Given, Item, ‵, mean, raw, _⊛_, some, later, frees, Seq, Step, step, _$_, use1, use2, move, drop, split, join, pick, await, fsplit}
+use types.Kit.{Goal, Soaks, Given, Item, ‵, mean, raw, _⊛_, some, later, frees, Seq, Step, step, _$_, use1, use2, move, drop, split, pick, await, fsplit}
 use types.Run.{free1, free0}
 use denote.RattleType.{RattleType, owns}
 use denote.Ref.{RefT, name, now}

@@ -16,7 +16,7 @@ use mir.Syntax.{Lifetime, Width, intBig, tyInt, tyArray}
 use lib.Dec.{T, lit<}
 use mir.Val.{Val, vint, vstruct, ofList, bits, hasTy, WT, Fits}
 use base.Logic.{via, guardI}
-use base.Fml.{GName, Fml, fsep, fat, froom, flft, flent}
+use base.Fml.{GName, fsep, fat, froom, flft, flent}
 use prog.Wp.{Heap, Env}
 use ghost.Atoms.{Atoms}
 use types.Kit.{Goal, Soaks, Given, Item, ‵, _⊛_, some, later, Seq, Step, step, _$_, use1, use3, move, drop, split, pick, rewrite, await, fsplit, fjoin, fpick, fpack, feqL, feqI}

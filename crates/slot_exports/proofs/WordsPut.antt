@@ -18,7 +18,7 @@ use denote.RattleType.{RattleType}
 use denote.Builtin.{u64, unit}
 use denote.Exit.{yes}
 use denote.Ref.{now}
-use denote.Signature.{Signature, plain, mutSliceOf}
+use denote.Signature.{plain, mutSliceOf}
 use denote.Slice.{sliceVal, MutSlice, finally}
 use denote.Steps.{nothing, heard}
 use denote.Triple.Clauses.{Clauses, Ended}

@@ -1,7 +1,7 @@
 -- `slot_writer::write_slots` meets its contract: a walk of its MIR, by hand. The output's borrow is opened, so that the output and the three local arrays are four rows in memory; each is lent to the calls, for a lifetime of the call's own,
 -- and is back after it. That the copies stand for the slots is `wrote-whole`.
 -- Assumes nothing.
-use mathlib.Core.Path.{_≡_, refl, sym, _∙_, ap, subst}
+use mathlib.Core.Path.{_≡_, refl, sym, ap, subst}
 use Prim.Native.Nat.{ℕ, _<_, _^_}
 use mathlib.Core.List.{[], _∷_, List}
 use lib.Dec.{T, lit<}
