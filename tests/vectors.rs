@@ -173,7 +173,7 @@ fn builder_slots(v: &Vector, d: &mut Differences) {
     let told = library::search_slots(&s, &mut slots, &mut reply);
     d.compare("told", told, library::search(&s, &mut points, &mut falsified, &mut depths, &mut wanted));
     d.compare("reply", &reply, &wanted);
-    d.compare("reply to the parallel form", reply, over(reply_words(v.words("answer")), &[7; 5]));
+    d.compare("reply of the vector", reply, over(reply_words(v.words("answer")), &[7; 5]));
     d.compare("slots", slots, library::joined(&points, &falsified, &depths));
 }
 
