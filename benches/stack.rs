@@ -55,6 +55,10 @@ fn main() {
     told("search", used(&mut || assert_eq!(library::search(&s, &mut points, &mut numbers, &mut depths, &mut reply), 1)));
     told("write", used(&mut || assert_eq!(library::write(&s, &points, &numbers, &depths, 3, &mut out, &mut reply), 1)));
     assert_eq!(reply[..2], [5, 70]);
+    let mut slots = library::joined(&points, &numbers, &depths);
+    told("search_slots", used(&mut || assert_eq!(library::search_slots(&s, &mut slots, &mut reply), 1)));
+    told("write_slots", used(&mut || assert_eq!(library::write_slots(&s, &slots, 3, &mut out, &mut reply), 1)));
+    assert_eq!(reply[..2], [5, 70]);
     told("check", used(&mut || assert_eq!(library::check(&s, &out, &mut reply), 1)));
     assert_eq!(reply[0], 7);
     let mut contents = vec![0; 8];

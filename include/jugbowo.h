@@ -1,4 +1,5 @@
-/* The style-sheet engine as a static library: libexports.a, built by `rt staticlib exports`.
+/* The style-sheet engine as a static library: libexports.a, built by `rt staticlib exports`. The two functions over one slice of slots stand in
+ * another, libslot_exports.a, built by `rt staticlib slot_exports`; a program may link both.
  *
  * A lent slice is a pointer and a length, in elements; with length 0 the pointer may be anything that is not null. Slices lent to one call
  * must not overlap unless all of them are const. Nothing else is asked: any numbers, any bytes, any lengths.
@@ -83,6 +84,32 @@ uint32_t jugbowo_write(uint32_t variables, uint32_t clauses, uint64_t target, ui
                        uint32_t count,
                        uint8_t *out, size_t out_len,
                        uint64_t *reply, size_t reply_len);
+
+/* A slot: a visited point, the number of the clause that it falsifies, from 1, or 0 while it is unprocessed, and its depth. 16 bytes, no gaps. */
+struct jugbowo_slot {
+    uint64_t point;
+    uint32_t falsified;
+    uint32_t depth;
+};
+
+/* The search with its slots in one slice of structs instead of three slices: the same answers, and the same slots. It works on copies of
+ * them. Stack: 1,536 KiB. */
+uint32_t jugbowo_search_slots(uint32_t variables, uint32_t clauses, uint64_t target, uint32_t permutations,
+                              const uint8_t *images, size_t images_len,
+                              const uint64_t *positive, size_t positive_len,
+                              const uint64_t *negative, size_t negative_len,
+                              struct jugbowo_slot *slots, size_t slots_len,
+                              uint64_t *reply, size_t reply_len);
+
+/* The writer from such a slice: the same answers, and the same certificate. Stack: 1,536 KiB. */
+uint32_t jugbowo_write_slots(uint32_t variables, uint32_t clauses, uint64_t target, uint32_t permutations,
+                             const uint8_t *images, size_t images_len,
+                             const uint64_t *positive, size_t positive_len,
+                             const uint64_t *negative, size_t negative_len,
+                             const struct jugbowo_slot *slots, size_t slots_len,
+                             uint32_t count,
+                             uint8_t *out, size_t out_len,
+                             uint64_t *reply, size_t reply_len);
 
 /* Checks a certificate for the clauses of a formula, whose target and permutations it does not look at. Changes nothing but `reply`.
  * Answers: refusals 10, 14, 15, 11, 12, 16, 17, 18 in this order, or accepted. Stack: 2 MiB. */

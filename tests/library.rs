@@ -4,7 +4,7 @@ use std::fmt::Debug;
 
 #[path = "../bindings/rust/src/sys.rs"]
 mod sys;
-pub use sys::{image_at, nearest, number_at, open, point_at, read, solve};
+pub use sys::{image_at, nearest, number_at, open, point_at, read, solve, Slot};
 pub use sys::{ACCEPTED, CERTIFIED, OPENED, PARSED, REFUSED, SATISFIABLE, UNCERTIFIED, UNKNOWN, UNSATISFIABLE, WRITTEN};
 
 // A formula with its clauses.
@@ -38,6 +38,19 @@ pub fn search(s: &Sheet, points: &mut [u64], falsified: &mut [u32], depths: &mut
 
 pub fn write(s: &Sheet, points: &[u64], falsified: &[u32], depths: &[u32], count: u32, out: &mut [u8], reply: &mut [u64]) -> u32 {
     sys::write(&s.lent(), points, falsified, depths, count, out, reply)
+}
+
+pub fn search_slots(s: &Sheet, slots: &mut [Slot], reply: &mut [u64]) -> u32 {
+    sys::search_slots(&s.lent(), slots, reply)
+}
+
+pub fn write_slots(s: &Sheet, slots: &[Slot], count: u32, out: &mut [u8], reply: &mut [u64]) -> u32 {
+    sys::write_slots(&s.lent(), slots, count, out, reply)
+}
+
+// Slots from the same places of three lists, as many as the shortest has.
+pub fn joined(points: &[u64], falsified: &[u32], depths: &[u32]) -> Vec<Slot> {
+    points.iter().zip(falsified).zip(depths).map(|((&point, &falsified), &depth)| Slot { point, falsified, depth }).collect()
 }
 
 pub fn check(s: &Sheet, file: &[u8], reply: &mut [u64]) -> u32 {

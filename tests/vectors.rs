@@ -162,6 +162,35 @@ fn writer(v: &Vector, d: &mut Differences) {
     d.compare("output", out, over(v.bytes("after-bytes"), &before));
 }
 
+// The same sheet searched over one slice of slots, as many as the shortest of the three slices has: the reply and the slots are the parallel form's.
+fn builder_slots(v: &Vector, d: &mut Differences) {
+    let s = v.sheet();
+    let n = v.numbers("lent").into_iter().min().expect("three lengths") as usize;
+    let mut points = v.filled(n);
+    let (mut falsified, mut depths) = (narrow(v.filled(n)), narrow(v.filled(n)));
+    let mut slots = library::joined(&points, &falsified, &depths);
+    let (mut reply, mut wanted) = (vec![7u64; 5], vec![7u64; 5]);
+    let told = library::search_slots(&s, &mut slots, &mut reply);
+    d.compare("told", told, library::search(&s, &mut points, &mut falsified, &mut depths, &mut wanted));
+    d.compare("reply", &reply, &wanted);
+    d.compare("reply of the vector", reply, over(reply_words(v.words("answer")), &[7; 5]));
+    d.compare("slots", slots, library::joined(&points, &falsified, &depths));
+}
+
+// The same certificate written from one slice of slots.
+fn writer_slots(v: &Vector, d: &mut Differences) {
+    let s = v.sheet();
+    let lent = v.numbers("lent");
+    let slots = library::joined(&v.numbers("points"), &narrow(v.numbers("numbers")), &narrow(v.filled(lent[0] as usize)));
+    let mut out: Vec<u8> = v.filled(lent[2] as usize).into_iter().map(|x| x as u8).collect();
+    let before = out.clone();
+    let mut reply = vec![7u64; 5];
+    let told = library::write_slots(&s, &slots, lent[1] as u32, &mut out, &mut reply);
+    d.compare("told", told, 1);
+    d.compare("reply", reply, over(reply_words(v.words("answer")), &[7; 5]));
+    d.compare("output", out, over(v.bytes("after-bytes"), &before));
+}
+
 fn checker(v: &Vector, d: &mut Differences) {
     let file = v.bytes("bytes");
     let mut reply = vec![7u64; 5];
@@ -267,11 +296,18 @@ fn vectors(text: &str) -> Vec<Vector<'_>> {
 fn main() {
     let path = std::env::args().nth(1).expect("a file of vectors");
     let text = std::fs::read_to_string(path).expect("the vectors");
-    let kinds: [(&str, fn(&Vector, &mut Differences)); 5] =
-        [("reader", reader), ("builder", builder), ("checker", checker), ("writer", writer), ("nearest", nearest)];
+    let kinds: [(&str, &str, fn(&Vector, &mut Differences)); 7] = [
+        ("reader", "", reader),
+        ("builder", "", builder),
+        ("builder", " over slots", builder_slots),
+        ("checker", "", checker),
+        ("writer", "", writer),
+        ("writer", " from slots", writer_slots),
+        ("nearest", "", nearest),
+    ];
     let all = vectors(&text);
     let (mut passed, mut failed) = (0, 0);
-    for (kind, test) in kinds {
+    for (kind, form, test) in kinds {
         let (mut run, mut wrong) = (0, 0);
         for v in all.iter().filter(|v| v.kind == kind) {
             let mut d = Differences(Vec::new());
@@ -279,10 +315,10 @@ fn main() {
             run += 1;
             if !d.0.is_empty() {
                 wrong += 1;
-                println!("{}: {}", v.id, d.0.join("; "));
+                println!("{}{form}: {}", v.id, d.0.join("; "));
             }
         }
-        println!("{kind} vectors: {wrong} of {run} differ");
+        println!("{kind} vectors{form}: {wrong} of {run} differ");
         passed += run - wrong;
         failed += wrong;
     }

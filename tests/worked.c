@@ -66,9 +66,31 @@ static void steps(void) {
     expect("no place to reply", jugbowo_check(2, 4, 0, 0, images, 0, positive, 4, negative, 4, file, 70, reply, 3) == 0);
 }
 
+/* The same case with its slots in one slice of structs, and case B. */
+static void structs(void) {
+    const uint8_t images[] = {2, 1};
+    const uint64_t positive[] = {3, 2, 1, 0}, negative[] = {0, 1, 2, 3}, yes[] = {3, 4}, no[] = {0, 1};
+    struct jugbowo_slot slots[5];
+    uint64_t reply[4];
+    uint8_t out[72];
+    memset(slots, 9, sizeof slots);
+    memset(out, 9, sizeof out);
+    expect("size of a slot", sizeof(struct jugbowo_slot) == 16);
+    expect("search_slots", jugbowo_search_slots(2, 4, 0, 1, images, 2, positive, 4, negative, 4, slots, 5, reply, 4) == 1
+                               && reply[0] == JUGBOWO_UNSATISFIABLE && reply[1] == 3);
+    expect("slot", slots[2].point == 3 && slots[2].falsified == 4 && slots[2].depth == 2 && slots[3].depth == 0x09090909);
+    expect("write_slots", jugbowo_write_slots(2, 4, 0, 1, images, 2, positive, 4, negative, 4, slots, 5, 3, out, 72, reply, 4) == 1
+                              && reply[0] == JUGBOWO_WRITTEN && reply[1] == 70 && out[66] == 4 && out[70] == 9);
+    expect("check of its output", jugbowo_check(2, 4, 0, 0, images, 0, positive, 4, negative, 4, out, 70, reply, 4) == 1 && reply[0] == JUGBOWO_ACCEPTED);
+    expect("B in slots", jugbowo_search_slots(3, 2, 0, 0, images, 0, yes, 2, no, 2, slots, 5, reply, 4) == 1
+                             && reply[0] == JUGBOWO_SATISFIABLE && reply[1] == 2 && reply[2] == 1 && reply[3] == 4);
+    expect("no place to reply in slots", jugbowo_search_slots(3, 2, 0, 0, images, 0, yes, 2, no, 2, slots, 5, reply, 3) == 0);
+}
+
 int main(void) {
     answers();
     steps();
+    structs();
     printf("worked cases in C: %d passed, %d failed\n", passed, failed);
     return failed > 0;
 }

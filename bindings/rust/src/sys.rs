@@ -26,6 +26,15 @@ pub struct Formula<'a> {
     pub negative: &'a [u64],
 }
 
+// A slot as the functions over one slice of slots have it: a visited point, the number of the clause that it falsifies, and its depth.
+#[derive(Clone, Copy, PartialEq, Eq, Debug)]
+#[repr(C)]
+pub struct Slot {
+    pub point: u64,
+    pub falsified: u32,
+    pub depth: u32,
+}
+
 extern "C" {
     fn jugbowo_read(
         text: *const u8,
@@ -153,6 +162,45 @@ extern "C" {
     ) -> usize;
 }
 
+// These two stand in a library of their own: a program that calls them links slot_exports too.
+extern "C" {
+    fn jugbowo_search_slots(
+        variables: u32,
+        clauses: u32,
+        target: u64,
+        permutations: u32,
+        images: *const u8,
+        images_len: usize,
+        positive: *const u64,
+        positive_len: usize,
+        negative: *const u64,
+        negative_len: usize,
+        slots: *mut Slot,
+        slots_len: usize,
+        reply: *mut u64,
+        reply_len: usize,
+    ) -> u32;
+    fn jugbowo_write_slots(
+        variables: u32,
+        clauses: u32,
+        target: u64,
+        permutations: u32,
+        images: *const u8,
+        images_len: usize,
+        positive: *const u64,
+        positive_len: usize,
+        negative: *const u64,
+        negative_len: usize,
+        slots: *const Slot,
+        slots_len: usize,
+        count: u32,
+        out: *mut u8,
+        out_len: usize,
+        reply: *mut u64,
+        reply_len: usize,
+    ) -> u32;
+}
+
 // Reads a text into two lent clause slices; `numbers`, `images` and `reply` take the formula and the answer.
 pub fn read(text: &[u8], positive: &mut [u64], negative: &mut [u64], numbers: &mut [u64], images: &mut [u8], reply: &mut [u64]) -> u32 {
     unsafe {
@@ -219,6 +267,53 @@ pub fn write(f: &Formula, points: &[u64], falsified: &[u32], depths: &[u32], cou
             falsified.len(),
             depths.as_ptr(),
             depths.len(),
+            count,
+            out.as_mut_ptr(),
+            out.len(),
+            reply.as_mut_ptr(),
+            reply.len(),
+        )
+    }
+}
+
+// Searches over one lent slice of slots.
+pub fn search_slots(f: &Formula, slots: &mut [Slot], reply: &mut [u64]) -> u32 {
+    unsafe {
+        jugbowo_search_slots(
+            f.variables,
+            f.clauses,
+            f.target,
+            f.permutations,
+            f.images.as_ptr(),
+            f.images.len(),
+            f.positive.as_ptr(),
+            f.positive.len(),
+            f.negative.as_ptr(),
+            f.negative.len(),
+            slots.as_mut_ptr(),
+            slots.len(),
+            reply.as_mut_ptr(),
+            reply.len(),
+        )
+    }
+}
+
+// Writes the certificate of the first `count` of one slice of slots.
+pub fn write_slots(f: &Formula, slots: &[Slot], count: u32, out: &mut [u8], reply: &mut [u64]) -> u32 {
+    unsafe {
+        jugbowo_write_slots(
+            f.variables,
+            f.clauses,
+            f.target,
+            f.permutations,
+            f.images.as_ptr(),
+            f.images.len(),
+            f.positive.as_ptr(),
+            f.positive.len(),
+            f.negative.as_ptr(),
+            f.negative.len(),
+            slots.as_ptr(),
+            slots.len(),
             count,
             out.as_mut_ptr(),
             out.len(),

@@ -1,11 +1,11 @@
 -- Laws of copies between a list of slots and three lists. Assumes nothing.
-use mathlib.Core.List.{List, [], _∷_, _++_, map}
+use mathlib.Core.List.{List, [], _∷_, map}
 use mathlib.Core.Path.{_≡_, refl, sym, ap, _∙_}
-use Prim.Native.Nat.{ℕ, zero, suc, _+_, _-_, _<_, _≤_}
+use Prim.Native.Nat.{ℕ, zero, suc, _+_, _-_, _<_, _≤_, min}
 use native.Mathlib.Nat.{lt-of-lt-of-le, not-suc-le-zero, le-of-suc-le-suc}
 use native.Mathlib.Omega.{arith}
 use lib.ListN.{length, getD, set, take, drop, length-map, length-append, length-drop, List·getD-map}
-use lib.Seq.{length-take-le}
+use lib.Seq.{length-take-le, take-at}
 use Rattle.math.specs.Lists.{over}
 use Rattle.math.specs.OverLaws.{over-none, over-take-next}
 use Rattle.columns.specs.declared.Slot.{Slot}
@@ -23,6 +23,11 @@ module _ {X : Type 0} where
       let e : length (take k xs) ≡ k = length-take-le k xs h in
       length-append (take k xs) (drop (length (take k xs)) old) ∙ ap (λ n. length (take k xs) + n) (length-drop (length (take k xs)) old)
       ∙ (let z : length (take k xs) + (length old - length (take k xs)) ≡ length old = omega (arith, e, h′) in z)
+
+  -- the copies stand in front
+  pub front-take : (k : ℕ) (xs old : List X) → k ≤ length xs → take k (front k xs old) ≡ take k xs
+  unfolding over
+  front-take k xs old h = take-at (take k xs) (drop (length (take k xs)) old) k (length-take-le k xs h)
 
   -- so an index below k is inside
   pub front-inside : (i k : ℕ) (xs old : List X) → i < k → k ≤ length xs → k ≤ length old → i < length (front i xs old)
@@ -63,3 +68,7 @@ joined-long (suc k) (x ∷ xs) (n ∷ ns) (d ∷ ds) h₁ h₂ h₃ = let h : k 
 pub joined-columns : (xs : List Slot) → joined (pointsIn xs) (falsifiedIn xs) (depthsIn xs) ≡ xs
 joined-columns [] = refl
 joined-columns (x ∷ xs) = ap (λ l. x ∷ l) (joined-columns xs)
+
+-- the least of three equal lengths
+pub min-thrice : (m : ℕ) → min m (min m m) ≡ m
+min-thrice m = omega arith

@@ -7,6 +7,7 @@ ghost use lib.ListN.{length, set};
 ghost use Rattle.columns.specs.Slots.{slotOr, pointsIn, falsifiedIn, depthsIn, joined, Within, front};
 
 // A visited point, the number of the clause that it falsifies (0 while unprocessed), and its depth.
+#[repr(C)]
 pub struct Slot {
     pub point: Point,
     pub falsified: u32,

@@ -1,5 +1,1 @@
-pub mod LeastCalled
-pub mod Lent
-pub mod Places
 pub mod SearchedFront
-pub mod WrittenFront

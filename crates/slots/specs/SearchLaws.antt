@@ -1,11 +1,11 @@
 -- Laws of the search on copies of the slots: copied out, searched, and copied back, the slots are what the search leaves in them. Assumes nothing.
 use mathlib.Core.List.{List, [], _∷_, _++_, map, append-assoc}
-use mathlib.Core.Path.{_≡_, refl, sym, ap, subst, _∙_}
-use Prim.Native.Nat.{ℕ, zero, suc, _+_, _-_, _<_, _≤_, min}
+use mathlib.Core.Path.{_≡_, refl, sym, ap, _∙_}
+use Prim.Native.Nat.{ℕ, zero, suc, _+_, _-_, _≤_, min}
 use native.Mathlib.Nat.{le-of-suc-le-suc, not-suc-le-zero}
 use native.Mathlib.Omega.{arith}
 use lib.ListN.{length, take, drop, length-map, length-append, length-drop, take-append-drop}
-use lib.Seq.{length-take-le, take-at, drop-append-le}
+use lib.Seq.{length-take-le, drop-append-le}
 use Rattle.math.specs.Lists.{over}
 use Rattle.math.specs.SplitLaws.{map-append}
 use Rattle.formula.specs.declared.Formula.{Formula}
@@ -16,14 +16,9 @@ use Rattle.search.specs.Builder.{Searched, searchReply, searchFault, searchSlot
 use Rattle.traversal.specs.Walk as W
 use Rattle.columns.specs.declared.Slot.{Slot}
 use Rattle.columns.specs.Slots.{pointsIn, falsifiedIn, depthsIn, joined, front}
-use Rattle.columns.specs.SlotLaws.{joined-columns}
+use Rattle.columns.specs.SlotLaws.{front-take, joined-columns, min-thrice}
 
 module _ {X : Type 0} where
-  -- the copies stand in front
-  pub front-take : (k : ℕ) (xs old : List X) → k ≤ length xs → take k (front k xs old) ≡ take k xs
-  unfolding over
-  front-take k xs old h = take-at (take k xs) (drop (length (take k xs)) old) k (length-take-le k xs h)
-
   -- a list's own front changes nothing
   pub front-self : (k : ℕ) (xs : List X) → k ≤ length xs → over (take k xs) xs ≡ xs
   unfolding over
@@ -82,9 +77,6 @@ unfolding searchSlice
 slice-whole part f positive negative lent k old found h len e = kept-whole (searchFault f positive negative lent) k (map part (searchSlots f positive negative lent)) old found h len e
 
 -- ---- the room that the fronts give is the room that the slices give
-
-pub min-thrice : (m : ℕ) → min m (min m m) ≡ m
-min-thrice m = omega arith
 
 min-again : (m : ℕ) → min 65536 (min 65536 m) ≡ min 65536 m
 min-again m = omega arith

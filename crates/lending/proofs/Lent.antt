@@ -16,7 +16,7 @@ use mir.Syntax.{Lifetime, Width, intBig, tyInt, tyArray}
 use lib.Dec.{T, lit<}
 use mir.Val.{Val, vint, vstruct, ofList, bits, hasTy, WT, Fits}
 use base.Logic.{via, guardI}
-use base.Fml.{GName, Fml, fsep, fat, froom, flft, flent}
+use base.Fml.{GName, fsep, fat, froom, flft, flent}
 use prog.Wp.{Heap, Env}
 use ghost.Atoms.{Atoms}
 use types.Kit.{Goal, Soaks, Given, Item, ‵, _⊛_, some, later, Seq, Step, step, _$_, use1, use3, move, drop, split, pick, rewrite, await, fsplit, fjoin, fpick, fpack, feqL, feqI}
@@ -44,17 +44,18 @@ room64 xs e = subst (Room u64) (sym e) (lit< tt, lit< tt)
 pub room32 : (xs : List ℕ) → length xs ≡ 65536 → Room u32 (length xs)
 room32 xs e = subst (Room u32) (sym e) (lit< tt, lit< tt)
 
-abbrev at-list : (E : RattleType) → ℕ → ℕ → GName → List (E .Denot) → RefT (List (E .Denot))
-at-list E b o γ ys = record { ptr = (b, o); name = γ; now = ys }
+-- a slice reference: where it points, its ghost name and its list
+abbrev pub at-list : {D : Type 0} → ℕ → ℕ → GName → List D → RefT (List D)
+at-list b o γ ys = record { ptr = (b, o); name = γ; now = ys }
 
 module _ {M : Type 1} {𝓤 : URA M} {H : Heap 𝓤} {A : Atoms 𝓤} {K : Type 0} {W : Given 𝓤 H A} {Γ : List (Item 𝓤)} {G : Goal 𝓤 H} where
   pub lend : K → Soaks G → (E : RattleType) (ℓ : Lifetime) (n : ℕ) (ys : List (E .Denot)) (b o : ℕ) → length ys ≡ n → Room E (length ys)
-      → ((ν : ℕ) (γ : GName) → Seq K W (‵ (MutSlice ℓ (ν ∷ []) E .own (at-list E b o γ ys) (sliceVal (b, o) n ∷ [])) ∷ ‵ (flft (ν ∷ []) fullShare) ∷ ‵ (flent (ν ∷ []) (Held E (length ys) b o γ)) ∷ Γ) G)
+      → ((ν : ℕ) (γ : GName) → Seq K W (‵ (MutSlice ℓ (ν ∷ []) E .own (at-list b o γ ys) (sliceVal (b, o) n ∷ [])) ∷ ‵ (flft (ν ∷ []) fullShare) ∷ ‵ (flent (ν ∷ []) (Held E (length ys) b o γ)) ∷ Γ) G)
       → Seq K W (‵ (row E fullShare ys b o) ∷ Γ) G
   lend t a E ℓ n ys b o e room k =
       use1 W (‵ (cells (mem E) ys b o)) (whole-in 𝓤 H A W E ys b o) $ lft-new t a (λ ν. move t (1 ∷ []) $
-      use1 W (later (some (λ (γ : GName). ‵ (MutSlice ℓ (ν ∷ []) E .own (at-list E b o γ ys) (sliceVal (b, o) (length ys) ∷ [])) ⊛ ‵ (flent (ν ∷ []) (Held E (length ys) b o γ))))) (lends-slice 𝓤 H A W E ℓ (ν ∷ []) ys b o room) $
-      await t a $ pick t (λ γ. split t $ rewrite t 0 (λ (m : ℕ). ‵ (MutSlice ℓ (ν ∷ []) E .own (at-list E b o γ ys) (sliceVal (b, o) m ∷ []))) e refl $ move t (0 ∷ 2 ∷ []) $ k ν γ))
+      use1 W (later (some (λ (γ : GName). ‵ (MutSlice ℓ (ν ∷ []) E .own (at-list b o γ ys) (sliceVal (b, o) (length ys) ∷ [])) ⊛ ‵ (flent (ν ∷ []) (Held E (length ys) b o γ))))) (lends-slice 𝓤 H A W E ℓ (ν ∷ []) ys b o room) $
+      await t a $ pick t (λ γ. split t $ rewrite t 0 (λ (m : ℕ). ‵ (MutSlice ℓ (ν ∷ []) E .own (at-list b o γ ys) (sliceVal (b, o) m ∷ []))) e refl $ move t (0 ∷ 2 ∷ []) $ k ν γ))
 
   pub unlend : K → Soaks G → (E : RattleType) {ν m : ℕ} {γ : GName} (zs : List (E .Denot)) (b o : ℕ)
       → Step K W (‵ (row E fullShare zs b o) ∷ Γ) G (‵ (flft (ν ∷ []) fullShare) ∷ ‵ (flent (ν ∷ []) (Held E m b o γ)) ∷ ‵ (finally E γ zs) ∷ Γ) G
@@ -62,13 +63,13 @@ module _ {M : Type 1} {𝓤 : URA M} {H : Heap 𝓤} {A : Atoms 𝓤} {K : Type 
       use1 W (‵ (row E fullShare zs b o)) (whole-out 𝓤 H A W E zs b o) $ s)
 
   pub share : K → Soaks G → (E : RattleType) (ℓ : Lifetime) (n : ℕ) (ys : List (E .Denot)) (b o : ℕ) → length ys ≡ n → Room E (length ys)
-      → ((ν : ℕ) (γ : GName) → Seq K W (‵ (ShrSlice ℓ (ν ∷ []) E .own (at-list E b o γ ys) (sliceVal (b, o) n ∷ [])) ∷ ‵ (flft (ν ∷ []) fullShare) ∷ ‵ (flent (ν ∷ []) (arr-parts (shares E) (length ys) .part fullShare ys b o)) ∷ Γ) G)
+      → ((ν : ℕ) (γ : GName) → Seq K W (‵ (ShrSlice ℓ (ν ∷ []) E .own (at-list b o γ ys) (sliceVal (b, o) n ∷ [])) ∷ ‵ (flft (ν ∷ []) fullShare) ∷ ‵ (flent (ν ∷ []) (arr-parts (shares E) (length ys) .part fullShare ys b o)) ∷ Γ) G)
       → Seq K W (‵ (row E fullShare ys b o) ∷ Γ) G
   share t a E ℓ n ys b o e room k =
       feqI t ℕ (length ys) (length ys) refl $ fjoin t $ lft-new t a (λ ν. move t (1 ∷ []) $
-      use1 W (later (some (λ (γ : GName). ‵ (ShrSlice ℓ (ν ∷ []) E .own (at-list E b o γ ys) (sliceVal (b, o) (length ys) ∷ [])) ⊛ ‵ (flent (ν ∷ []) (arr-parts (shares E) (length ys) .part fullShare ys b o)))))
+      use1 W (later (some (λ (γ : GName). ‵ (ShrSlice ℓ (ν ∷ []) E .own (at-list b o γ ys) (sliceVal (b, o) (length ys) ∷ [])) ⊛ ‵ (flent (ν ∷ []) (arr-parts (shares E) (length ys) .part fullShare ys b o)))))
       (lends-shr-slice 𝓤 H A W E ℓ (ν ∷ []) fullShare ys b o room) $
-      await t a $ pick t (λ γ. split t $ rewrite t 0 (λ (m : ℕ). ‵ (ShrSlice ℓ (ν ∷ []) E .own (at-list E b o γ ys) (sliceVal (b, o) m ∷ []))) e refl $ move t (0 ∷ 2 ∷ []) $ k ν γ))
+      await t a $ pick t (λ γ. split t $ rewrite t 0 (λ (m : ℕ). ‵ (ShrSlice ℓ (ν ∷ []) E .own (at-list b o γ ys) (sliceVal (b, o) m ∷ []))) e refl $ move t (0 ∷ 2 ∷ []) $ k ν γ))
 
   pub unshare : K → Soaks G → (E : RattleType) {ν : ℕ} (ys : List (E .Denot)) (b o : ℕ)
       → Step K W (‵ (row E fullShare ys b o) ∷ Γ) G (‵ (flft (ν ∷ []) fullShare) ∷ ‵ (flent (ν ∷ []) (arr-parts (shares E) (length ys) .part fullShare ys b o)) ∷ Γ) G

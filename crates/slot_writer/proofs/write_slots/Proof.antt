@@ -1,7 +1,7 @@
--- `slots::write_slots` meets its contract: a walk of its MIR, by hand. The output's borrow is opened, so that the output and the three local arrays are four rows in memory; each is lent to the calls, for a lifetime of the call's own,
+-- `slot_writer::write_slots` meets its contract: a walk of its MIR, by hand. The output's borrow is opened, so that the output and the three local arrays are four rows in memory; each is lent to the calls, for a lifetime of the call's own,
 -- and is back after it. That the copies stand for the slots is `wrote-whole`.
 -- Assumes nothing.
-use mathlib.Core.Path.{_≡_, refl, sym, _∙_, ap, subst}
+use mathlib.Core.Path.{_≡_, refl, sym, ap, subst}
 use Prim.Native.Nat.{ℕ, _<_, _^_}
 use mathlib.Core.List.{[], _∷_, List}
 use lib.Dec.{T, lit<}
@@ -19,7 +19,7 @@ use ghost.Atoms.{Atoms}
 use contract.Monad.{Fun}
 use contract.Running.{givenOf, tables, tablesOf}
 use types.Kit.{Given, Item, ‵, _⊛_, ⋆, _$_, _∵_, !, qed, by, move, keep, drop, use1, split, join, rewrite, fsplit, fjoin, suffices, frame, done}
-use types.Run.{look, init, forget, stop, hop, fld, from, load, lit, addr, of-opd, and-then, no-more, assigns, land, returns, enter, alloc1, alloc0, params1, pass1, pass0, free1, free0}
+use types.Run.{look, init, forget, stop, hop, fld, from, load, lit, addr, of-opd, and-then, no-more, assigns, land, returns, enter, alloc1, alloc0, params1, pass1, pass0}
 use types.Part.{agg, rep, whole, sub, look-in}
 use sound.WpLaws.{FmC, fmOf, WpFn-mono}
 use denote.RattleType.{owns}
@@ -51,27 +51,29 @@ use Rattle.slices.proofs.least.Symbol.{name as #slices·least}
 use Rattle.slices.proofs.least.Met as least-thm
 use Rattle.columns.specs.declared.Slot.{Slot}
 use Rattle.columns.specs.Slots.{pointsIn, falsifiedIn, depthsIn}
-use Rattle.slots.specs.WriteLaws.{wrote-whole}
-use Rattle.slots.proofs.Places.{k, gk, P, N, D, long₁, long₂, long₃, fits-in, fronts-in}
+use Rattle.slot_writer.specs.WriteLaws.{wrote-whole}
+use Rattle.lending.proofs.Places.{k, gk, P, N, D, long₁, long₂, long₃, fits-in, fronts-in}
 use Rattle.columns.proofs.Row.{R, mut-again}
-use Rattle.slots.proofs.Lent.{lend, unlend, share, unshare, zeros-typed, abstracted, emptied, big-lit, room64, room32}
-use Rattle.slots.proofs.LeastCalled as Count
-use Rattle.slots.proofs.LeastCalled.{Least}
+use Rattle.lending.proofs.Called.{free-all, placed}
+use Rattle.lending.proofs.Lent.{lend, unlend, share, unshare, zeros-typed, abstracted, emptied, big-lit, room64, room32}
+use Rattle.lending.proofs.LeastCalled as Count
+use Rattle.lending.proofs.LeastCalled.{Least}
 use Rattle.columns.proofs.CopiedOut as Out
 use Rattle.columns.proofs.CopiedOut.{CopyOut}
-use Rattle.slots.proofs.SearchedFront.{formula-val, formula-typed}
-use Rattle.slots.proofs.WrittenFront as Front
-use Rattle.slots.proofs.WrittenFront.{WriteFront, written-typed}
+use Rattle.lending.proofs.Spelled.{formula-val, formula-typed}
+use Rattle.slot_writer.proofs.WrittenFront as Front
+use Rattle.slot_writer.proofs.WrittenFront.{WriteFront, written-typed}
 use Rattle.columns.proofs.copy_out.Symbol as copy-out-def
 use Rattle.columns.proofs.copy_out.Symbol.{name as #columns·copy-out}
 use Rattle.columns.proofs.copy_out.Met as copy-out-thm
-use Rattle.slots.proofs.write_front.Symbol as write-front-def
-use Rattle.slots.proofs.write_front.Symbol.{name as #slots·write-front}
-use Rattle.slots.proofs.write_front.Met as write-front-thm
-use Rattle.slots.proofs.write_slots.Key.{name as #slots·write-slots}
-use Rattle.slots.proofs.write_slots as this
-use Rattle.slots.proofs.write_slots.Statement as stated
-use Rattle.slots.proofs.write_slots.Code as code
+use Rattle.fronts.proofs.write_front.Symbol as write-front-def
+use Rattle.fronts.proofs.write_front.Symbol.{name as #fronts·write-front}
+use Rattle.fronts.proofs.write_front.Met as write-front-thm
+use Rattle.slot_writer.proofs.write_slots.Key.{name as #slot-writer·write-slots}
+use Rattle.slot_writer.proofs.write_slots as this
+use Rattle.slot_writer.proofs.write_slots.Statement as stated
+use Rattle.slot_writer.proofs.write_slots.Code as code
+use Rattle.slot_writer.proofs.write_slots.Code.Mir as mirs
 
 abbrev stayed : Stays (this.ended .signature .params) (this.ended .kept)
 stayed = (stay-none (λ _. F.the-row) yes, (stay-none-slice (0 ∷ []) tt (plain (λ _. u64)) yes, (stay-none-slice (1 ∷ []) tt (plain (λ _. u64)) yes, (stay-none-slice (2 ∷ []) tt (plain (λ _. R)) yes, (stay-none (λ _. u32) yes, (stay-slice (3 ∷ []) tt (plain (λ _. u8)), tt))))))
@@ -115,7 +117,7 @@ module _ {M : Type 1} (𝓤 : URA M) (H : Heap 𝓤) (A : Atoms 𝓤) (W : Given
         owned ! F.the-row (Is F.the-row) (LL.makes F.the-type F′.the-plain 𝓤 H A) f (formula-val f ∷ []) gf $ fjoin ! $ frame ! $ done !
 
     module _ (C : Calls 𝓤 H) (Λ : Loops 𝓤 H) (fm : FmC 𝓤 H (W .laws) C) (known₀ : Triple 𝓤 (C #slices·least) (Least 𝓤 H A mem run)) (known₁ : Triple 𝓤 (C #columns·copy-out) (CopyOut 𝓤 H A mem run))
-        (known₂ : Triple 𝓤 (C #slots·write-front) (WriteFront 𝓤 H A mem run)) where
+        (known₂ : Triple 𝓤 (C #fronts·write-front) (WriteFront 𝓤 H A mem run)) where
       walk : ent 𝓤 (onEntry 𝓤 H A this.signature (κ₀, (κ₁, (κ₂, (κ₃, tt)))) (q₀, (q₁, (q₂, (q₃, tt)))) x at)
           (WpFn 𝓤 H C Λ code.function (formula-val f ∷ sliceVal (c₀, d₀) (length us) ∷ sliceVal (c₁, d₁) (length vs) ∷ sliceVal (b, o) (length ys) ∷ vint w32 count ∷ sliceVal (b₃, o₃) (length os) ∷ []) Post)
       walk =
@@ -175,15 +177,13 @@ module _ {M : Type 1} (𝓤 : URA M) (H : Heap 𝓤) (A : Atoms 𝓤) (W : Given
           move ! (0 ∷ 11 ∷ 12 ∷ 13 ∷ []) $ closes-slice ! tt u8 os os′ same b₃ o₃ $ move ! (5 ∷ []) $ emptied ! w64 65536 l₇ (P ys ps) (long₁ ys ps e₁) $ move ! (5 ∷ []) $ emptied ! w32 65536 l₈ (N ys fs) (long₂ ys fs e₂) $ move ! (5 ∷ []) $
           emptied ! w32 65536 l₉ (D ys ds) (long₃ ys ds e₃) $ returns ! (look ! 62 refl) $ forget ! 62 refl $ forget ! 60 refl $ forget ! 58 refl $ forget ! 56 refl $ forget ! 54 refl $ forget ! 52 refl $ forget ! 50 refl $ forget ! 45 refl $
           forget ! 43 refl $ forget ! 41 refl $ forget ! 39 refl $ forget ! 37 refl $ forget ! 35 refl $ forget ! 33 refl $ forget ! 31 refl $ forget ! 29 refl $ forget ! 27 refl $ forget ! 25 refl $ forget ! 23 refl $ forget ! 21 refl $
-          forget ! 19 refl $ forget ! 17 refl $ forget ! 15 refl $ forget ! 13 refl $ move ! (62 ∷ 63 ∷ []) $ free1 ! $ move ! (60 ∷ 61 ∷ []) $ free1 ! $ move ! (58 ∷ 59 ∷ []) $ free1 ! $ move ! (56 ∷ 57 ∷ []) $ free1 ! $
-          move ! (54 ∷ 55 ∷ []) $ free1 ! $ move ! (52 ∷ 53 ∷ []) $ free1 ! $ move ! (50 ∷ 51 ∷ []) $ free1 ! $ move ! (2 ∷ 49 ∷ []) $ free1 ! $ move ! (1 ∷ 47 ∷ []) $ free1 ! $ move ! (0 ∷ 45 ∷ []) $ free1 ! $ move ! (42 ∷ 43 ∷ []) $
-          free1 ! $ move ! (40 ∷ 41 ∷ []) $ free1 ! $ move ! (38 ∷ 39 ∷ []) $ free1 ! $ move ! (36 ∷ 37 ∷ []) $ free1 ! $ move ! (34 ∷ 35 ∷ []) $ free1 ! $ move ! (32 ∷ 33 ∷ []) $ free1 ! $ move ! (30 ∷ 31 ∷ []) $ free1 ! $
-          move ! (28 ∷ 29 ∷ []) $ free1 ! $ move ! (26 ∷ 27 ∷ []) $ free1 ! $ move ! (24 ∷ 25 ∷ []) $ free1 ! $ move ! (22 ∷ 23 ∷ []) $ free1 ! $ move ! (20 ∷ 21 ∷ []) $ free1 ! $ move ! (18 ∷ 19 ∷ []) $ free1 ! $ move ! (16 ∷ 17 ∷ []) $
-          free1 ! $ move ! (14 ∷ 15 ∷ []) $ free1 ! $ move ! (12 ∷ 13 ∷ []) $ free1 ! $ move ! (10 ∷ 11 ∷ []) $ free1 ! $ free0 ! $ keep ! (4 ∷ 5 ∷ 8 ∷ 2 ∷ 7 ∷ 6 ∷ 9 ∷ 0 ∷ 1 ∷ 3 ∷ []) $
-          by ! (exits r w₂ os′ same (wrote-whole f us vs ys (k ys) refl count os ps fs ds r os′ told)))))))))))))))))))))))))))))))))))))))))))))))))
+          forget ! 19 refl $ forget ! 17 refl $ forget ! 15 refl $ forget ! 13 refl $ move ! (62 ∷ 63 ∷ 60 ∷ 61 ∷ 58 ∷ 59 ∷ 56 ∷ 57 ∷ 54 ∷ 55 ∷ 52 ∷ 53 ∷ 50 ∷ 51 ∷ 2 ∷ 49 ∷ 1 ∷ 48 ∷ 0 ∷ 47 ∷ 45 ∷ 46 ∷ 43 ∷ 44 ∷ 41 ∷ 42 ∷ 39 ∷ 40 ∷ 37 ∷ 38 ∷ 35 ∷ 36 ∷ 33 ∷ 34 ∷ 31 ∷ 32 ∷ 29 ∷ 30 ∷ 27 ∷ 28 ∷ 25 ∷ 26 ∷ 23 ∷ 24 ∷ 21 ∷ 22 ∷ 19 ∷ 20 ∷ 17 ∷ 18 ∷ 15 ∷ 16 ∷ 13 ∷ 14 ∷ []) $
+          free-all ! (placed mirs.locals (l₀ ∷ l₁ ∷ l₂ ∷ l₃ ∷ l₄ ∷ l₅ ∷ l₆ ∷ l₇ ∷ l₈ ∷ l₉ ∷ l₁₀ ∷ l₁₁ ∷ l₁₂ ∷ l₁₃ ∷ l₁₄ ∷ l₁₅ ∷ l₁₆ ∷ l₁₇ ∷ l₁₈ ∷ l₁₉ ∷ l₂₀ ∷ l₂₁ ∷ l₂₂ ∷ l₂₃ ∷ l₂₄ ∷ l₂₅ ∷ l₂₆ ∷ [])) (
+          keep ! (4 ∷ 5 ∷ 8 ∷ 2 ∷ 7 ∷ 6 ∷ 9 ∷ 0 ∷ 1 ∷ 3 ∷ []) $
+          by ! (exits r w₂ os′ same (wrote-whole f us vs ys (k ys) refl count os ps fs ds r os′ told))))))))))))))))))))))))))))))))))))))))))))))))))
 
 module _ {M : Type 1} (𝓤 : URA M) (H : Heap 𝓤) (A : Atoms 𝓤) (W : Given 𝓤 H A) (mem : Memory → SProp 𝓤) (run : Routine → Fun 𝓤) (𝓣 : Tables 𝓤 H) (known₀ : Triple 𝓤 (𝓣 .C #slices·least) (Least 𝓤 H A mem run)) (known₁ : Triple 𝓤 (𝓣 .C #columns·copy-out) (CopyOut 𝓤 H A mem run))
-    (known₂ : Triple 𝓤 (𝓣 .C #slots·write-front) (WriteFront 𝓤 H A mem run)) where
+    (known₂ : Triple 𝓤 (𝓣 .C #fronts·write-front) (WriteFront 𝓤 H A mem run)) where
   walks : Walks 𝓤 H A this.ended stayed (WpFn 𝓤 H (𝓣 .C) (𝓣 .Λ) code.function) (this.clauses 𝓤 H A mem run)
   walks = walked 𝓤 H A this.ended stayed (this.clauses 𝓤 H A mem run) (WpFn 𝓤 H (𝓣 .C) (𝓣 .Λ) code.function) (λ κs. (LL.vals F.the-type F′.the-laws, (slice-vals, (slice-vals, (slice-vals, (uint-vals w32, (slice-vals, tt)))))))
       (λ κs. (LL.tells F.the-type F′.the-laws, (shr-slice-tells (named 0) (κs .0) u64, (shr-slice-tells (named 1) (κs .1 .0) u64, (shr-slice-tells (named 2) (κs .1 .1 .0) R, (uint-tells w32, (mut-slice-tells (named 3) (κs .1 .1 .1 .0) u8, tt)))))))
@@ -212,8 +212,8 @@ pub write-slots-spec : {M : Type 1} → stated.statement M
 unfolding code.routine tablesOf
 write-slots-spec 𝓤 H 𝓜 𝓖 𝓡 =
     entered 𝓤 H (tripleOf 𝓤 H (𝓖 .A) this.signature (this.spec 𝓤 H (𝓖 .A) (𝓜 .mem) (𝓡 .run)))
-    (tables 𝓤 H 𝓜 𝓡 code.env .C) (tables 𝓤 H 𝓜 𝓡 code.env .Λ) #slots·write-slots code.function (code.unfolded 𝓤 H 𝓜 𝓡)
+    (tables 𝓤 H 𝓜 𝓡 code.env .C) (tables 𝓤 H 𝓜 𝓡 code.env .Λ) #slot-writer·write-slots code.function (code.unfolded 𝓤 H 𝓜 𝓡)
     (meets 𝓤 H (𝓖 .A) (givenOf 𝓤 H 𝓜 𝓖) (𝓜 .mem) (𝓡 .run) (tablesOf 𝓤 H 𝓜 (tables 𝓤 H 𝓜 𝓡 code.env))
     (cited 𝓤 H (Least 𝓤 H (𝓖 .A) (𝓜 .mem) (𝓡 .run)) 𝓜 𝓡 code.env #slices·least least-def.routine code.calls-slices·least (least-thm.met 𝓤 H 𝓜 𝓖 𝓡))
     (cited 𝓤 H (CopyOut 𝓤 H (𝓖 .A) (𝓜 .mem) (𝓡 .run)) 𝓜 𝓡 code.env #columns·copy-out copy-out-def.routine code.calls-columns·copy-out (copy-out-thm.met 𝓤 H 𝓜 𝓖 𝓡))
-    (cited 𝓤 H (WriteFront 𝓤 H (𝓖 .A) (𝓜 .mem) (𝓡 .run)) 𝓜 𝓡 code.env #slots·write-front write-front-def.routine code.calls-slots·write-front (write-front-thm.met 𝓤 H 𝓜 𝓖 𝓡)))
+    (cited 𝓤 H (WriteFront 𝓤 H (𝓖 .A) (𝓜 .mem) (𝓡 .run)) 𝓜 𝓡 code.env #fronts·write-front write-front-def.routine code.calls-fronts·write-front (write-front-thm.met 𝓤 H 𝓜 𝓖 𝓡)))

@@ -1,6 +1,6 @@
 -- Laws of the writer on copies of the slots: what it answers and leaves on the first places that count is what it does on all. Assumes nothing.
 use mathlib.Core.Bool.{Bool, true, false, cond, _&&_}
-use mathlib.Core.List.{List, [], _∷_, _++_, map}
+use mathlib.Core.List.{List, [], _∷_, _++_}
 use mathlib.Core.Path.{_≡_, refl, sym, ap, subst, _∙_}
 use Prim.Native.Nat.{ℕ, _≤_, min}
 use native.Mathlib.Omega.{arith}
@@ -22,8 +22,7 @@ use Rattle.certificate.specs.RowLaws.{points-fault-take, numbers-fault-take}
 use Rattle.certificate.specs.Writer.{Wrote, writeFault, writeReply, writeOutput, certificateOf, lengthNeeded}
 use Rattle.columns.specs.declared.Slot.{Slot}
 use Rattle.columns.specs.Slots.{pointsIn, falsifiedIn, depthsIn, front}
-use Rattle.columns.specs.SlotLaws.{column-long}
-use Rattle.slots.specs.SearchLaws.{front-take, min-thrice}
+use Rattle.columns.specs.SlotLaws.{column-long, front-take, min-thrice}
 
 -- ---- tests in order
 

@@ -1,11 +1,11 @@
--- `slots::write_front` meets its contract: the lent parts have k places. Assumes nothing.
+-- `fronts::write_front` meets its contract: the lent parts have k places. Assumes nothing.
 use mathlib.Core.Path.{sym}
 use lib.Seq.{length-take-le}
 use borrow.Author.Needs.{needs}
-use Rattle.slots.proofs.write_front.Statement.{statement}
-use Rattle.slots.proofs.write_front.Tie as tie
-use Rattle.slots.proofs.write_front.Reads as reads
-use Rattle.slots.proofs.write_front.Lts as lts
+use Rattle.fronts.proofs.write_front.Statement.{statement}
+use Rattle.fronts.proofs.write_front.Tie as tie
+use Rattle.fronts.proofs.write_front.Reads as reads
+use Rattle.fronts.proofs.write_front.Lts as lts
 use Rattle.writer.proofs.write.Reads as write-reads
 
 slice-aggregate-write : tie.Need-slice-aggregate-write

@@ -1,13 +1,13 @@
--- `slots::search_front` meets its contract: the lent parts have k places, and what the search leaves in them stands in front. Assumes nothing.
+-- `fronts::search_front` meets its contract: the lent parts have k places, and what the search leaves in them stands in front. Assumes nothing.
 use mathlib.Core.Path.{sym, _∙_}
 use lib.ListN.{take, drop}
 use lib.Seq.{length-take-le}
 use borrow.Author.Needs.{needs}
-use Rattle.slots.specs.FrontLaws.{searched-fronts}
-use Rattle.slots.proofs.search_front.Statement.{statement}
-use Rattle.slots.proofs.search_front.Tie as tie
-use Rattle.slots.proofs.search_front.Reads as reads
-use Rattle.slots.proofs.search_front.Lts as lts
+use Rattle.fronts.specs.FrontLaws.{searched-fronts}
+use Rattle.fronts.proofs.search_front.Statement.{statement}
+use Rattle.fronts.proofs.search_front.Tie as tie
+use Rattle.fronts.proofs.search_front.Reads as reads
+use Rattle.fronts.proofs.search_front.Lts as lts
 use Rattle.search.proofs.search.Reads as search-reads
 
 slice-relend-prefix-search : tie.Need-slice-relend-prefix-search

@@ -1,0 +1,4 @@
+pub mod FormulaMade
+pub mod SlotsSearched
+pub mod SlotsWritten
+pub mod WordsPut

@@ -1,0 +1,64 @@
+// The entry points over a slice of slots for programs in other languages.
+use columns::Slot;
+use interface::WORDS;
+use interface::formula_from;
+use replies::put_outcome;
+use replies::put_written;
+use slot_writer::write_slots;
+use slots::search_slots;
+ghost use Rattle.columns.specs.Slots.{pointsIn, falsifiedIn, depthsIn};
+ghost use Rattle.exports.specs.Builder.{SearchTold};
+ghost use Rattle.exports.specs.Writer.{WriteTold};
+ghost use Rattle.interface.specs.Words.{formulaFrom};
+
+// The search over a slice of slots, its answer told in the first four words of `reply`. It returns 1; where `reply` has no room it returns 0 and changes nothing.
+#[no_mangle]
+pub extern "C" fn jugbowo_search_slots(
+    variables: u32,
+    clauses: u32,
+    target: u64,
+    permutations: u32,
+    images: &[u8],
+    positive: &[u64],
+    negative: &[u64],
+    slots: &mut [Slot],
+    reply: &mut [u64],
+) -> u32
+    ensures { λ r. ⌜ SearchTold (formulaFrom variables clauses target permutations (now (images .entry))) (now (positive .entry)) (now (negative .entry)) (pointsIn (now (slots .entry))) (falsifiedIn (now (slots .entry))) (depthsIn (now (slots .entry))) (now (reply .entry)) r
+        (pointsIn (now (slots .exit))) (falsifiedIn (now (slots .exit))) (depthsIn (now (slots .exit))) (now (reply .exit)) ⌝ }
+{
+    if reply.len() < WORDS {
+        return 0;
+    }
+    let f = formula_from(variables, clauses, target, permutations, images);
+    let r = search_slots(f, positive, negative, slots);
+    put_outcome(reply, r);
+    1
+}
+
+// The writer from a slice of slots, its answer told in the first four words of `reply`. It returns 1; where `reply` has no room it returns 0 and changes nothing.
+#[no_mangle]
+pub extern "C" fn jugbowo_write_slots(
+    variables: u32,
+    clauses: u32,
+    target: u64,
+    permutations: u32,
+    images: &[u8],
+    positive: &[u64],
+    negative: &[u64],
+    slots: &[Slot],
+    count: u32,
+    out: &mut [u8],
+    reply: &mut [u64],
+) -> u32
+    ensures { λ r. ⌜ WriteTold (formulaFrom variables clauses target permutations (now (images .entry))) (now (positive .entry)) (now (negative .entry)) (pointsIn (now (slots .entry))) (falsifiedIn (now (slots .entry))) (depthsIn (now (slots .entry))) count (now (out .entry)) (now (reply .entry)) r
+        (now (out .exit)) (now (reply .exit)) ⌝ }
+{
+    if reply.len() < WORDS {
+        return 0;
+    }
+    let f = formula_from(variables, clauses, target, permutations, images);
+    let r = write_slots(f, positive, negative, slots, count, out);
+    put_written(reply, r);
+    1
+}
