@@ -1,5 +1,3 @@
--- Filling the flips of one point: the three slices as memory, the contracts, and their laws.
-pub mod Memory
-pub mod Filling
-pub mod FillingLaws
+-- The flips of one point by the variables of a set: the loop, and its laws.
+pub mod Trying
 pub mod TryingLaws

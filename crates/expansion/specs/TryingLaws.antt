@@ -15,9 +15,10 @@ use Rattle.points.specs.NextLaws.{next-lowest, next-none}
 use Rattle.permutations.specs.Permutations.{Permutation}
 use Rattle.formula.specs.Limits.{maxVariables}
 use Rattle.index.specs.Index.{Indexed}
-use Rattle.expansion.specs.Filling.{Fillable, Headed, Follows, Advances, Tries, Trying}
-use Rattle.expansion.specs.FillingLaws.{lengths-refl, lengths-trans, lends-still, advances-begins, advances-on, advances-stuck}
-use Rattle.expansion.specs.Memory.{Memory, SameLengths}
+use Rattle.filling.specs.Filling.{Fillable, Headed, Follows, Advances, Tries}
+use Rattle.filling.specs.FillingLaws.{lengths-refl, lengths-trans, lends-still, advances-begins, advances-on, advances-stuck}
+use Rattle.filling.specs.Memory.{Memory, SameLengths}
+use Rattle.expansion.specs.Trying.{Trying}
 
 module _ (es : List Permutation) (capacity x d n listed k₀ heads : ℕ) (m₀ : Memory) (links₀ : List ℕ) (few : n ≤ maxVariables) where
   -- k slots are filled, with these links, and the variables of `left` are to be tried, v first

@@ -1,5 +1,3 @@
--- The search from the target, slot by slot: the contracts of its functions, and their laws.
-pub mod Stepping
-pub mod NumberLaws
-pub mod SteppingLaws
+-- The search from any slot on: the contract of its loop, and the laws.
+pub mod Exploring
 pub mod WalkingLaws

@@ -12,13 +12,14 @@ use borrow.Author.Tests.{ltb-true, lt-ltb}
 use Rattle.math.specs.ListLaws.{and-split, and-join}
 use Rattle.formula.specs.Problem.{Problem}
 use Rattle.formula.specs.Reply.{Reply, unsatisfiable}
-use Rattle.frontier.specs.declared.Answer.{Answer}
-use Rattle.frontier.specs.declared.Step.{Step}
-use Rattle.frontier.specs.declared.Step.the-variants.{Ends, Goes}
-use Rattle.expansion.specs.Filling.{Headed}
-use Rattle.expansion.specs.FillingLaws.{lengths-refl, lengths-trans}
-use Rattle.expansion.specs.Memory.{Memory, Holds, SameLengths}
-use Rattle.frontier.specs.Stepping.{answerOf, Linked, StillLinked, Midway, After, Steps, Walking, Exploring, Answers}
+use Rattle.steps.specs.declared.Answer.{Answer}
+use Rattle.steps.specs.declared.Step.{Step}
+use Rattle.steps.specs.declared.Step.the-variants.{Ends, Goes}
+use Rattle.filling.specs.Filling.{Headed}
+use Rattle.filling.specs.FillingLaws.{lengths-refl, lengths-trans}
+use Rattle.filling.specs.Memory.{Memory, Holds, SameLengths}
+use Rattle.steps.specs.Stepping.{answerOf, Linked, StillLinked, Midway, After, Steps}
+use Rattle.frontier.specs.Exploring.{Walking, Exploring, Answers}
 use Rattle.traversal.specs.Walk.{Slot, state, Walks, none-left}
 
 -- no more slots are filled than there are

@@ -21,11 +21,11 @@ use Rattle.formula.specs.Reply.{Reply, Fault, sound, fault}
 use Rattle.formula.specs.ReplyLaws.{first-last, first-after, first-before, unless-sound}
 use Rattle.search.specs.Accepted.{rows, ready-of-faults, lent-of-faults, lent-few}
 use Rattle.search.specs.Builder.{replyOf, slotFault, searchFault, lentBy, searchReply, searchSlots, searchSlice, Searched}
-use Rattle.expansion.specs.declared.Frame.{Frame}
+use Rattle.filling.specs.declared.Frame.{Frame}
 use Rattle.search.specs.declared.Outcome.{Outcome}
 use Rattle.search.specs.declared.Outcome.the-variants.{Refused}
-use Rattle.expansion.specs.Memory.{Memory, memory, Lends}
-use Rattle.frontier.specs.Stepping.{framed, Searchable, Ended}
+use Rattle.filling.specs.Memory.{Memory, memory, Lends}
+use Rattle.steps.specs.Stepping.{framed, Searchable, Ended}
 use Rattle.traversal.specs.Invariants.{Ready}
 use Rattle.traversal.specs.Walk.{Slot, slot, start, Walks, walked}
 use Rattle.traversal.specs.WalkLaws.{walks-walked}

@@ -1,17 +1,17 @@
 // The search (01: walk, builder): breadth first from the target, to the nearest satisfying point, a stable set, or the end of the room.
-use expansion::Frame;
+use filling::Frame;
 use formula::Checked;
 use formula::Formula;
 use formula::refusals::problem_refusal;
 use formula::room::room;
-use frontier::Answer;
 use points::Point;
+use steps::Answer;
 ghost use mathlib.Core.Path.{_≡_};
-ghost use Rattle.frontier.specs.Stepping.{answerOf};
+ghost use Rattle.steps.specs.Stepping.{answerOf};
 ghost use Rattle.search.specs.Builder.{replyOf, Searched};
 
 // A slot's depth: how many flips lie between the target and its point.
-pub type Depth = expansion::Depth;
+pub type Depth = filling::Depth;
 
 // What the search answers. Of an unknown result the bound is a number of variables: every satisfying point differs from the target in at
 // least so many.

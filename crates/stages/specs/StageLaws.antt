@@ -16,13 +16,14 @@ use Rattle.traversal.specs.Invariants.{Ready}
 use Rattle.traversal.specs.Walk.{Slot, slot, pointsIn}
 use Rattle.indexing.specs.Indexing.{Indexable, Links, Sifts}
 use Rattle.indexing.specs.IndexingLaws.{links-indexable, sifts-full}
-use Rattle.expansion.specs.declared.Frame.{Frame}
-use Rattle.expansion.specs.FillingLaws.{held-points}
-use Rattle.expansion.specs.Memory.{Memory, Holds, Lends}
+use Rattle.filling.specs.declared.Frame.{Frame}
+use Rattle.filling.specs.FillingLaws.{held-points}
+use Rattle.filling.specs.Memory.{Memory, Holds, Lends}
 use Rattle.frontier.specs.declared.Stage.{Stage}
 use Rattle.frontier.specs.declared.Stage.the-variants.{Answered, Paused}
-use Rattle.frontier.specs.declared.Answer.{Answer}
-use Rattle.frontier.specs.Stepping.{answerOf, framed, Searchable, Linked, Stands, Midway, Walking, Explores, Answers, Ended}
+use Rattle.steps.specs.declared.Answer.{Answer}
+use Rattle.steps.specs.Stepping.{answerOf, framed, Searchable, Linked, Stands, Midway, Ended}
+use Rattle.frontier.specs.Exploring.{Walking, Explores, Answers}
 use Rattle.frontier.specs.WalkingLaws.{walking-begins, walking-midway, walking-answers, midway-room}
 
 module _ (g : Frame) (images positive negative : List ℕ) (ok : Searchable g images positive negative) where

@@ -1,17 +1,18 @@
 // The search from the target, in stages: each goes on where the one before paused, with an index for more points. So what a search pays to
 // make the links 0 follows the slots that it fills, and not those that it is lent.
-use expansion::Depth;
-use expansion::Frame;
-use expansion::fill;
-use frontier::Answer;
+use filling::Depth;
+use filling::Frame;
+use filling::fill;
 use frontier::Stage;
 use frontier::explore;
 use indexing::index_points;
+use steps::Answer;
 ghost use mathlib.Core.List.{[], _∷_};
 ghost use Rattle.traversal.specs.Walk.{slot};
 ghost use Rattle.indexing.specs.Indexing.{Links};
-ghost use Rattle.expansion.specs.Memory.{memory, Lends};
-ghost use Rattle.frontier.specs.Stepping.{answerOf, framed, Searchable, Midway, Explores, Answers, Ended};
+ghost use Rattle.filling.specs.Memory.{memory, Lends};
+ghost use Rattle.steps.specs.Stepping.{answerOf, framed, Searchable, Midway, Ended};
+ghost use Rattle.frontier.specs.Exploring.{Explores, Answers};
 
 // Explores from index `at` on with an index of at most `heads` points, made here of those filled: one look-up each. The stages see to what it
 // requires.

@@ -6,8 +6,8 @@ use lib.ListN.{length}
 use borrow.Author.Tests.{not-true, not-false}
 use Rattle.math.specs.Bits.{members}
 use Rattle.permutations.specs.Permutations.{permutationsIn}
-use Rattle.expansion.specs.Filling.{Trying}
-use Rattle.expansion.specs.Memory.{memory}
+use Rattle.expansion.specs.Trying.{Trying}
+use Rattle.filling.specs.Memory.{memory}
 use Rattle.expansion.specs.TryingLaws.{trying-begins, trying-fillable, trying-headed, trying-less, trying-goes-on, trying-stops, trying-ends}
 use borrow.Author.Needs.{needs}
 use Rattle.expansion.proofs.expand.Statement.{statement}

@@ -6,10 +6,11 @@ use native.Mathlib.Omega.{arith}
 use lib.ListN.{length, getD, length-replicate}
 use Rattle.coverage.specs.Coverage.{Imaged}
 use Rattle.coverage.specs.CoverageLaws.{imaged-none}
-use Rattle.expansion.specs.FillingLaws.{lends-still}
-use Rattle.expansion.specs.Memory.{memory}
-use Rattle.frontier.specs.Stepping.{framed, Exploring}
-use Rattle.frontier.specs.SteppingLaws.{next-narrow}
+use Rattle.filling.specs.FillingLaws.{lends-still}
+use Rattle.filling.specs.Memory.{memory}
+use Rattle.steps.specs.Stepping.{framed}
+use Rattle.steps.specs.SteppingLaws.{next-narrow}
+use Rattle.frontier.specs.Exploring.{Exploring}
 use Rattle.frontier.specs.WalkingLaws.{walking-pauses, walking-stops, walking-ends, exploring-begins, exploring-room, exploring-midway, exploring-linked, exploring-goes-on, headed-still}
 use borrow.Author.Needs.{needs}
 use Rattle.frontier.proofs.explore.Statement.{statement}

@@ -1,6 +1,6 @@
 -- `stages::resume` meets its contract: where it pauses, the last stage answers for both. Assumes nothing.
 use mathlib.Core.Path.{refl}
-use Rattle.expansion.specs.FillingLaws.{lends-still}
+use Rattle.filling.specs.FillingLaws.{lends-still}
 use Rattle.indexing.specs.IndexingLaws.{zeros-links}
 use Rattle.stages.specs.StageLaws.{stage-answered, stage-midway, stage-followed}
 use borrow.Author.Needs.{needs}

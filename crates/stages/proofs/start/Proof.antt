@@ -1,8 +1,8 @@
 -- `stages::start` meets its contract: the first slot holds the target, in front of what was there, and the stages answer from it. Assumes nothing.
 use mathlib.Core.List.{[], _∷_}
 use mathlib.Core.Path.{refl}
-use Rattle.expansion.specs.FillingLaws.{lends-still, lends-fewer, lengths-trans, held-first}
-use Rattle.expansion.specs.Memory.{memory, Holds, SameLengths}
+use Rattle.filling.specs.FillingLaws.{lends-still, lends-fewer, lengths-trans, held-first}
+use Rattle.filling.specs.Memory.{memory, Holds, SameLengths}
 use Rattle.traversal.specs.Walk.{slot}
 use Rattle.indexing.specs.IndexingLaws.{zeros-links}
 use Rattle.stages.specs.StageLaws.{stage-answered, stage-midway, stage-followed, begun-midway, begun-ends}

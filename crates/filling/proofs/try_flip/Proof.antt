@@ -1,11 +1,11 @@
--- `expansion::try_flip` meets its contract: a law of FillingLaws for each of its three answers. Assumes nothing.
+-- `filling::try_flip` meets its contract: a law of FillingLaws for each of its three answers. Assumes nothing.
 use mathlib.Core.Path.{sym, ap, _∙_}
 use native.Mathlib.Nat.{lt-of-lt-of-le}
 use borrow.Author.Needs.{needs}
 use Rattle.permutations.specs.Permutations.{covered}
-use Rattle.expansion.specs.FillingLaws.{flip-covered, flip-full, flip-filled, follows-same, follows-added, fillable-addable}
-use Rattle.expansion.proofs.try_flip.Statement.{statement}
-use Rattle.expansion.proofs.try_flip.Tie as tie
+use Rattle.filling.specs.FillingLaws.{flip-covered, flip-full, flip-filled, follows-same, follows-added, fillable-addable}
+use Rattle.filling.proofs.try_flip.Statement.{statement}
+use Rattle.filling.proofs.try_flip.Tie as tie
 
 flip-covered-requires : tie.Need-flip-covered-requires
 flip-covered-requires c κs = (c .before .before .before .before .before .before .before .before .pre .0 .coverable, c .before .before .before .before .before .before .before .before .pre .2)

@@ -1,16 +1,14 @@
--- What filling the flips of one point does to the memory: the contracts of `try_flip` and `expand`. Assumes nothing.
+-- What filling the flips of one point does to the memory: the contracts of `filling::try_flip` and `expansion::expand`. Assumes nothing.
 use mathlib.Core.Bool.{Bool, true, false}
 use mathlib.Core.List.{List, _∷_, _++_}
 use mathlib.Core.Path.{_≡_}
-use Prim.Native.Nat.{ℕ, suc, _+_, _*_, _≤_, _<_, _^_}
+use Prim.Native.Nat.{ℕ, suc, _+_, _*_, _≤_, _<_}
 use lib.ListN.{length, take}
-use Rattle.math.specs.Bits.{members}
-use Rattle.points.specs.Contracts.{NextVariable}
 use Rattle.index.specs.Index.{Indexed}
 use Rattle.permutations.specs.Permutations.{Permutation}
 use Rattle.coverage.specs.Coverage.{Coverable}
 use Rattle.formula.specs.Limits.{maxSlots}
-use Rattle.expansion.specs.Memory.{Memory, Holds, Lends, SameLengths}
+use Rattle.filling.specs.Memory.{Memory, Holds, Lends}
 use Rattle.traversal.specs.Walk.{Slot, Expansion, full, Fills}
 
 -- what lets a flip of x be tried, of a point at depth d, with k slots filled: the links are an index of their points, with two links for each
@@ -53,14 +51,3 @@ module _ (es : List Permutation) (capacity x d : ℕ) where
   -- the flip of one variable is tried, whichever are to come
   abbrev pub Tries : ℕ → ℕ → Memory → Bool → ℕ → Memory → Type 0
   Tries v k₀ m₀ roomy k m = (vs : List ℕ) → Advances (v ∷ vs) k₀ m₀ roomy vs k m
-
-  -- the loop over the variables of the set `listed`: those of `left` are still to be tried, v the lowest of them, and the links are an index of
-  -- the points of the slots filled, which with those left are at most b
-  pub record Trying (n listed k₀ heads b : ℕ) (m₀ : Memory) (links₀ : List ℕ) (left v k : ℕ) (m : Memory) (links : List ℕ) : Type 0 where
-    pub within : left < 2 ^ n
-    pub next : NextVariable left v
-    pub lengths : SameLengths m₀ m
-    pub linked : length links ≡ length links₀
-    pub advances : Advances (members n listed) k₀ m₀ true (members n left) k m
-    pub indexed : Indexed heads n (take k (m .points)) links
-    pub bounded : k + length (members n left) ≤ b

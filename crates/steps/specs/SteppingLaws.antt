@@ -22,15 +22,15 @@ use Rattle.theory.specs.Distance.{distance-wider}
 use Rattle.formula.specs.Limits.{maxSlots}
 use Rattle.formula.specs.Problem.{Problem}
 use Rattle.formula.specs.Reply.{satisfiable, unknown}
-use Rattle.expansion.specs.declared.Frame.{Frame}
-use Rattle.frontier.specs.declared.Answer.the-variants.{Unknown}
-use Rattle.frontier.specs.declared.Step.the-variants.{Ends, Goes}
+use Rattle.filling.specs.declared.Frame.{Frame}
+use Rattle.steps.specs.declared.Answer.the-variants.{Unknown}
+use Rattle.steps.specs.declared.Step.the-variants.{Ends, Goes}
 use Rattle.coverage.specs.Coverage.{Imaged}
-use Rattle.expansion.specs.Filling.{Fillable, Advances}
-use Rattle.expansion.specs.FillingLaws.{lends-still, ended, advances-ends}
-use Rattle.expansion.specs.Memory.{Memory, memory, Holds, Lends}
-use Rattle.frontier.specs.NumberLaws.{number-none, number-found}
-use Rattle.frontier.specs.Stepping.{framed, Searchable, Linked, Next, Stands, Midway, GoesOn, Ended, Steps}
+use Rattle.filling.specs.Filling.{Fillable, Advances}
+use Rattle.filling.specs.FillingLaws.{lends-still, ended, advances-ends}
+use Rattle.filling.specs.Memory.{Memory, memory, Holds, Lends}
+use Rattle.steps.specs.NumberLaws.{number-none, number-found}
+use Rattle.steps.specs.Stepping.{framed, Searchable, Linked, Next, Stands, Midway, GoesOn, Ended, Steps}
 use Rattle.traversal.specs.ExpansionLaws.{invariants-step}
 use Rattle.traversal.specs.InvariantLaws.{first-in}
 use Rattle.traversal.specs.Invariants.{slotAt}

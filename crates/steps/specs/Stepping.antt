@@ -1,4 +1,4 @@
--- What one step of the search and the search from a state do to the memory: the contracts of `process` and `explore`.
+-- What one step of the search does to the memory: the contract of `process`.
 -- Assumes nothing.
 use mathlib.Core.List.{List, _++_}
 use mathlib.Core.Path.{_≡_}
@@ -12,14 +12,12 @@ use Rattle.coverage.specs.Coverage.{Permuting, Imaged}
 use Rattle.formula.specs.Limits.{maxVariables, maxClauses, maxPermutations, maxSlots}
 use Rattle.formula.specs.Problem.{Problem}
 use Rattle.formula.specs.Reply.{Reply, satisfiable, unsatisfiable, unknown}
-use Rattle.frontier.specs.declared.Answer.{Answer}
-use Rattle.frontier.specs.declared.Answer.the-variants.{Satisfiable, Unsatisfiable, Unknown}
-use Rattle.expansion.specs.declared.Frame.{Frame}
-use Rattle.frontier.specs.declared.Step.{Step}
-use Rattle.frontier.specs.declared.Stage.{Stage}
-use Rattle.frontier.specs.declared.Stage.the-variants.{Answered, Paused}
-use Rattle.frontier.specs.declared.Step.the-variants.{Ends, Goes}
-use Rattle.expansion.specs.Memory.{Memory, Holds, SameLengths}
+use Rattle.steps.specs.declared.Answer.{Answer}
+use Rattle.steps.specs.declared.Answer.the-variants.{Satisfiable, Unsatisfiable, Unknown}
+use Rattle.filling.specs.declared.Frame.{Frame}
+use Rattle.steps.specs.declared.Step.{Step}
+use Rattle.steps.specs.declared.Step.the-variants.{Ends, Goes}
+use Rattle.filling.specs.Memory.{Memory, Holds}
 use Rattle.traversal.specs.Invariants.{Ready, Invariants}
 use Rattle.traversal.specs.Walk.{Slot, state, Walks}
 
@@ -101,23 +99,3 @@ module _ (pb : Problem) (capacity : ℕ) where
   -- one step from the slot of index i, whichever slots are filled
   abbrev pub Steps : ℕ → ℕ → Memory → Step → Memory → Type 0
   Steps i k m₀ step m = (old : Memory) (p w : List Slot) → Stands old p w i k m₀ → After old p w i step m
-
-  -- many steps, from the slot of index i₀ with k₀ slots filled to that of index i with k
-  abbrev pub Walking : ℕ → ℕ → Memory → ℕ → ℕ → Memory → Type 0
-  Walking i₀ k₀ m₀ i k m = (old : Memory) (p w : List Slot) → Stands old p w i₀ k₀ m₀ → GoesOn old p w i k m
-
-  -- the loop over the slots: it has come to the slot of index i with k filled, and the links are an index of their points
-  pub record Exploring (n heads i₀ k₀ : ℕ) (m₀ : Memory) (links₀ : List ℕ) (i k : ℕ) (m : Memory) (links : List ℕ) : Type 0 where
-    pub lengths : SameLengths m₀ m
-    pub same-links : length links ≡ length links₀
-    pub walking : Walking i₀ k₀ m₀ i k m
-    pub indexed : Indexed heads n (take k (m .points)) links
-
-  -- the search from the slot of index i, answered
-  abbrev pub Answers : ℕ → ℕ → Memory → Reply → Memory → Type 0
-  Answers i k m₀ r m = (old : Memory) (p w : List Slot) → Stands old p w i k m₀ → Ended old p w r m
-
-  -- what exploring from the slot of index i comes to; it pauses nowhere but where more slots can be lent than have heads
-  abbrev pub Explores : ℕ → ℕ → ℕ → Memory → Stage → Memory → Type 0
-  Explores heads i k m₀ (Answered a) m = Answers i k m₀ (answerOf a) m
-  Explores heads i k m₀ (Paused i′ k′) m = Walking i k m₀ i′ k′ m × (heads < capacity)

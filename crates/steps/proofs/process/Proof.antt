@@ -1,15 +1,15 @@
--- `frontier::process` meets its contract: a law of SteppingLaws for each of its three answers. Assumes nothing.
+-- `steps::process` meets its contract: a law of SteppingLaws for each of its three answers. Assumes nothing.
 use mathlib.Core.Path.{refl}
 use native.Mathlib.Omega.{arith}
 use lib.ListN.{getD, length-set}
 use Rattle.points.specs.Contracts.{clauseOf}
 use Rattle.slices.specs.SliceLaws.{falsified-le}
 use Rattle.slices.specs.Slices.{clausesOf}
-use Rattle.expansion.specs.Memory.{memory}
-use Rattle.frontier.specs.SteppingLaws.{Read, step-met, read-fillable, read-below, read-room, read-goes, read-stuck}
+use Rattle.filling.specs.Memory.{memory}
+use Rattle.steps.specs.SteppingLaws.{Read, step-met, read-fillable, read-below, read-room, read-goes, read-stuck}
 use borrow.Author.Needs.{needs}
-use Rattle.frontier.proofs.process.Statement.{statement}
-use Rattle.frontier.proofs.process.Tie as tie
+use Rattle.steps.proofs.process.Statement.{statement}
+use Rattle.steps.proofs.process.Tie as tie
 
 point-at-requires : tie.Need-point-at-requires
 point-at-requires c κs = search needs

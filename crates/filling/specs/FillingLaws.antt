@@ -20,8 +20,8 @@ use Rattle.permutations.specs.Permutations.{Permutation, Covered, covered}
 use Rattle.index.specs.Index.{Indexed}
 use Rattle.index.specs.IndexLaws.{index-stored}
 use Rattle.index.specs.Looking.{Addable, Adds}
-use Rattle.expansion.specs.Filling.{Fillable, Headed, Follows, Reaches, Advances}
-use Rattle.expansion.specs.Memory.{Memory, Holds, Lends, SameLengths, Stored}
+use Rattle.filling.specs.Filling.{Fillable, Headed, Follows, Reaches, Advances}
+use Rattle.filling.specs.Memory.{Memory, Holds, Lends, SameLengths, Stored}
 use Rattle.traversal.specs.Walk.{Slot, slot, pointsIn, Expansion, complete, full, Fills, no-more, skipped, filled-next, no-room}
 
 -- ---- the memory
