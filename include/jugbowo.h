@@ -23,8 +23,8 @@
  * 1,024 bytes count, and 0 for those that are not lent. A clause is the same place of `positive` and of `negative`, sets of variables: bit i
  * is variable i + 1. A point is such a set too: the variables that are yes.
  *
- * No function keeps anything between calls or uses memory but the stack. A call takes less of it than stands at its function; benches/run
- * measures how much. */
+ * No function keeps anything between calls or uses memory but the stack. A call takes less of it than stands at its function, all that it calls
+ * included, so never 4 MiB; benches/run measures how much. */
 #ifndef JUGBOWO_H
 #define JUGBOWO_H
 
@@ -61,7 +61,7 @@ uint32_t jugbowo_read(const uint8_t *text, size_t text_len,
 
 /* Searches from the target for the nearest satisfying point. Takes a formula with exactly `clauses` places in both clause slices; fills
  * slots from the front of the three slot slices, of which the shortest counts, at most 65,536. Slots beyond those filled are left alone.
- * Answers: refusals 10 to 13, satisfiable, unsatisfiable or unknown. Stack: 16 KiB. */
+ * Answers: refusals 10 to 13, satisfiable, unsatisfiable or unknown. Stack: 1 MiB. */
 uint32_t jugbowo_search(uint32_t variables, uint32_t clauses, uint64_t target, uint32_t permutations,
                         const uint8_t *images, size_t images_len,
                         const uint64_t *positive, size_t positive_len,
@@ -73,7 +73,7 @@ uint32_t jugbowo_search(uint32_t variables, uint32_t clauses, uint64_t target, u
 
 /* Writes the certificate of the first `count` slots. Takes the same formula and clauses and the slots as a search left them; leaves the
  * certificate at the front of `out` and the bytes behind it alone. Answers: refusals 10, 11, 12, 16, 17, 19 (with the bytes needed), or
- * written. Stack: 16 KiB. */
+ * written. Stack: 1 MiB. */
 uint32_t jugbowo_write(uint32_t variables, uint32_t clauses, uint64_t target, uint32_t permutations,
                        const uint8_t *images, size_t images_len,
                        const uint64_t *positive, size_t positive_len,
@@ -93,7 +93,7 @@ struct jugbowo_slot {
 };
 
 /* The search with its slots in one slice of structs instead of three slices: the same answers, and the same slots. It works on copies of
- * them. Stack: 1,536 KiB. */
+ * them. Stack: 2 MiB. */
 uint32_t jugbowo_search_slots(uint32_t variables, uint32_t clauses, uint64_t target, uint32_t permutations,
                               const uint8_t *images, size_t images_len,
                               const uint64_t *positive, size_t positive_len,
@@ -101,7 +101,7 @@ uint32_t jugbowo_search_slots(uint32_t variables, uint32_t clauses, uint64_t tar
                               struct jugbowo_slot *slots, size_t slots_len,
                               uint64_t *reply, size_t reply_len);
 
-/* The writer from such a slice: the same answers, and the same certificate. Stack: 1,536 KiB. */
+/* The writer from such a slice: the same answers, and the same certificate. Stack: 2 MiB. */
 uint32_t jugbowo_write_slots(uint32_t variables, uint32_t clauses, uint64_t target, uint32_t permutations,
                              const uint8_t *images, size_t images_len,
                              const uint64_t *positive, size_t positive_len,
@@ -144,7 +144,7 @@ uint32_t jugbowo_solve(const uint8_t *text, size_t text_len,
                        uint64_t *reply, size_t reply_len);
 
 /* What the program `nearest` prints for a text, to the front of `out`; the bytes behind it are left alone. Returns how many bytes, at most 312;
- * where `out` has fewer than 312 it returns 0 and changes nothing. Stack: 256 KiB. */
+ * where `out` has fewer than 312 it returns 0 and changes nothing. Stack: 1,280 KiB. */
 size_t jugbowo_nearest(const uint8_t *text, size_t text_len, uint8_t *out, size_t out_len);
 
 #ifdef __cplusplus

@@ -19,7 +19,7 @@ use Rattle.points.specs.NextLaws.{next-lowest, next-none}
 use Rattle.points.specs.Points.{Clause, Numbered, listed, variables, numbered}
 use Rattle.slices.specs.Slices.{noLiterals}
 use Rattle.theory.specs.Notions.{ClausesBelow}
-use Rattle.permutations.specs.Permutations.{Permutation, covered, permutationsIn}
+use Rattle.permutations.specs.Permutations.{Permutation, covered}
 use Rattle.coverage.specs.Coverage.{Permuting, Imaged, Coverable}
 use Rattle.formula.specs.Reply.{faultAt}
 use Rattle.certificate.specs.RowLaws.{clause-found}

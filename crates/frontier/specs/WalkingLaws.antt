@@ -20,7 +20,7 @@ use Rattle.filling.specs.FillingLaws.{lengths-refl, lengths-trans}
 use Rattle.filling.specs.Memory.{Memory, Holds, SameLengths}
 use Rattle.steps.specs.Stepping.{answerOf, Linked, StillLinked, Midway, After, Steps}
 use Rattle.frontier.specs.Exploring.{Walking, Exploring, Answers}
-use Rattle.traversal.specs.Walk.{Slot, state, Walks, none-left}
+use Rattle.traversal.specs.Walk.{state, Walks, none-left}
 
 -- no more slots are filled than there are
 pub midway-room : {pb : Problem} {capacity i k : ℕ} {m : Memory} → Midway pb capacity i k m → k ≤ capacity

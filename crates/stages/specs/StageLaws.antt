@@ -12,7 +12,6 @@ use Rattle.formula.specs.Limits.{maxSlots}
 use Rattle.formula.specs.Problem.{Problem}
 use Rattle.formula.specs.Reply.{Reply}
 use Rattle.traversal.specs.InvariantLaws.{invariants-start}
-use Rattle.traversal.specs.Invariants.{Ready}
 use Rattle.traversal.specs.Walk.{Slot, slot, pointsIn}
 use Rattle.indexing.specs.Indexing.{Indexable, Links, Sifts}
 use Rattle.indexing.specs.IndexingLaws.{links-indexable, sifts-full}

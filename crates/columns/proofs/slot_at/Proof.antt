@@ -1,6 +1,6 @@
 -- `columns::slot_at` meets its contract: a walk of its MIR, by hand. The slice is looked into, the element is taken out of the row, read whole, and put back.
 -- Assumes nothing.
-use mathlib.Core.Path.{refl, sym}
+use mathlib.Core.Path.{refl}
 use Prim.Native.Nat.{ℕ, _<_, _^_, _*_, _+_}
 use mathlib.Core.List.{[], _∷_, List}
 use lib.ListN.{length}
