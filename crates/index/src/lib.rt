@@ -3,10 +3,12 @@
 // A point at depth d has the d lowest digits of every point below it, so that a look-up compares at most n + 1 points of n digits, whatever
 // the points are and whatever the hash does.
 use points::Point;
+use slices::number_at;
 use slices::point_at;
+use slices::put_number;
 ghost use mathlib.Core.Path.{_≡_};
 ghost use Prim.Native.Nat.{_+_, _*_, _≤_, _<_};
-ghost use lib.ListN.{getD, set, take};
+ghost use lib.ListN.{take};
 ghost use Rattle.math.specs.Bits.{bit};
 ghost use Rattle.math.specs.Lists.{has};
 ghost use Rattle.slices.specs.Slices.{pointsOf};
@@ -40,22 +42,6 @@ fn child_of(heads: usize, j: usize, x: Point, d: u32) -> usize
     if side { first + 1 } else { first }
 }
 
-// The value of link s, 0 past the end.
-fn link_at(links: &[u32], s: usize) -> u32
-    ensures { λ r. ⌜ r ≡ getD (now (links .entry)) s 0 ⌝ }
-{
-    if s < links.len() { links[s] } else { 0 }
-}
-
-// Stores the value of link s; past the end nothing is stored.
-fn put_link(links: &mut [u32], s: usize, value: u32)
-    ensures { λ _. ⌜ now (links .exit) ≡ set (now (links .entry)) s value ⌝ }
-{
-    if s < links.len() {
-        links[s] = value;
-    }
-}
-
 // Looks x up among the first k points: at most n + 1 comparisons.
 pub fn find(links: &[u32], heads: usize, points: &[u64], n: u32, k: usize, x: Point) -> Spot
     requires { ⌜ Askable heads n (take k (pointsOf (now points))) (now links) x ⌝ }
@@ -63,7 +49,7 @@ pub fn find(links: &[u32], heads: usize, points: &[u64], n: u32, k: usize, x: Po
 {
     let mut link = head_of(x, heads);
     let mut depth = 0;
-    let mut value = link_at(links, link);
+    let mut value = number_at(links, link);
     while value != 0 {
         let j = value as usize - 1;
         let y = point_at(points, j);
@@ -76,7 +62,7 @@ pub fn find(links: &[u32], heads: usize, points: &[u64], n: u32, k: usize, x: Po
         }
         link = child_of(heads, j, x, depth);
         depth += 1;
-        value = link_at(links, link);
+        value = number_at(links, link);
     }
     Spot {
         held: false,
@@ -104,6 +90,6 @@ pub fn add(links: &mut [u32], heads: usize, points: &[u64], n: u32, k: usize, x:
         return true;
     }
     let number = k as u32 + 1;
-    put_link(links, spot.link, number);
+    put_number(links, spot.link, number);
     false
 }

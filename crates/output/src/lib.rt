@@ -1,6 +1,6 @@
 // Storing the parts of a certificate into lent bytes, each at its place.
+use slices::number_at;
 use slices::point_at;
-use transport::number_at;
 ghost use mathlib.Core.List.{[], _∷_};
 ghost use mathlib.Core.Path.{_≡_};
 ghost use Prim.Native.Nat.{_+_, _*_, _/_, _%_, _^_, _≤_};

@@ -1,4 +1,4 @@
-// Points and clauses in lent slices: a slice of points has one word a point, and the clauses lie in two parallel slices.
+// Points, clauses and numbers in lent slices: a slice of points has one word a point, and the clauses lie in two parallel slices.
 use points::Clause;
 use points::Point;
 ghost use mathlib.Core.Path.{_≡_};
@@ -29,6 +29,22 @@ pub fn put_point(points: &mut [u64], i: usize, x: Point)
 {
     if i < points.len() {
         points[i] = x;
+    }
+}
+
+// The number at index i, 0 past the end.
+pub fn number_at(numbers: &[u32], i: usize) -> u32
+    ensures { λ r. ⌜ r ≡ getD (now (numbers .entry)) i 0 ⌝ }
+{
+    if i < numbers.len() { numbers[i] } else { 0 }
+}
+
+// Stores a number at index i; past the end nothing is stored.
+pub fn put_number(numbers: &mut [u32], i: usize, value: u32)
+    ensures { λ _. ⌜ now (numbers .exit) ≡ set (now (numbers .entry)) i value ⌝ }
+{
+    if i < numbers.len() {
+        numbers[i] = value;
     }
 }
 

@@ -4,21 +4,14 @@ use formula::Checked;
 use points::Point;
 use slices::clause_at;
 use slices::clause_count;
+use slices::number_at;
 use slices::point_at;
 ghost use mathlib.Core.Path.{_≡_};
-ghost use lib.ListN.{getD};
 ghost use Rattle.math.specs.Lists.{firstFailing, below};
 ghost use Rattle.points.specs.Points.{numbered};
 ghost use Rattle.slices.specs.Slices.{pointsOf, clausesOf};
 ghost use Rattle.formula.specs.Refusals.{faultOf};
 ghost use Rattle.certificate.specs.Rows.{clauseNumbered, falsifies, numberPasses, numbersFault};
-
-// The clause number at index i, 0 past the end.
-pub fn number_at(numbers: &[u32], i: usize) -> u32
-    ensures { λ r. ⌜ r ≡ getD (now (numbers .entry)) i 0 ⌝ }
-{
-    if i < numbers.len() { numbers[i] } else { 0 }
-}
 
 // Whether some clause has the number k, and the point falsifies it.
 fn falsifies(positive: &[u64], negative: &[u64], k: u32, x: Point) -> bool

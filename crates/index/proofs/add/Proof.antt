@@ -20,8 +20,8 @@ cast-number c = search needs
 add-number : tie.Need-add-number
 add-number c = search needs
 
-put-link-requires : tie.Need-put-link-requires
-put-link-requires c κs = search needs
+put-number-requires : tie.Need-put-number-requires
+put-number-requires c κs = search needs
 
 same-length-2 : tie.Need-same-length-2
 same-length-2 c = search needs
@@ -29,7 +29,7 @@ same-length-2 c = search needs
 returns-2 : tie.Need-returns-2
 returns-2 c =
     adds-one (c .before .before .before .before .before .before .before .before .before .pre) (c .before .before .before .before .before .find .ensures) (c .before .before .before .before .if1 .left)
-    _ (c .before .before .put-link .ensures)
+    _ (c .before .before .put-number .ensures)
 
 pub add-spec : {M : Type 1} → statement M
 add-spec =
@@ -40,6 +40,6 @@ add-spec =
     returns
     cast-number
     add-number
-    put-link-requires
+    put-number-requires
     same-length-2
     returns-2)

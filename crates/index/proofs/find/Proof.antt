@@ -17,11 +17,11 @@ abbrev μ-loop : tie.MeasureT-loop
 head-of-requires : tie.Need-head-of-requires Inv-loop μ-loop
 head-of-requires c κs = c .before .before .pre .indexed .headed
 
-link-at-requires : tie.Need-link-at-requires Inv-loop μ-loop
-link-at-requires c κs = search needs
+number-at-requires : tie.Need-number-at-requires Inv-loop μ-loop
+number-at-requires c κs = search needs
 
 loop-holds : tie.Need-loop-holds Inv-loop μ-loop
-loop-holds c = seeking-begins (c .before .before .before .before .pre) _ _ (c .before .head-of .ensures) (c .link-at .ensures) (search needs)
+loop-holds c = seeking-begins (c .before .before .before .before .pre) _ _ (c .before .head-of .ensures) (c .number-at .ensures) (search needs)
 
 cast-j : tie.Need-cast-j Inv-loop μ-loop
 cast-j c = omega (arith, c .before .loop .inv .small)
@@ -56,8 +56,8 @@ below-width c =
 add-depth : tie.Need-add-depth Inv-loop μ-loop
 add-depth c = omega (arith, below-width (c .before), c .before .before .before .before .before .before .before .before .before .before .pre .few)
 
-link-at-requires-2 : tie.Need-link-at-requires-2 Inv-loop μ-loop
-link-at-requires-2 c κs = search needs
+number-at-requires-2 : tie.Need-number-at-requires-2 Inv-loop μ-loop
+number-at-requires-2 c κs = search needs
 
 loop-less : tie.Need-loop-less Inv-loop μ-loop
 loop-less c = omega (arith, below-width (c .before .before))
@@ -67,7 +67,7 @@ loop-again c =
     let start = c .before .before .before .before .before .before .before .before .before .before .before in
     let met = c .before .before .before in
     seeking-goes-on (start .pre) (met .before .before .before .loop .inv) (met .before .before .loop-test .taken) _ (met .before .point-at .ensures)
-    (sym (met .same .ensures) ∙ c .before .before .if1 .left) _ _ (c .before .child-of .ensures) (c .link-at2 .ensures) (search needs)
+    (sym (met .same .ensures) ∙ c .before .before .if1 .left) _ _ (c .before .child-of .ensures) (c .number-at2 .ensures) (search needs)
 
 returns-2 : tie.Need-returns-2 Inv-loop μ-loop
 returns-2 c = seeking-ends (c .before .before .before .before .before .before .pre) (c .before .loop .inv) (c .loop-test .left)
@@ -79,7 +79,7 @@ find-spec =
     Inv-loop
     μ-loop
     head-of-requires
-    link-at-requires
+    number-at-requires
     loop-holds
     cast-j
     sub-j
@@ -88,7 +88,7 @@ find-spec =
     returns
     child-of-requires
     add-depth
-    link-at-requires-2
+    number-at-requires-2
     loop-less
     loop-again
     returns-2)

@@ -1,9 +1,9 @@
--- `transport::number_at` meets its contract: past the end `getD` gives its default. Assumes nothing.
+-- `slices::number_at` meets its contract: past the end `getD` gives its default. Assumes nothing.
 use mathlib.Core.Path.{sym}
 use lib.ListN.{List·getD-eq-default}
 use borrow.Author.Needs.{needs}
-use Rattle.transport.proofs.number_at.Statement.{statement}
-use Rattle.transport.proofs.number_at.Tie as tie
+use Rattle.slices.proofs.number_at.Statement.{statement}
+use Rattle.slices.proofs.number_at.Tie as tie
 
 mul-result : tie.Need-mul-result
 mul-result c = search needs
