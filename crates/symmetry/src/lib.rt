@@ -1,4 +1,5 @@
 // Whether a permutation keeps the clauses: then it is a symmetry of the formula.
+use crate::guesses::guessed;
 use images::image_of_clause;
 use points::Clause;
 use slices::clause_at;
@@ -11,6 +12,8 @@ ghost use Rattle.slices.specs.Slices.{clausesOf};
 ghost use Rattle.permutations.specs.Permutations.{sameClause, keeps};
 ghost use Rattle.images.specs.Contracts.{Movable};
 
+pub mod guesses;
+
 // Whether two clauses are the same two sets.
 pub fn same_clause(c: Clause, d: Clause) -> bool
     ensures { λ r. ⌜ r ≡ sameClause (clauseOf c) (clauseOf d) ⌝ }
@@ -22,24 +25,28 @@ pub fn same_clause(c: Clause, d: Clause) -> bool
     }
 }
 
-// Whether a clause is among those of the slices. One step a clause.
-pub fn has_clause(positive: &[u64], negative: &[u64], c: Clause) -> bool
+// Whether a clause is among those of the slices, whatever the guesses are. Where none is right, one step a clause.
+pub fn has_clause(guesses: &[u32], positive: &[u64], negative: &[u64], c: Clause) -> bool
     ensures { λ r. ⌜ r ≡ any (sameClause (clauseOf c)) (clausesOf (now (positive .entry)) (now (negative .entry))) ⌝ }
 {
+    if guessed(guesses, positive, negative, c) {
+        return true;
+    }
     let end = clause_count(positive, negative);
-    let mut i = 0;
-    while i < end {
-        let d = clause_at(positive, negative, i);
+    let mut at = 0;
+    while at < end {
+        let d = clause_at(positive, negative, at);
         if same_clause(c, d) {
             return true;
         }
-        i += 1;
+        at += 1;
     }
     false
 }
 
-// Whether the image of each clause is among the clauses. For each clause an image, 2n steps, and a scan, one step a clause.
-pub fn keeps(e: &[u8], positive: &[u64], negative: &[u64]) -> bool
+// Whether the image of each clause is among the clauses. For each clause an image, 2n steps, and about one comparison where the guesses have
+// it, never more than 16 and one a clause.
+pub fn keeps(e: &[u8], guesses: &[u32], positive: &[u64], negative: &[u64]) -> bool
     requires { ⌜ Movable (now e) ⌝ }
     ensures { λ r. ⌜ r ≡ keeps (numbered (clausesOf (now (positive .entry)) (now (negative .entry)))) (record { images = now (e .entry) }) ⌝ }
 {
@@ -48,7 +55,7 @@ pub fn keeps(e: &[u8], positive: &[u64], negative: &[u64]) -> bool
     while i < end {
         let c = clause_at(positive, negative, i);
         let image = image_of_clause(e, c);
-        let kept = has_clause(positive, negative, image);
+        let kept = has_clause(guesses, positive, negative, image);
         if !kept {
             return false;
         }

@@ -1,4 +1,4 @@
--- `symmetry::has_clause` meets its contract: whether the clause is among them is, at index i, whether it is among those from i on. Assumes nothing.
+-- `symmetry::has_clause` meets its contract: a right guess says so; else whether the clause is among them is, at an index, whether it is among those from there on. Assumes nothing.
 use mathlib.Core.Path.{_≡_, refl, sym, ap, _∙_}
 use Prim.Native.Nat.{_-_}
 use native.Mathlib.Omega.{arith}
@@ -13,12 +13,18 @@ use Rattle.symmetry.proofs.has_clause.Statement.{statement}
 use Rattle.symmetry.proofs.has_clause.Tie as tie
 
 abbrev Inv-loop : tie.InvT-loop
-Inv-loop positive negative c end i₀ i =
+Inv-loop guesses positive negative c end at₀ at =
     (end ≡ length (clausesOf positive negative))
-    × (any (sameClause (clauseOf c)) (clausesOf positive negative) ≡ any (sameClause (clauseOf c)) (drop i (clausesOf positive negative)))
+    × (any (sameClause (clauseOf c)) (clausesOf positive negative) ≡ any (sameClause (clauseOf c)) (drop at (clausesOf positive negative)))
 
 abbrev μ-loop : tie.MeasureT-loop
-μ-loop positive negative c end i₀ i = end - i
+μ-loop guesses positive negative c end at₀ at = end - at
+
+guessed-requires : tie.Need-guessed-requires Inv-loop μ-loop
+guessed-requires c κs = search needs
+
+returns : tie.Need-returns Inv-loop μ-loop
+returns c = sym (c .before .guessed .ensures (c .if1 .taken))
 
 clause-count-requires : tie.Need-clause-count-requires Inv-loop μ-loop
 clause-count-requires c κs = search needs
@@ -34,18 +40,18 @@ same-clause-requires c κs = search needs
 
 -- what the test compares with
 compared : (c : tie.After-same-clause Inv-loop μ-loop)
-    → sameClause (clauseOf (c .before .before .before .before .before .before .before .args .c))
-    (getD (clausesOf (c .before .before .before .before .before .before .before .args .positive .now) (c .before .before .before .before .before .before .before .args .negative .now)) (c .before .before .before .loop .i) noLiterals)
+    → sameClause (clauseOf (c .before .before .before .before .before .before .before .before .before .before .args .c))
+    (getD (clausesOf (c .before .before .before .before .before .before .before .before .before .before .args .positive .now) (c .before .before .before .before .before .before .before .before .before .before .args .negative .now)) (c .before .before .before .loop .at) noLiterals)
     ≡ c .same-clause .result
 compared c = ap (sameClause _) (sym (c .before .clause-at .ensures)) ∙ sym (c .same-clause .ensures)
 
-returns : tie.Need-returns Inv-loop μ-loop
-returns c =
+returns-2 : tie.Need-returns-2 Inv-loop μ-loop
+returns-2 c =
     let l = c .before .before .before .before .loop in
-    sym (l .inv .1 ∙ any-stops (sameClause _) _ noLiterals (l .i) (omega arith) (compared (c .before) ∙ c .if1 .taken))
+    sym (l .inv .1 ∙ any-stops (sameClause _) _ noLiterals (l .at) (omega arith) (compared (c .before) ∙ c .if2 .taken))
 
-add-i : tie.Need-add-i Inv-loop μ-loop
-add-i c = search needs
+add-at : tie.Need-add-at Inv-loop μ-loop
+add-at c = search needs
 
 loop-less : tie.Need-loop-less Inv-loop μ-loop
 loop-less c = search needs
@@ -53,12 +59,12 @@ loop-less c = search needs
 loop-again : tie.Need-loop-again Inv-loop μ-loop
 loop-again c =
     let l = c .before .before .before .before .loop in
-    (l .inv .0, l .inv .1 ∙ any-goes-on (sameClause _) _ noLiterals (l .i) (omega arith) (compared (c .before) ∙ c .if1 .left))
+    (l .inv .0, l .inv .1 ∙ any-goes-on (sameClause _) _ noLiterals (l .at) (omega arith) (compared (c .before) ∙ c .if2 .left))
 
-returns-2 : tie.Need-returns-2 Inv-loop μ-loop
-returns-2 c =
+returns-3 : tie.Need-returns-3 Inv-loop μ-loop
+returns-3 c =
     let l = c .before .loop in
-    sym (l .inv .1 ∙ any-ends (sameClause _) _ noLiterals (l .i) (omega arith))
+    sym (l .inv .1 ∙ any-ends (sameClause _) _ noLiterals (l .at) (omega arith))
 
 pub has-clause-spec : {M : Type 1} → statement M
 has-clause-spec =
@@ -66,12 +72,14 @@ has-clause-spec =
     (tie.spec
     Inv-loop
     μ-loop
+    guessed-requires
+    returns
     clause-count-requires
     loop-holds
     clause-at-requires
     same-clause-requires
-    returns
-    add-i
+    returns-2
+    add-at
     loop-less
     loop-again
-    returns-2)
+    returns-3)

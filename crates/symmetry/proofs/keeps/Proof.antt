@@ -14,13 +14,13 @@ use Rattle.symmetry.proofs.keeps.Statement.{statement}
 use Rattle.symmetry.proofs.keeps.Tie as tie
 
 abbrev Inv-loop : tie.InvT-loop
-Inv-loop e positive negative end i₀ i =
+Inv-loop e guesses positive negative end i₀ i =
     (end ≡ length (clausesOf positive negative))
     × (all (imageAmong (clausesOf positive negative) (record { images = e })) (clausesOf positive negative)
     ≡ all (imageAmong (clausesOf positive negative) (record { images = e })) (drop i (clausesOf positive negative)))
 
 abbrev μ-loop : tie.MeasureT-loop
-μ-loop e positive negative end i₀ i = end - i
+μ-loop e guesses positive negative end i₀ i = end - i
 
 clause-count-requires : tie.Need-clause-count-requires Inv-loop μ-loop
 clause-count-requires c κs = search needs
@@ -39,11 +39,11 @@ has-clause-requires c κs = search needs
 
 -- what the test says of the clause at i
 tested : (c : tie.After-has-clause Inv-loop μ-loop)
-    → imageAmong (clausesOf (c .before .before .before .before .before .before .before .before .before .args .positive .now) (c .before .before .before .before .before .before .before .before .before .args .negative .now)) (record { images = c .before .before .before .before .before .before .before .before .before .args .e .now })
-    (getD (clausesOf (c .before .before .before .before .before .before .before .before .before .args .positive .now) (c .before .before .before .before .before .before .before .before .before .args .negative .now)) (c .before .before .before .before .loop .i) noLiterals)
+    → imageAmong (clausesOf (c .before .before .before .before .before .before .before .before .before .before .args .positive .now) (c .before .before .before .before .before .before .before .before .before .before .args .negative .now)) (record { images = c .before .before .before .before .before .before .before .before .before .before .args .e .now })
+    (getD (clausesOf (c .before .before .before .before .before .before .before .before .before .before .args .positive .now) (c .before .before .before .before .before .before .before .before .before .before .args .negative .now)) (c .before .before .before .before .loop .i) noLiterals)
     ≡ c .has-clause .result
 tested c =
-    let a = c .before .before .before .before .before .before .before .before .before .args in
+    let a = c .before .before .before .before .before .before .before .before .before .before .args in
     let cs = clausesOf (a .positive .now) (a .negative .now) in
     ap (imageAmong cs (record { images = a .e .now })) (sym (c .before .before .clause-at .ensures))
     ∙ ap (λ d. any (sameClause d) cs) (sym (c .before .image-of-clause .ensures)) ∙ sym (c .has-clause .ensures)

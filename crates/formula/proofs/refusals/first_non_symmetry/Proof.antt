@@ -16,39 +16,39 @@ use Rattle.formula.proofs.refusals.first_non_symmetry.Statement.{statem
 use Rattle.formula.proofs.refusals.first_non_symmetry.Tie as tie
 
 abbrev Inv-loop : tie.InvT-loop
-Inv-loop images n count positive negative size end at₀ at =
+Inv-loop guesses images n count positive negative size end at₀ at =
     firstFailing (keeps (numbered (clausesOf positive negative))) (permutationsIn n count images) ≡ onFrom at (firstFailing (keeps (numbered (clausesOf positive negative))) (drop at (permutationsIn n count images)))
 
 abbrev μ-loop : tie.MeasureT-loop
-μ-loop images n count positive negative size end at₀ at = count - at
+μ-loop guesses images n count positive negative size end at₀ at = count - at
 
 loop-holds : tie.Need-loop-holds Inv-loop μ-loop
 loop-holds c = failing-begins _ _ noPermutation
 
 permutation-at-requires : tie.Need-permutation-at-requires Inv-loop μ-loop
 permutation-at-requires c κs =
-    let start = c .before .before .before .before .before in
+    let start = c .before .before .before .before .before .before in
     listed-room (start .args .n) (start .args .count) (c .before .loop .at) (start .args .images .now) (start .pre) (c .loop-test .taken)
 
 keeps-requires : tie.Need-keeps-requires Inv-loop μ-loop
 keeps-requires c κs =
-    let start = c .before .before .before .before .before .before in
+    let start = c .before .before .before .before .before .before .before in
     subst Movable (sym (c .permutation-at .ensures))
     (listed-movable (start .args .n) (start .args .count) (c .before .before .loop .at) (start .args .images .now) (start .pre) (c .before .loop-test .taken))
 
 -- in the loop at is an index of the permutations
 inside : (c : tie.After-keeps Inv-loop μ-loop)
-    → c .before .before .before .loop .at < length (permutationsIn (c .before .before .before .before .before .before .before .args .n) (c .before .before .before .before .before .before .before .args .count) (c .before .before .before .before .before .before .before .args .images .now))
+    → c .before .before .before .loop .at < length (permutationsIn (c .before .before .before .before .before .before .before .before .args .n) (c .before .before .before .before .before .before .before .before .args .count) (c .before .before .before .before .before .before .before .before .args .images .now))
 inside c = lt-of-lt-of-le (c .before .before .loop-test .taken) (le-of-eq (sym (length-permutations _ _ _)))
 
 -- what the test says of the permutation there
 tested : (c : tie.After-keeps Inv-loop μ-loop)
-    → keeps (numbered (clausesOf (c .before .before .before .before .before .before .before .args .positive .now) (c .before .before .before .before .before .before .before .args .negative .now))) (getD (permutationsIn (c .before .before .before .before .before .before .before .args .n) (c .before .before .before .before .before .before .before .args .count) (c .before .before .before .before .before .before .before .args .images .now)) (c .before .before .before .loop .at) noPermutation)
+    → keeps (numbered (clausesOf (c .before .before .before .before .before .before .before .before .args .positive .now) (c .before .before .before .before .before .before .before .before .args .negative .now))) (getD (permutationsIn (c .before .before .before .before .before .before .before .before .args .n) (c .before .before .before .before .before .before .before .before .args .count) (c .before .before .before .before .before .before .before .before .args .images .now)) (c .before .before .before .loop .at) noPermutation)
     ≡ c .keeps .result
 tested c =
-    let a = c .before .before .before .before .before .before .before .args in
-    ap (keeps (numbered (clausesOf (c .before .before .before .before .before .before .before .args .positive .now) (c .before .before .before .before .before .before .before .args .negative .now)))) (permutation-at (a .n) (a .count) (c .before .before .before .loop .at) (a .images .now) noPermutation (c .before .before .loop-test .taken))
-    ∙ ap (λ l. keeps (numbered (clausesOf (c .before .before .before .before .before .before .before .args .positive .now) (c .before .before .before .before .before .before .before .args .negative .now))) (record { images = l })) (sym (c .before .permutation-at .ensures)) ∙ sym (c .keeps .ensures)
+    let a = c .before .before .before .before .before .before .before .before .args in
+    ap (keeps (numbered (clausesOf (c .before .before .before .before .before .before .before .before .args .positive .now) (c .before .before .before .before .before .before .before .before .args .negative .now)))) (permutation-at (a .n) (a .count) (c .before .before .before .loop .at) (a .images .now) noPermutation (c .before .before .loop-test .taken))
+    ∙ ap (λ l. keeps (numbered (clausesOf (c .before .before .before .before .before .before .before .before .args .positive .now) (c .before .before .before .before .before .before .before .before .args .negative .now))) (record { images = l })) (sym (c .before .permutation-at .ensures)) ∙ sym (c .keeps .ensures)
 
 add-result : tie.Need-add-result Inv-loop μ-loop
 add-result c = search needs
