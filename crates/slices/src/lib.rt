@@ -3,8 +3,7 @@ use points::Clause;
 use points::Point;
 ghost use mathlib.Core.Path.{_≡_};
 ghost use Prim.Native.Nat.{min};
-ghost use lib.ListN.{length, getD, set, take};
-ghost use Rattle.math.specs.Lists.{has};
+ghost use lib.ListN.{length, getD, set};
 ghost use Rattle.points.specs.Contracts.{clauseOf};
 ghost use Rattle.points.specs.Points.{firstFalsified, numbered, numberOf};
 ghost use Rattle.slices.specs.Slices.{pointsOf, clausesOf, noLiterals};
@@ -99,20 +98,4 @@ pub fn first_falsified(positive: &[u64], negative: &[u64], x: Point) -> usize
         i += 1;
     }
     0
-}
-
-// Whether the point is among the first k of the slice. One step a point.
-pub fn contains(points: &[u64], k: usize, x: Point) -> bool
-    ensures { λ r. ⌜ r ≡ has x (take k (pointsOf (now (points .entry)))) ⌝ }
-{
-    let held = point_count(points);
-    let end = least(k, held);
-    let mut i = 0;
-    while i < end {
-        if points::same(x, point_at(points, i)) {
-            return true;
-        }
-        i += 1;
-    }
-    false
 }
