@@ -65,10 +65,7 @@ pub fn explore(
     let mut filled = held;
     while at < filled {
         if outgrown(g, heads, filled) {
-            return Stage::Paused {
-                at: at,
-                filled: filled,
-            };
+            return Stage::Paused { at, filled };
         }
         let x = point_at(points, at);
         move_images(&mut moved, images, g.variables, g.permutations, seen, x);

@@ -36,10 +36,7 @@ fn explore_with(
         (memory (now (points .exit)) (now (falsified .exit)) (now (depths .exit))) ⌝ }
 {
     if heads < filled {
-        return Stage::Paused {
-            at: at,
-            filled: filled,
-        };
+        return Stage::Paused { at, filled };
     }
     index_points(links, heads, points, g.variables, filled);
     explore(

@@ -68,14 +68,13 @@ pub fn process(
         let slots = filled as u32;
         return Step::Ends(Answer::Satisfiable {
             point: x,
-            distance: distance,
+            distance,
             filled: slots,
         });
     }
     let stored = number as u32;
     falsified[at] = stored;
-    let before = number - 1;
-    let c = clause_at(positive, negative, before);
+    let c = clause_at(positive, negative, number - 1);
     let listed = points::listed(c);
     let grown = expand(
         g,

@@ -46,8 +46,8 @@ mul-falsified c = search needs
 slice-write-falsified : tie.Need-slice-write-falsified
 slice-write-falsified c = search needs
 
-sub-before : tie.Need-sub-before
-sub-before c = search needs
+sub-clause-at : tie.Need-sub-clause-at
+sub-clause-at c = search needs
 
 clause-at-requires : tie.Need-clause-at-requires
 clause-at-requires c κs = search needs
@@ -127,7 +127,7 @@ process-spec =
     cast-stored
     mul-falsified
     slice-write-falsified
-    sub-before
+    sub-clause-at
     clause-at-requires
     listed-requires
     expand-requires
