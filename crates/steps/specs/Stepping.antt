@@ -53,14 +53,14 @@ pub record Linked (n heads k : ℕ) (points links : List ℕ) : Type 0 where
   pub indexed : Indexed heads n (take k points) links
   pub linked : heads + 2 * heads ≤ length links
 
--- the point of the slot of index i, the next that is processed, and `moved` has its images
-abbrev pub Next : ℕ → ℕ → List ℕ → List ℕ → ℕ → List ℕ → Type 0
-Next n count images points i moved = Imaged n count images (getD points i 0) moved
-
--- if the step goes on, they are again
+-- where the step goes on, the links are an index of the points of those filled then
 abbrev pub StillLinked : ℕ → ℕ → Step → List ℕ → List ℕ → Type 0
 StillLinked n heads (Ends a) points links = Unit {0}
 StillLinked n heads (Goes k) points links = Indexed heads n (take k points) links
+
+-- `moved` has the images of the point of the slot of index i, which is the next that is processed
+abbrev pub Next : ℕ → ℕ → List ℕ → List ℕ → ℕ → List ℕ → Type 0
+Next n count images points i moved = Imaged n count images (getD points i 0) moved
 
 module _ (pb : Problem) (capacity : ℕ) where
   -- the search has come to the slot of index i: in front of what the memory `old` has, m holds the processed slots p, i of them, and the
