@@ -115,6 +115,7 @@ def main():
     os.makedirs(os.path.join(crate, "src"))
     os.makedirs(os.path.join(crate, "specs"))
     names = [line.split(":")[0] for line in open(os.path.join(scratch, "crates.txt")) if ":" in line]
+    names = [name for name in names if os.path.exists(os.path.join(scratch, "crates", name, "src", "lib.rt"))]  # a program is no dependency
     with open(os.path.join(scratch, "crates.txt"), "a") as f:
         f.write("vectors: %s\n" % " ".join(names))
     with open(os.path.join(crate, "src", "lib.rt"), "w") as f:
