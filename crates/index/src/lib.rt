@@ -21,7 +21,7 @@ pub struct Spot {
     pub link: usize,
 }
 
-// The head link of a point: a hash of its halves. A leaf function on points, kept here since nothing else hashes.
+// The head link of a point: a hash of its halves. A leaf function on points, kept beside the tree; `symmetry::guesses` hashes clauses by it.
 pub fn head_of(x: Point, heads: usize) -> usize
     requires { ⌜ 1 ≤ heads ⌝ }
     ensures { λ r. ⌜ r ≡ headOf heads x ⌝ }

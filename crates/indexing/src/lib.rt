@@ -1,5 +1,5 @@
 // Refusal 16 by an index of the points: whether each point has no bit at n or above and is new. The checker goes on with the index, the writer
-// does not.
+// does not; the search indexes the slots that it has filled by the same loop.
 use formula::Checked;
 use slices::point_at;
 ghost use mathlib.Core.Path.{_≡_};

@@ -57,8 +57,8 @@ fn as_outcome(a: Answer) -> Outcome
 }
 
 // D2.2: searches from the formula's target, with the slots in the three lent slices; refusals 10 to 13 leave all three as they were.
-// A search of k slots takes at most k steps: each a scan of the clauses, the images of a point, n steps for each permutation, and for each
-// variable of a clause at most permutations + 2 look-ups, none of more than n + 1 comparisons.
+// A search of k slots takes at most k steps: each a scan of the clauses, one step for each permutation and each variable in which its point differs
+// from the one before, and for each variable of a clause at most permutations + 2 look-ups, none of more than n + 1 comparisons.
 pub fn search(
     f: Formula,
     positive: &[u64],

@@ -54,7 +54,7 @@ fn explore_with(
     )
 }
 
-// The last stage: an index for all the slots that there can be, 768 KiB of links.
+// The last stage: an index for all the slots that there can be, 768 KiB of links, so that it never pauses: the answer for that case is not given.
 fn finish(
     g: Frame,
     images: &[u8],
