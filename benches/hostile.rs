@@ -21,7 +21,7 @@ const TOP: u64 = 1 << 63;
 const FIRST: u64 = 1 << 61;
 const SECOND: u64 = 1 << 62;
 
-// The tree of a point in an index with 65,536 heads, as crates/index has it.
+// The tree of a point in an index with 65,536 heads, as crates/point_index has it.
 fn tree(x: u64) -> usize {
     (((x % (1 << 32)) * 1640531527 + (x >> 32) * 1779033703) / (1 << 32) % 65536) as usize
 }

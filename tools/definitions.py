@@ -14,8 +14,8 @@ import subprocess
 import sys
 
 USES = {
-    "reader": "Rattle.text.specs.Reader.{readReply, readFormula, readPositive, readNegative}",
-    "builder": "Rattle.search.specs.Builder.{searchReply, searchSlice}\nuse Rattle.traversal.specs.Walk.{Slot}",
+    "reader": "Rattle.dimacs_format.specs.Reader.{readReply, readFormula, readPositive, readNegative}",
+    "builder": "Rattle.search.specs.Search.{searchReply, searchSlice}\nuse Rattle.search_theory.specs.Walk.{Slot}",
     "checker": "Rattle.checker.specs.Checker.{checkReply}\nuse Rattle.certificate.specs.Reader.{openedReply}\n"
     "use Rattle.certificate.specs.Certificate.{filePermutations, filePoints, fileNumbers}",
     "writer": "Rattle.certificate.specs.Writer.{writeReply, writeOutput}",
@@ -26,7 +26,7 @@ use mathlib.Core.Path.{_≡_, refl}
 use Prim.Native.Nat.{ℕ}
 use lib.ListN.{replicate}
 use Rattle.math.specs.Bits.{bit, flip}
-use Rattle.permutations.specs.Permutations.{Permutation}
+use Rattle.permutation_theory.specs.Permutations.{Permutation}
 use Rattle.formula.specs.declared.Formula.{Formula}
 use Rattle.formula.specs.Reply.{Reply, parsed, refused, satisfiable, unsatisfiable, unknown, written, accepted, opened}
 use %s

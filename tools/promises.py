@@ -1,34 +1,52 @@
 #!/usr/bin/env python3
-"""Checks docs/PROMISES.md against the tree: every file that a row names carries the row's label, every label that a comment under
-crates/ carries has a row, and a row that names no file says what it waits for. Prints what is wrong; exit status 1 if anything is."""
+"""docs/PROMISES.md and the tree: the column 'In' of each row lists the files under crates/ that carry the row's label in a comment. `tools/promises.py`
+compares, `tools/promises.py --write` writes the column. Also wrong: a label in crates/ without a row, a row that names no file and does not say
+what it waits for. Prints what is wrong; exit status 1 if anything is."""
 import glob
 import os
 import re
 import sys
 
-os.chdir(os.path.join(os.path.dirname(os.path.abspath(__file__)), ".."))
-LABEL = r"(?<![\w.])(%s)(?![\w]|\.\d)"
-KINDS = r"D\d\.\d|S\d+|E\d+|W\d+|C\d+|K\d+|N\d+|R\d+|G\.[a-d]|V\d+|P\d+|F\d+|T\d+"
+import tree
 
-wrong, labels = [], set()
+KINDS = r"D\d\.\d|S\d+|E\d+|W\d+|C\d+|K\d+|N\d+|R\d+|G\.[a-d]|V\d+|P\d+|F\d+|T\d+"
+LABEL = re.compile(r"(?<![\w.])(%s)(?![\w]|\.\d)" % KINDS)
+
+
+def labels(path):
+    """The labels that a file's comments carry, outside quotations; of an edit every line is a comment."""
+    text = open(path).read()
+    comments = text if path.endswith(".edit") else "\n".join(re.findall(r"(?:--|//) (.*)", text))
+    return set(LABEL.findall(re.sub(r'"[^"]*"', "", comments)))
+
+
+def carriers():
+    """Label by label the files that carry it."""
+    found = {}
+    for path in sorted(glob.glob("crates/**/*", recursive=True)):
+        if path.endswith((".antt", ".rt", ".edit")):
+            for label in labels(path):
+                found.setdefault(label, []).append(path[len("crates/"):])
+    return found
+
+
+os.chdir(tree.TOP)
+wrong, rows, lines, carried = [], set(), [], carriers()
 for line in open("docs/PROMISES.md"):
     cells = re.split(r"(?<!\\)\|", line)
-    if len(cells) != 7 or not re.fullmatch(KINDS, cells[1].strip()):
-        continue
-    label, files, waits = cells[1].strip(), re.findall(r"`([^`]+)`", cells[4]), cells[5].strip()
-    labels.add(label)
-    if not files and not waits:
-        wrong.append("%s names no file and waits for nothing" % label)
-    for file in files:
-        path = os.path.join("crates", file)
-        if not os.path.exists(path) or not re.search(LABEL % re.escape(label), open(path).read()):
-            wrong.append("%s: %s does not carry it" % (label, file))
-for path in sorted(glob.glob("crates/**/*", recursive=True)):
-    if path.endswith((".antt", ".rt", ".edit")):
-        comments = "\n".join(re.findall(r"(?:--|//) (.*)", open(path).read()))
-        quoted = re.sub(r'"[^"]*"', "", comments)
-        for label in set(re.findall(LABEL % KINDS, quoted)):
-            if label not in labels:
-                wrong.append("%s: label %s has no row" % (path, label))
-print("\n".join(wrong) if wrong else "promises: %d rows, every label found" % len(labels))
+    if len(cells) == 7 and re.fullmatch(KINDS, cells[1].strip()):
+        label, waits = cells[1].strip(), cells[5].strip()
+        rows.add(label)
+        files = carried.get(label, [])
+        if not files and not waits:
+            wrong.append(f"{label} is in no file and waits for nothing")
+        cells[4] = " " + ", ".join(f"`{file}`" for file in files) + " "
+    lines.append("|".join(cells))
+for label in sorted(set(carried) - rows):
+    wrong.append(f"label {label} has no row: {' '.join(carried[label])}")
+if sys.argv[1:] == ["--write"]:
+    open("docs/PROMISES.md", "w").writelines(lines)
+elif "".join(lines) != open("docs/PROMISES.md").read():
+    wrong.append("the column 'In' differs from the tree: run tools/promises.py --write")
+print("\n".join(wrong) if wrong else f"promises: {len(rows)} rows, every label found")
 sys.exit(1 if wrong else 0)

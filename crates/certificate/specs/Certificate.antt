@@ -7,7 +7,7 @@ use Prim.Native.Nat.{ℕ, _+_, _*_, _/_, _^_, _≤_, _<_}
 use lib.Dec.{leb, eqb}
 use lib.ListN.{length, getD, getElem?, take, drop}
 use Rattle.math.specs.Lists.{_∈_}
-use Rattle.permutations.specs.Permutations.{Permutation, permutationsIn}
+use Rattle.permutation_theory.specs.Permutations.{Permutation, permutationsIn}
 use Rattle.certificate.specs.Bytes.{bytesOf, numberFrom, joined, entries, numbersIn, fieldWidth, permutationWidth, pointWidth, numberWidth}
 
 -- ---- the contents

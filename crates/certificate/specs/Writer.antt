@@ -3,21 +3,14 @@ use mathlib.Core.List.{List, [], _∷_, _++_}
 use mathlib.Core.Path.{_≡_}
 use Prim.Native.Nat.{ℕ}
 use lib.ListN.{length, take, drop}
-use Rattle.slices.specs.Slices.{pointsOf}
+use Rattle.point_slices.specs.Slices.{pointsOf}
 use Rattle.formula.specs.declared.Formula.{Formula}
 use Rattle.formula.specs.Limits.{capacity}
 use Rattle.formula.specs.Problem.{Problem, problemOf}
 use Rattle.formula.specs.Refusals.{formulaFault, permutationFault, symmetryFault}
-use Rattle.formula.specs.Reply.{Reply, refused, written, Fault, first, unless, unlessKept}
+use Rattle.formula.specs.Reply.{Reply, written, Fault, first, unless, unlessKept}
 use Rattle.certificate.specs.Certificate.{encode, certificateLength, contentsOf, WellFormed, filePermutations, filePoints, fileNumbers}
 use Rattle.certificate.specs.Rows.{pointsFault, numbersFault, roomFault}
-use Rattle.certificate.specs.declared.Written.{Written}
-use Rattle.certificate.specs.declared.Written.the-variants.{Bytes, Refused}
-
--- F10: what the code's answer says in document 01's terms
-unfoldable pub replyOf : Written → Reply
-replyOf (Bytes size) = written size
-replyOf (Refused code place) = refused code place
 
 -- the length of the certificate of a problem and that many slots
 unfoldable pub lengthNeeded : Problem → ℕ → ℕ
@@ -55,11 +48,6 @@ writeOutput f positive negative points numbers depths count out =
     let pb = problemOf f positive negative in
     let new = certificateOf pb points numbers count ++ drop (lengthNeeded pb count) out in
     unlessKept (writeFault f positive negative points numbers depths count out) new out
-
--- G.a: what the writer promises: its reply, and the output as it returns
-pub record Wrote (f : Formula) (positive negative points numbers depths : List ℕ) (count : ℕ) (out : List ℕ) (r : Written) (after : List ℕ) : Type 0 where
-  pub reply : replyOf r ≡ writeReply f positive negative points numbers depths count out
-  pub output : after ≡ writeOutput f positive negative points numbers depths count out
 
 -- C5: "the reading of what the writer puts out is exactly the sheet's exchanges and the points and rule numbers of the slots given"
 pub record ReadsAs (pb : Problem) (points numbers : List ℕ) (file : List ℕ) : Type 0 where

@@ -1,15 +1,15 @@
 // Numbers in bytes: the fields of the contents and, F4, one function for each body, which takes that part of the file.
 use crate::Entry;
+use point_slices::put_point;
 use points::Point;
-use slices::put_point;
 ghost use mathlib.Core.Path.{_≡_};
 ghost use Prim.Native.Nat.{_+_, _*_, _^_, _≤_, _<_};
 ghost use lib.ListN.{length, getD, take, drop};
 ghost use Rattle.math.specs.Lists.{over};
-ghost use Rattle.slices.specs.Slices.{pointsOf};
+ghost use Rattle.point_slices.specs.Slices.{pointsOf};
 ghost use Rattle.certificate.specs.Bytes.{numberFrom, numbersIn, pointWidth, numberWidth, fieldWidth};
 ghost use Rattle.certificate.specs.Certificate.{numberAt};
-ghost use Rattle.certificate.specs.Reader.{valueOf, ImageRead, PointRead, NumberRead};
+ghost use Rattle.certificate.specs.Contract.{valueOf, ImageRead, PointRead, NumberRead};
 
 // C1: the number that at most eight bytes stand for, low byte first. One step a byte. Its callers hand in parts of 4 or 8 bytes.
 fn number_from(bytes: &[u8]) -> u64

@@ -1,18 +1,13 @@
-// The certificate (01: 'Certificate'): what its writer, its reader and the readers of its three bodies answer, and the reader itself.
+// The certificate (01: 'Certificate'): its bytes, the reader of files and of their three bodies, and what the writer
+// answers.
 use crate::bodies::field;
 ghost use mathlib.Core.Path.{_≡_};
 ghost use Prim.Native.Nat.{_≤_};
 ghost use lib.ListN.{length};
 ghost use Rattle.certificate.specs.Certificate.{contentsOf, fitting};
-ghost use Rattle.certificate.specs.Reader.{contentsIn, OpenedAs};
+ghost use Rattle.certificate.specs.Contract.{contentsIn, OpenedAs};
 
 pub mod bodies;
-
-// The writer: the certificate's length in bytes, or a refusal.
-pub enum Written {
-    Bytes(usize),
-    Refused { code: u32, place: usize },
-}
 
 // The contents of a file: n, m, then count and offset of each body.
 pub struct Contents {

@@ -10,18 +10,11 @@ use Rattle.formula.specs.declared.Formula.{Formula}
 use Rattle.formula.specs.Limits.{maxSlots}
 use Rattle.formula.specs.Problem.{problemOf}
 use Rattle.formula.specs.Refusals.{clausesFault, permutationFault, symmetryFault}
-use Rattle.formula.specs.Reply.{Reply, refused, accepted, Fault, sound, fault, first, unless}
+use Rattle.formula.specs.Reply.{Reply, accepted, Fault, sound, fault, first, unless}
 use Rattle.certificate.specs.Certificate.{contentsOf, WellFormed, filePermutations, filePoints, fileNumbers}
 use Rattle.certificate.specs.Rows.{fileFault, pointsFault, numbersFault}
-use Rattle.flips.specs.Flips.{flipsFault}
-use Rattle.stable.specs.Stable.{Stable}
-use Rattle.checker.specs.declared.Verdict.{Verdict}
-use Rattle.checker.specs.declared.Verdict.the-variants.{Accepted, Refused}
-
--- F10: what the code's answer says in document 01's terms
-unfoldable pub replyOf : Verdict → Reply
-replyOf Accepted = accepted
-replyOf (Refused code place) = refused code place
+use Rattle.check_flips.specs.Flips.{flipsFault}
+use Rattle.check_theory.specs.Stable.{Stable}
 
 -- n and m are those in the file's contents
 unfoldable pub sameSizes : ℕ → ℕ → List ℕ → Bool
@@ -64,7 +57,3 @@ pub record Accepts (f : Formula) (positive negative file : List ℕ) : Type 0 wh
   pub sameVariables : contentsOf file .variables ≡ problemOf f positive negative .variables
   pub sameTotal : contentsOf file .clauses ≡ problemOf f positive negative .total
   pub stable : Stable (problemOf f positive negative .variables) (problemOf f positive negative .clauses) (filePermutations file) (filePoints file) (fileNumbers file)
-
--- G.a: what the checker promises
-pub record CheckedAs (f : Formula) (positive negative file : List ℕ) (r : Verdict) : Type 0 where
-  pub reply : replyOf r ≡ checkReply f positive negative file

@@ -1,7 +1,4 @@
 -- The checker's reply, that it accepts exactly the stable sets, and that acceptance refutes the clauses; what its parts promise.
 pub mod Checker
-pub mod CheckerLaws
-pub mod Soundness
-pub mod Parts
-pub mod PartLaws
-pub mod Examples
+pub mod Contract
+pub mod Laws

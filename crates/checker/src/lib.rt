@@ -1,7 +1,7 @@
 // The checker (01: 'Checker'): whether a file is a certificate that no point satisfies the clauses.
 use certificate::Contents;
 use certificate::Opened;
-use entries::decoded_refusal;
+use check_entries::decoded_refusal;
 use formula::Checked;
 use formula::Formula;
 use formula::refusals::clauses_refusal;
@@ -9,12 +9,12 @@ use formula::refusals::permutations_refusal;
 use formula::refusals::symmetry_refusal;
 ghost use mathlib.Core.Path.{_≡_};
 ghost use Rattle.points.specs.Points.{numbered};
-ghost use Rattle.slices.specs.Slices.{clausesOf};
+ghost use Rattle.point_slices.specs.Slices.{clausesOf};
 ghost use Rattle.formula.specs.Refusals.{Fits, faultOf};
 ghost use Rattle.formula.specs.Reply.{accepted, unless};
 ghost use Rattle.certificate.specs.Certificate.{filePermutations, filePoints, fileNumbers};
-ghost use Rattle.checker.specs.Checker.{replyOf, CheckedAs};
-ghost use Rattle.checker.specs.Parts.{bodiesFault, fileRows, Readable};
+ghost use Rattle.checker.specs.Contract.{replyOf, CheckedAs};
+ghost use Rattle.checker.specs.Laws.Parts.{bodiesFault, fileRows, Readable};
 
 // What the checker answers for a formula and a certificate.
 pub enum Verdict {

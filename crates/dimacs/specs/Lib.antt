@@ -1,3 +1,3 @@
--- What the reader promises (Contract), and the laws that its proof uses.
+-- What the reader promises (Contract), and the laws that its proofs use.
 pub mod Contract
-pub mod ReadLaws
+pub mod Laws

@@ -1,13 +1,8 @@
 -- What the exported functions take and tell.
-pub mod Builder
-pub mod BuilderLaws
-pub mod Reader
-pub mod ReaderLaws
-pub mod Writer
-pub mod WriterLaws
-pub mod Certificates
-pub mod CertificateLaws
+pub mod Searching
+pub mod Reading
+pub mod Writing
+pub mod Checking
 pub mod Solving
-pub mod SolvingLaws
-pub mod Nearest
-pub mod NearestLaws
+pub mod Printing
+pub mod Laws

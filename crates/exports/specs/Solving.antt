@@ -7,9 +7,10 @@ use lib.ListN.{length}
 use Rattle.math.specs.Lists.{over}
 use Rattle.claims.specs.Claim.{from-text}
 use Rattle.solver.specs.declared.Solution.{Solution}
-use Rattle.solver.specs.Solver.{slotsOf, blank, Solved}
-use Rattle.interface.specs.Words.{hasRoom}
-use Rattle.replies.specs.Replies.{solutionWords}
+use Rattle.solver.specs.Solver.{slotsOf, blank}
+use Rattle.solver.specs.Contract.{Solved}
+use Rattle.export_words.specs.Words.{hasRoom}
+use Rattle.export_words.specs.Replies.{solutionWords}
 
 -- what the solver answered to a text: an answer of which its promises hold, and the reply in its words
 pub record Answered (text points₀ falsified₀ depths₀ out₀ reply₀ points₁ falsified₁ depths₁ out₁ reply₁ : List ℕ) : Type 0 where

@@ -1,7 +1,8 @@
-// The entry points for programs in other languages: a formula as numbers and slices, an answer as words in a lent slice.
-mod builder;
-mod certificates;
-mod nearest;
-mod reader;
+// The entry points for programs in other languages: a formula as numbers and slices, an answer as words in a lent
+// slice.
+mod checking;
+mod printing;
+mod reading;
+mod searching;
 mod solving;
 mod writing;

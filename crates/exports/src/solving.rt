@@ -1,6 +1,6 @@
 // The solver as an exported function.
-use interface::WORDS;
-use replies::put_solution;
+use export_words::WORDS;
+use export_words::put_solution;
 use solver::solve;
 ghost use Rattle.exports.specs.Solving.{SolveTold};
 

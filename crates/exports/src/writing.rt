@@ -1,10 +1,10 @@
 // The writer of certificates as an exported function.
-use interface::WORDS;
-use interface::formula_from;
-use replies::put_written;
-use writer::write;
-ghost use Rattle.interface.specs.Words.{formulaFrom};
-ghost use Rattle.exports.specs.Writer.{WriteTold};
+use certificate_writer::write;
+use export_words::WORDS;
+use export_words::formula_from;
+use export_words::put_written;
+ghost use Rattle.export_words.specs.Words.{formulaFrom};
+ghost use Rattle.exports.specs.Writing.{WriteTold};
 
 // The writer, its answer told in the first four words of `reply`. It returns 1; where `reply` has no room it returns 0 and changes nothing.
 #[no_mangle]

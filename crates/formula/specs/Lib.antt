@@ -2,8 +2,5 @@
 pub mod Limits
 pub mod Problem
 pub mod Reply
-pub mod ReplyLaws
 pub mod Refusals
-pub mod RefusalLaws
-pub mod Alike
-pub mod AlikeLaws
+pub mod Laws

@@ -4,8 +4,8 @@ use mathlib.Core.List.{List}
 use Prim.Native.Nat.{ℕ, _<_, _^_}
 use lib.ListN.{replicate}
 use Rattle.points.specs.Points.{Numbered, SatisfiesAll, numberedFrom, numbered}
-use Rattle.slices.specs.Slices.{clausesOf}
-use Rattle.permutations.specs.Permutations.{Permutation, permutationsIn}
+use Rattle.point_slices.specs.Slices.{clausesOf}
+use Rattle.permutation_theory.specs.Permutations.{Permutation, permutationsIn}
 use Rattle.formula.specs.declared.Formula.{Formula}
 
 -- n, m (the number of rules), the wish, the exchanges, and the rules with their numbers

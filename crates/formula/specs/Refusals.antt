@@ -7,7 +7,7 @@ use lib.Dec.{leb, ltb, eqb}
 use lib.ListN.{length}
 use Rattle.math.specs.Lists.{_∈_, all, firstFailing}
 use Rattle.points.specs.Points.{Numbered}
-use Rattle.permutations.specs.Permutations.{Permutation, isPermutation, keeps}
+use Rattle.permutation_theory.specs.Permutations.{Permutation, isPermutation, keeps}
 use Rattle.formula.specs.declared.Checked.{Checked}
 use Rattle.formula.specs.declared.Checked.the-variants.{Passed, Refused}
 use Rattle.formula.specs.declared.Formula.{Formula}

@@ -1,20 +1,20 @@
 // Refusals 10, 11 and 12: each a function that says which it is, and where.
 use crate::Checked;
 use crate::Formula;
-use images::is_permutation;
-use images::permutation_at;
-use slices::point_at;
-use slices::point_count;
-use symmetry::guesses::ENTRIES;
-use symmetry::guesses::make_guesses;
+use permutation_images::is_permutation;
+use permutation_images::permutation_at;
+use permutation_symmetry::guesses::ENTRIES;
+use permutation_symmetry::guesses::make_guesses;
+use point_slices::point_at;
+use point_slices::point_count;
 ghost use mathlib.Core.Path.{_≡_};
 ghost use Prim.Native.Nat.{_*_, _≤_};
 ghost use lib.ListN.{length};
 ghost use Rattle.math.specs.Lists.{firstFailing};
 ghost use Rattle.points.specs.Points.{numbered};
-ghost use Rattle.slices.specs.Slices.{pointsOf, clausesOf};
-ghost use Rattle.images.specs.Contracts.{Listed};
-ghost use Rattle.permutations.specs.Permutations.{isPermutation, keeps, permutationsIn};
+ghost use Rattle.point_slices.specs.Slices.{pointsOf, clausesOf};
+ghost use Rattle.permutation_images.specs.Laws.Contracts.{Listed};
+ghost use Rattle.permutation_theory.specs.Permutations.{isPermutation, keeps, permutationsIn};
 ghost use Rattle.formula.specs.Refusals.{allBelow, fits, clausesFault, formulaFault, permutationFault, symmetryFault, problemFault, faultOf};
 
 // Whether no number of the slice has a bit at n or above. One step a number.
@@ -138,7 +138,7 @@ fn first_non_symmetry(
     let mut at = 0;
     while at < end {
         let e = permutation_at(images, size, at);
-        let kept = symmetry::keeps(e, guesses, positive, negative);
+        let kept = permutation_symmetry::keeps(e, guesses, positive, negative);
         if !kept {
             return at + 1;
         }

@@ -1,10 +1,10 @@
 // The slots that lent slices give, for the search and for the writer of certificates.
 use crate::Formula;
-use slices::least;
-use slices::point_count;
+use point_slices::least;
+use point_slices::point_count;
 ghost use mathlib.Core.Path.{_≡_};
 ghost use lib.ListN.{length};
-ghost use Rattle.slices.specs.Slices.{pointsOf};
+ghost use Rattle.point_slices.specs.Slices.{pointsOf};
 ghost use Rattle.formula.specs.Limits.{capacity};
 
 // The shortest length of the three, and at most 65,536.

@@ -1,1 +1,1 @@
-// Laws of lists, bits and counting that know nothing of formulas: this crate has no code, its specs/ are cited by the others.
+// Lists, bits and counting, without any notion of formulas. No code: its specs/ are cited by the other crates.

@@ -1,5 +1,3 @@
 -- Points and clauses.
 pub mod Points
-pub mod Contracts
-pub mod PointLaws
-pub mod NextLaws
+pub mod Laws

@@ -1,11 +1,12 @@
-// Points and clauses: the leaf functions. Outside this crate no operator touches a point, but for the hash in `index::head_of`.
+// Points and clauses, with the leaf functions on them. Outside this crate no operator touches a point, but for the
+// hash in `point_index::head_of`.
 ghost use mathlib.Core.Path.{_≡_};
 ghost use Prim.Native.Nat.{_<_, _*_, _/_, _%_, _^_};
 ghost use lib.Bits.{bitOr, bitXor};
 ghost use lib.Dec.{eqb, ltb};
 ghost use Rattle.math.specs.Bits.{bit, flip};
 ghost use Rattle.points.specs.Points.{satisfies, distance, listed};
-ghost use Rattle.points.specs.Contracts.{NextVariable, clauseOf};
+ghost use Rattle.points.specs.Laws.Contracts.{NextVariable, clauseOf};
 
 // A point (01: choice), or a set of variables: bit i - 1 for variable i.
 pub type Point = u64;

@@ -1,17 +1,18 @@
-// The search (01: walk, builder): breadth first from the target, to the nearest satisfying point, a stable set, or the end of the room.
-use filling::Frame;
+// The search (01: walk, builder): breadth first from the target, to the nearest satisfying point, a stable set, or
+// the end of the room.
 use formula::Checked;
 use formula::Formula;
 use formula::refusals::problem_refusal;
 use formula::room::room;
 use points::Point;
-use steps::Answer;
+use search_expansion::Frame;
+use search_step::Answer;
 ghost use mathlib.Core.Path.{_≡_};
-ghost use Rattle.steps.specs.Stepping.{answerOf};
-ghost use Rattle.search.specs.Builder.{replyOf, Searched};
+ghost use Rattle.search_step.specs.Laws.Stepping.{answerOf};
+ghost use Rattle.search.specs.Contract.{replyOf, Searched};
 
 // A slot's depth: how many flips lie between the target and its point.
-pub type Depth = filling::Depth;
+pub type Depth = search_expansion::Depth;
 
 // What the search answers. Of an unknown result the bound is a number of variables: every satisfying point differs from the target in at
 // least so many.
@@ -91,6 +92,6 @@ pub fn search(
         room: lent,
         target: f.target,
     };
-    let answer = stages::start(g, &images, positive, negative, points, falsified, depths);
+    let answer = search_stages::start(g, &images, positive, negative, points, falsified, depths);
     as_outcome(answer)
 }

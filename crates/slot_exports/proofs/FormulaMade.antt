@@ -26,10 +26,10 @@ use denote.Triple.Statement.{Contract}
 use Rattle.formula.specs.declared.Formula.{Formula}
 use Rattle.formula.proofs.Formula as F
 use Rattle.formula.proofs.Formula.Laws as F′
-use Rattle.interface.specs.Words.{formulaFrom}
-use Rattle.interface.proofs.formula_from as formula-from
-use Rattle.lending.proofs.Lent.{at-list}
-use Rattle.lending.proofs.Called.{Does, asked, answered}
+use Rattle.export_words.specs.Words.{formulaFrom}
+use Rattle.export_words.proofs.formula_from as formula-from
+use Rattle.slot_proofs.proofs.Lent.{at-list}
+use Rattle.slot_proofs.proofs.Called.{Does, asked, answered}
 
 abbrev pub FormulaFrom : {M : Type 1} (𝓤 : URA M) (H : Heap 𝓤) (A : Atoms 𝓤) (mem : Memory → SProp 𝓤) (run : Routine → Fun 𝓤) → Contract 𝓤
 FormulaFrom 𝓤 H A mem run = Does 𝓤 H A formula-from.ended (formula-from.clauses 𝓤 H A mem run)

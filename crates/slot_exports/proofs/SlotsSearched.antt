@@ -25,15 +25,15 @@ use denote.Triple.Statement.{Contract}
 use Rattle.formula.specs.declared.Formula.{Formula}
 use Rattle.formula.proofs.Formula as F
 use Rattle.search.specs.declared.Outcome.{Outcome}
-use Rattle.search.specs.Builder.{Searched}
+use Rattle.search.specs.Contract.{Searched}
 use Rattle.search.proofs.Outcome as O
 use Rattle.search.proofs.Outcome.Laws as O′
-use Rattle.columns.specs.declared.Slot.{Slot}
-use Rattle.columns.specs.Slots.{pointsIn, falsifiedIn, depthsIn}
-use Rattle.columns.proofs.Row.{R}
-use Rattle.slots.proofs.search_slots as search-slots
-use Rattle.lending.proofs.Lent.{at-list}
-use Rattle.lending.proofs.Called.{Does, asked, answered}
+use Rattle.slot_columns.specs.declared.Slot.{Slot}
+use Rattle.slot_columns.specs.Slots.{pointsIn, falsifiedIn, depthsIn}
+use Rattle.slot_columns.proofs.Row.{R}
+use Rattle.slot_search.proofs.search_slots as search-slots
+use Rattle.slot_proofs.proofs.Lent.{at-list}
+use Rattle.slot_proofs.proofs.Called.{Does, asked, answered}
 
 abbrev pub SearchSlots : {M : Type 1} (𝓤 : URA M) (H : Heap 𝓤) (A : Atoms 𝓤) (mem : Memory → SProp 𝓤) (run : Routine → Fun 𝓤) → Contract 𝓤
 SearchSlots 𝓤 H A mem run = Does 𝓤 H A search-slots.ended (search-slots.clauses 𝓤 H A mem run)

@@ -25,16 +25,16 @@ use denote.Steps.{owned, nothing, heard, peeks}
 use denote.Triple.Statement.{Contract}
 use Rattle.formula.specs.declared.Formula.{Formula}
 use Rattle.formula.proofs.Formula as F
-use Rattle.certificate.specs.declared.Written.{Written}
-use Rattle.certificate.specs.Writer.{Wrote}
-use Rattle.certificate.proofs.Written as O
-use Rattle.certificate.proofs.Written.Laws as O′
-use Rattle.columns.specs.declared.Slot.{Slot}
-use Rattle.columns.specs.Slots.{pointsIn, falsifiedIn, depthsIn}
-use Rattle.columns.proofs.Row.{R}
+use Rattle.certificate_writer.specs.declared.Written.{Written}
+use Rattle.certificate_writer.specs.Contract.{Wrote}
+use Rattle.certificate_writer.proofs.Written as O
+use Rattle.certificate_writer.proofs.Written.Laws as O′
+use Rattle.slot_columns.specs.declared.Slot.{Slot}
+use Rattle.slot_columns.specs.Slots.{pointsIn, falsifiedIn, depthsIn}
+use Rattle.slot_columns.proofs.Row.{R}
 use Rattle.slot_writer.proofs.write_slots as write-slots
-use Rattle.lending.proofs.Lent.{at-list}
-use Rattle.lending.proofs.Called.{Does, asked, answered}
+use Rattle.slot_proofs.proofs.Lent.{at-list}
+use Rattle.slot_proofs.proofs.Called.{Does, asked, answered}
 
 abbrev pub WriteSlots : {M : Type 1} (𝓤 : URA M) (H : Heap 𝓤) (A : Atoms 𝓤) (mem : Memory → SProp 𝓤) (run : Routine → Fun 𝓤) → Contract 𝓤
 WriteSlots 𝓤 H A mem run = Does 𝓤 H A write-slots.ended (write-slots.clauses 𝓤 H A mem run)

@@ -24,8 +24,8 @@ use denote.Steps.{nothing, heard}
 use denote.Triple.Clauses.{Clauses, Ended}
 use denote.Triple.Statement.{Contract}
 use Rattle.math.specs.Lists.{over}
-use Rattle.lending.proofs.Lent.{at-list}
-use Rattle.lending.proofs.Called.{Does, asked, answered}
+use Rattle.slot_proofs.proofs.Lent.{at-list}
+use Rattle.slot_proofs.proofs.Called.{Does, asked, answered}
 
 module _ (E : RattleType) (told : E .Denot → List ℕ) where
   abbrev pub ended : Ended

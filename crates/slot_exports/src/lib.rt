@@ -1,15 +1,15 @@
-// The entry points over a slice of slots for programs in other languages.
-use columns::Slot;
-use interface::WORDS;
-use interface::formula_from;
-use replies::put_outcome;
-use replies::put_written;
+// The search and the writer over a slice of slots for programs in other languages.
+use export_words::WORDS;
+use export_words::formula_from;
+use export_words::put_outcome;
+use export_words::put_written;
+use slot_columns::Slot;
+use slot_search::search_slots;
 use slot_writer::write_slots;
-use slots::search_slots;
-ghost use Rattle.columns.specs.Slots.{pointsIn, falsifiedIn, depthsIn};
-ghost use Rattle.exports.specs.Builder.{SearchTold};
-ghost use Rattle.exports.specs.Writer.{WriteTold};
-ghost use Rattle.interface.specs.Words.{formulaFrom};
+ghost use Rattle.slot_columns.specs.Slots.{pointsIn, falsifiedIn, depthsIn};
+ghost use Rattle.exports.specs.Searching.{SearchTold};
+ghost use Rattle.exports.specs.Writing.{WriteTold};
+ghost use Rattle.export_words.specs.Words.{formulaFrom};
 
 // The search over a slice of slots, its answer told in the first four words of `reply`. It returns 1; where `reply` has no room it returns 0 and changes nothing.
 #[no_mangle]

@@ -29,14 +29,14 @@ use denote.Triple.Statement.{Contract}
 use Rattle.formula.specs.declared.Formula.{Formula}
 use Rattle.formula.proofs.Formula as F
 use Rattle.formula.proofs.Formula.Laws as F′
-use Rattle.certificate.specs.declared.Written.{Written}
-use Rattle.certificate.specs.Writer.{Wrote}
-use Rattle.certificate.proofs.Written as O
-use Rattle.certificate.proofs.Written.Laws as O′
-use Rattle.columns.specs.Slots.{Within}
-use Rattle.lending.proofs.Called.{Does, asked, answered}
-use Rattle.lending.proofs.Spelled.{formula-val}
-use Rattle.fronts.proofs.write_front as write-front
+use Rattle.certificate_writer.specs.declared.Written.{Written}
+use Rattle.certificate_writer.specs.Contract.{Wrote}
+use Rattle.certificate_writer.proofs.Written as O
+use Rattle.certificate_writer.proofs.Written.Laws as O′
+use Rattle.slot_columns.specs.Slots.{Within}
+use Rattle.slot_proofs.proofs.Called.{Does, asked, answered}
+use Rattle.slot_proofs.proofs.Spelled.{formula-val}
+use Rattle.slot_prefixes.proofs.write_front as write-front
 
 abbrev pub WriteFront : {M : Type 1} (𝓤 : URA M) (H : Heap 𝓤) (A : Atoms 𝓤) (mem : Memory → SProp 𝓤) (run : Routine → Fun 𝓤) → Contract 𝓤
 WriteFront 𝓤 H A mem run = Does 𝓤 H A write-front.ended (write-front.clauses 𝓤 H A mem run)

@@ -1,1 +1,1 @@
-pub mod WriteLaws
+pub mod Laws

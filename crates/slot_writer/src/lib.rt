@@ -1,14 +1,14 @@
-// F9: the slots as one lent slice of structs (01: 'Walk'): a thin function over the writer, which takes three slices.
-use certificate::Written;
-use columns::Slot;
-use columns::copy_out;
+// The writer with the slots in one lent slice of structs (F9), a thin function over the writer on three slices.
+use certificate_writer::Written;
 use formula::Formula;
-use fronts::write_front;
-use slices::least;
-ghost use Rattle.certificate.specs.Writer.{Wrote};
-ghost use Rattle.columns.specs.Slots.{pointsIn, falsifiedIn, depthsIn};
+use point_slices::least;
+use slot_columns::Slot;
+use slot_columns::copy_out;
+use slot_prefixes::write_front;
+ghost use Rattle.certificate_writer.specs.Contract.{Wrote};
+ghost use Rattle.slot_columns.specs.Slots.{pointsIn, falsifiedIn, depthsIn};
 
-// D2.4: writes the certificate of the formula and of the first `count` slots of one lent slice, by the definition of `writer::write`.
+// D2.4: writes the certificate of the formula and of the first `count` slots of one lent slice, by the definition of `certificate_writer::write`.
 pub fn write_slots(
     f: Formula,
     positive: &[u64],

@@ -1,7 +1,7 @@
-// The solver: reading, searching, writing and checking in one call. Its contract has demand 3's sentences about what it returns.
-use answer::Parse;
-use certificate::Written;
+// Reader, search, writer and checker in one call. Its contract has demand 3's sentences about what it returns.
+use certificate_writer::Written;
 use checker::Verdict;
+use dimacs_lines::Parse;
 use formula::Formula;
 use points::Point;
 use search::Outcome;
@@ -11,8 +11,9 @@ ghost use lib.ListN.{length, take};
 ghost use Rattle.formula.specs.Reply.{accepted};
 ghost use Rattle.checker.specs.Checker.{checkReply};
 ghost use Rattle.claims.specs.Claim.{from-text, by-value};
-ghost use Rattle.solver.specs.Solver.{slotsOf, blank, Solved};
-ghost use Rattle.solver.specs.Steps.{Refuted, Certifies, unsatisfiableWith};
+ghost use Rattle.solver.specs.Solver.{slotsOf, blank};
+ghost use Rattle.solver.specs.Contract.{Solved};
+ghost use Rattle.solver.specs.Laws.Steps.{Refuted, Certifies, unsatisfiableWith};
 
 // What the solver answers. A certificate is `size` bytes at the front of the output, written and checked; where the output has no room for
 // the bytes needed, nothing is put there.
@@ -73,7 +74,7 @@ fn certify(
     requires { ⌜ Refuted f (now positive) (now negative) (now points) (now falsified) (now depths) filled ⌝ }
     ensures { λ r. ⌜ Certifies f (now (positive .entry)) (now (negative .entry)) (now (points .entry)) (now (falsified .entry)) (now (depths .entry)) filled (now (out .entry)) r (now (out .exit)) ⌝ }
 {
-    let written = writer::write(
+    let written = certificate_writer::write(
         f,
         positive,
         negative,

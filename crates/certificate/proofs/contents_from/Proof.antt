@@ -1,7 +1,7 @@
 -- `certificate::contents_from` meets its contract, field by field. Assumes nothing.
 use borrow.Author.Needs.{needs}
 use Rattle.certificate.specs.Certificate.{contentsOf}
-use Rattle.certificate.specs.Reader.{contentsIn}
+use Rattle.certificate.specs.Contract.{contentsIn}
 use Rattle.certificate.proofs.contents_from.Statement.{statement}
 use Rattle.certificate.proofs.contents_from.Tie as tie
 

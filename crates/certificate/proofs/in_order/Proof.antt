@@ -6,10 +6,10 @@ use native.Mathlib.Omega.{arith}
 use lib.Dec.{eqb}
 use borrow.Author.Needs.{needs}
 use borrow.Author.Tests.{eqb-true, eq-eqb}
-use Rattle.math.specs.ListLaws.{same-tests}
+use Rattle.math.specs.Laws.ListLaws.{same-tests}
 use Rattle.certificate.specs.Certificate.{fitting}
-use Rattle.certificate.specs.CertificateLaws.{Fitting, not-fitting, fitting-sound, fitting-complete}
-use Rattle.certificate.specs.Reader.{contentsIn}
+use Rattle.certificate.specs.Laws.CertificateLaws.{Fitting, not-fitting, fitting-sound, fitting-complete}
+use Rattle.certificate.specs.Contract.{contentsIn}
 use Rattle.certificate.proofs.in_order.Statement.{statement}
 use Rattle.certificate.proofs.in_order.Tie as tie
 

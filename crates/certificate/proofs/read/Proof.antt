@@ -3,8 +3,8 @@ use mathlib.Core.Path.{sym, ap, _∙_}
 use lib.ListN.{length}
 use borrow.Author.Needs.{needs}
 use Rattle.certificate.specs.Certificate.{FileContents, fitting}
-use Rattle.certificate.specs.CertificateLaws.{short-file, long-file}
-use Rattle.certificate.specs.ReaderLaws.{opens, refuses}
+use Rattle.certificate.specs.Laws.CertificateLaws.{short-file, long-file}
+use Rattle.certificate.specs.Laws.ReaderLaws.{opens, refuses}
 use Rattle.certificate.proofs.read.Statement.{statement}
 use Rattle.certificate.proofs.read.Tie as tie
 

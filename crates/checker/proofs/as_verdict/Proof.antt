@@ -4,7 +4,7 @@ use borrow.Author.Needs.{needs}
 use Rattle.formula.specs.declared.Checked.{Checked}
 use Rattle.formula.specs.Refusals.{faultOf}
 use Rattle.formula.specs.Reply.{accepted, unless}
-use Rattle.checker.specs.Checker.{replyOf}
+use Rattle.checker.specs.Contract.{replyOf}
 use Rattle.checker.proofs.as_verdict.Statement.{statement}
 use Rattle.checker.proofs.as_verdict.Tie as tie
 

@@ -5,12 +5,12 @@ use native.Mathlib.Omega.{arith}
 use lib.ListN.{take, drop}
 use borrow.Author.Needs.{needs}
 use Rattle.points.specs.Points.{numbered}
-use Rattle.slices.specs.Slices.{clausesOf}
-use Rattle.permutations.specs.Permutations.{permutationsIn}
+use Rattle.point_slices.specs.Slices.{clausesOf}
+use Rattle.permutation_theory.specs.Permutations.{permutationsIn}
 use Rattle.formula.specs.Refusals.{permutationFault, symmetryFault, faultOf}
 use Rattle.formula.specs.Reply.{sound}
-use Rattle.formula.specs.ReplyLaws.{IsFault}
-use Rattle.checker.specs.PartLaws.{Laid, laid, images-listed, images-proper, stops-11, stops-12, too-many-points, ends-decoded}
+use Rattle.formula.specs.Laws.ReplyLaws.{IsFault}
+use Rattle.checker.specs.Laws.PartLaws.{Laid, laid, images-listed, images-proper, stops-11, stops-12, too-many-points, ends-decoded}
 use Rattle.checker.proofs.bodies_refusal.Statement.{statement}
 use Rattle.checker.proofs.bodies_refusal.Tie as tie
 

@@ -3,8 +3,8 @@ use mathlib.Core.Path.{_≡_, sym, ap, _∙_, subst}
 use borrow.Author.Needs.{needs}
 use Rattle.formula.specs.Refusals.{clausesFault, faultOf}
 use Rattle.formula.specs.Reply.{sound}
-use Rattle.formula.specs.ReplyLaws.{IsFault}
-use Rattle.checker.specs.PartLaws.{stops-10, ends-file, clauses-fit}
+use Rattle.formula.specs.Laws.ReplyLaws.{IsFault}
+use Rattle.checker.specs.Laws.PartLaws.{stops-10, ends-file, clauses-fit}
 use Rattle.checker.proofs.check.Statement.{statement}
 use Rattle.checker.proofs.check.Tie as tie
 

@@ -4,8 +4,8 @@ use mathlib.Core.Path.{_≡_, sym, ap, _∙_}
 use borrow.Author.Needs.{needs}
 use Rattle.formula.specs.Refusals.{faultOf}
 use Rattle.certificate.specs.Certificate.{contentsOf, wellFormed}
-use Rattle.certificate.specs.Reader.{replyOf, contentsIn, handedOut}
-use Rattle.checker.specs.PartLaws.{stops-14, other-variables, other-clauses, ends-bodies, readable, opened-file}
+use Rattle.certificate.specs.Contract.{replyOf, contentsIn, handedOut}
+use Rattle.checker.specs.Laws.PartLaws.{stops-14, other-variables, other-clauses, ends-bodies, readable, opened-file}
 use Rattle.checker.proofs.file_refusal.Statement.{statement}
 use Rattle.checker.proofs.file_refusal.Tie as tie
 

@@ -2,11 +2,11 @@
 use mathlib.Core.Path.{sym, ap, _∙_}
 use native.Mathlib.Omega.{arith}
 use borrow.Author.Needs.{needs}
-use Rattle.answer.specs.AnswerLaws.{answers-refused, answers-same}
-use Rattle.dimacs.specs.ReadLaws.{answers-read, text-long, text-absent, text-malformed, text-sized, problem-place}
-use Rattle.words.specs.declared.Class.the-variants.{Line}
-use Rattle.words.specs.Scans.{belongs, Stretch}
-use Rattle.preamble.specs.ProblemScans.{sizingOf}
+use Rattle.dimacs_lines.specs.Laws.AnswerLaws.{answers-refused, answers-same}
+use Rattle.dimacs.specs.Laws.ReadLaws.{answers-read, text-long, text-absent, text-malformed, text-sized, problem-place}
+use Rattle.dimacs_words.specs.declared.Class.the-variants.{Line}
+use Rattle.dimacs_words.specs.Laws.Scans.{belongs, Stretch}
+use Rattle.dimacs.specs.Laws.ProblemScans.{sizingOf}
 use Rattle.dimacs.proofs.read.Statement.{statement}
 use Rattle.dimacs.proofs.read.Tie as tie
 

@@ -1,6 +1,6 @@
 -- `nearest::respond` meets its contract: the text that was put lies within the output. Assumes nothing.
 use borrow.Author.Needs.{needs}
-use Rattle.report.specs.ReportLaws.{put-within}
+use Rattle.program_text.specs.Laws.ReportLaws.{put-within}
 use Rattle.nearest.proofs.respond.Statement.{statement}
 use Rattle.nearest.proofs.respond.Tie as tie
 

@@ -4,7 +4,7 @@ use native.Mathlib.Nat.{lt-of-lt-of-le}
 use lib.Pow.{pow-mono}
 use borrow.Author.Needs.{needs}
 use borrow.Author.Tests.{lt-ltb}
-use Rattle.math.specs.BitLaws.{shifted-out}
+use Rattle.math.specs.Laws.BitLaws.{shifted-out}
 use Rattle.points.proofs.below.Statement.{statement}
 use Rattle.points.proofs.below.Tie as tie
 

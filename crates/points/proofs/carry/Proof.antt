@@ -4,7 +4,7 @@ use Prim.Native.Nat.{ℕ}
 use lib.Bits.{bitOr}
 use lib.Pow.{shl-exact}
 use borrow.Author.Needs.{needs}
-use Rattle.math.specs.BitLaws.{digit-lt}
+use Rattle.math.specs.Laws.BitLaws.{digit-lt}
 use Rattle.points.proofs.carry.Statement.{statement}
 use Rattle.points.proofs.carry.Tie as tie
 

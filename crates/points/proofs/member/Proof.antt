@@ -1,7 +1,7 @@
 -- `points::member` meets its contract: past 63 a word has no digit. Assumes nothing.
 use mathlib.Core.Path.{refl, sym}
 use borrow.Author.Needs.{needs}
-use Rattle.math.specs.BitLaws.{bit-above}
+use Rattle.math.specs.Laws.BitLaws.{bit-above}
 use Rattle.math.specs.Bits.{bit}
 use Rattle.points.proofs.member.Statement.{statement}
 use Rattle.points.proofs.member.Tie as tie

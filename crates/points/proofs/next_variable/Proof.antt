@@ -1,7 +1,7 @@
 -- `points::next_variable` meets its contract: the trailing zeros of a set that is not empty are its lowest member. Assumes nothing.
 use mathlib.Core.Path.{ap, _∙_}
 use lib.Count.{trailingZeros, trailing-of-zero}
-use Rattle.math.specs.SetLaws.{trailing-lt, trailing-lowest}
+use Rattle.math.specs.Laws.SetLaws.{trailing-lt, trailing-lowest}
 use Rattle.points.proofs.next_variable.Statement.{statement}
 use Rattle.points.proofs.next_variable.Tie as tie
 

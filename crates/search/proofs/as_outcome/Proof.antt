@@ -1,6 +1,6 @@
 -- `search::as_outcome` meets its contract: each answer says the same as the outcome made of it. Assumes nothing.
 use mathlib.Core.Path.{sym, ap}
-use Rattle.steps.specs.Stepping.{answerOf}
+use Rattle.search_step.specs.Laws.Stepping.{answerOf}
 use borrow.Author.Needs.{needs}
 use Rattle.search.proofs.as_outcome.Statement.{statement}
 use Rattle.search.proofs.as_outcome.Tie as tie

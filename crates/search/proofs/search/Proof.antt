@@ -1,7 +1,7 @@
--- `search::search` meets its contract: a law of BuilderLaws for each way out. Assumes nothing.
+-- `search::search` meets its contract: a law of SearchLaws for each way out. Assumes nothing.
 use mathlib.Core.Path.{_≡_, refl, sym}
 use lib.ListN.{length}
-use Rattle.search.specs.BuilderLaws.{searched-faulty, searched-none-lent, startable-of, searched-of}
+use Rattle.search.specs.Laws.SearchLaws.{searched-faulty, searched-none-lent, startable-of, searched-of}
 use borrow.Author.Needs.{needs}
 use Rattle.search.proofs.search.Statement.{statement}
 use Rattle.search.proofs.search.Tie as tie

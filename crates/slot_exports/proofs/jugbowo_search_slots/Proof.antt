@@ -35,24 +35,24 @@ use denote.Triple.Table.{entered, cited}
 use denote.Triple.Walked.{says, Stays, stay-dropped, gave-slice, walkOf, goes-dropped, goes-gave-slice, Walks, ends-at, walked, walk-meets}
 use denote.Exit.{yes}
 use Rattle.search.proofs.Outcome as O
-use Rattle.search.specs.Builder.{replyOf}
-use Rattle.interface.specs.Words.{wordsOf, formulaFrom}
-use Rattle.interface.proofs.formula_from.Symbol as formula-from-def
-use Rattle.interface.proofs.formula_from.Symbol.{name as #interface·formula-from}
-use Rattle.interface.proofs.formula_from.Met as formula-from-thm
-use Rattle.replies.proofs.put_outcome.Symbol as put-outcome-def
-use Rattle.replies.proofs.put_outcome.Symbol.{name as #replies·put-outcome}
-use Rattle.replies.proofs.put_outcome.Met as put-outcome-thm
-use Rattle.slots.proofs.search_slots.Symbol as search-slots-def
-use Rattle.slots.proofs.search_slots.Symbol.{name as #slots·search-slots}
-use Rattle.slots.proofs.search_slots.Met as search-slots-thm
-use Rattle.columns.specs.declared.Slot.{Slot}
-use Rattle.columns.specs.Slots.{pointsIn, falsifiedIn, depthsIn}
-use Rattle.columns.proofs.Row.{R}
-use Rattle.exports.specs.Builder.{SearchTold}
-use Rattle.exports.specs.BuilderLaws.{tells-nothing, tells-search}
-use Rattle.lending.proofs.Lent.{at-list}
-use Rattle.lending.proofs.Called.{given-up, free-all, placed}
+use Rattle.search.specs.Contract.{replyOf}
+use Rattle.export_words.specs.Words.{wordsOf, formulaFrom}
+use Rattle.export_words.proofs.formula_from.Symbol as formula-from-def
+use Rattle.export_words.proofs.formula_from.Symbol.{name as #export-words·formula-from}
+use Rattle.export_words.proofs.formula_from.Met as formula-from-thm
+use Rattle.export_words.proofs.put_outcome.Symbol as put-outcome-def
+use Rattle.export_words.proofs.put_outcome.Symbol.{name as #export-words·put-outcome}
+use Rattle.export_words.proofs.put_outcome.Met as put-outcome-thm
+use Rattle.slot_search.proofs.search_slots.Symbol as search-slots-def
+use Rattle.slot_search.proofs.search_slots.Symbol.{name as #slot-search·search-slots}
+use Rattle.slot_search.proofs.search_slots.Met as search-slots-thm
+use Rattle.slot_columns.specs.declared.Slot.{Slot}
+use Rattle.slot_columns.specs.Slots.{pointsIn, falsifiedIn, depthsIn}
+use Rattle.slot_columns.proofs.Row.{R}
+use Rattle.exports.specs.Searching.{SearchTold}
+use Rattle.exports.specs.Laws.SearchingLaws.{tells-nothing, tells-search}
+use Rattle.slot_proofs.proofs.Lent.{at-list}
+use Rattle.slot_proofs.proofs.Called.{given-up, free-all, placed}
 use Rattle.slot_exports.proofs.FormulaMade as Made
 use Rattle.slot_exports.proofs.FormulaMade.{FormulaFrom}
 use Rattle.slot_exports.proofs.SlotsSearched as Done
@@ -122,8 +122,8 @@ module _ {M : Type 1} (𝓤 : URA M) (H : Heap 𝓤) (A : Atoms 𝓤) (W : Given
       owned ! u32 (Is u32) (uint-makes 𝓤 H A W w32) n (vint w32 n ∷ []) (refl, gn) $ done !
 
   module _ (gv : v < 2 ^ 32) (gc : c < 2 ^ 32) (gg : g < 2 ^ 64) (gp : p < 2 ^ 32) (room₀ : Room u8 (length is)) (room₁ : Room u64 (length us)) (room₂ : Room u64 (length vs)) (room : Room R (length ys)) (room₄ : Room u64 (length ws)) where
-    module _ (C : Calls 𝓤 H) (Λ : Loops 𝓤 H) (fm : FmC 𝓤 H (W .laws) C) (known₀ : Triple 𝓤 (C #interface·formula-from) (FormulaFrom 𝓤 H A mem run)) (known₁ : Triple 𝓤 (C #slots·search-slots) (SearchSlots 𝓤 H A mem run))
-        (known₂ : Triple 𝓤 (C #replies·put-outcome) (PutWords O.the-row words 𝓤 H A)) where
+    module _ (C : Calls 𝓤 H) (Λ : Loops 𝓤 H) (fm : FmC 𝓤 H (W .laws) C) (known₀ : Triple 𝓤 (C #export-words·formula-from) (FormulaFrom 𝓤 H A mem run)) (known₁ : Triple 𝓤 (C #slot-search·search-slots) (SearchSlots 𝓤 H A mem run))
+        (known₂ : Triple 𝓤 (C #export-words·put-outcome) (PutWords O.the-row words 𝓤 H A)) where
       walk : ent 𝓤 (onEntry 𝓤 H A this.signature (bound .0 .0) (bound .0 .1) (bound .0 .3) (bound .0 .4)) (WpFn 𝓤 H C Λ code.function args Post)
       walk =
           qed W ((‵ (flft κ₀ q₀) ⊛ (‵ (flft κ₁ q₁) ⊛ (‵ (flft κ₂ q₂) ⊛ (‵ (flft κ₃ q₃) ⊛ (‵ (flft κ₄ q₄) ⊛ ‵ ftrue)))))
@@ -173,8 +173,8 @@ module _ {M : Type 1} (𝓤 : URA M) (H : Heap 𝓤) (A : Atoms 𝓤) (W : Given
           keep ! (6 ∷ 3 ∷ 4 ∷ 5 ∷ 1 ∷ 2 ∷ 0 ∷ []) $
           by ! (exits 1 (lit< tt) zs ws′ e₁ e₂ (tells-search (formulaFrom v c g p is) us vs (pointsIn ys) (falsifiedIn ys) (depthsIn ys) ws f r (pointsIn zs) (falsifiedIn zs) (depthsIn zs) ws′ (nltb→le (length ws) 4 large) same told put)))))))))))))))))))))))))))))
 
-module _ {M : Type 1} (𝓤 : URA M) (H : Heap 𝓤) (A : Atoms 𝓤) (W : Given 𝓤 H A) (mem : Memory → SProp 𝓤) (run : Routine → Fun 𝓤) (𝓣 : Tables 𝓤 H) (known₀ : Triple 𝓤 (𝓣 .C #interface·formula-from) (FormulaFrom 𝓤 H A mem run))
-    (known₁ : Triple 𝓤 (𝓣 .C #slots·search-slots) (SearchSlots 𝓤 H A mem run)) (known₂ : Triple 𝓤 (𝓣 .C #replies·put-outcome) (PutWords O.the-row words 𝓤 H A)) where
+module _ {M : Type 1} (𝓤 : URA M) (H : Heap 𝓤) (A : Atoms 𝓤) (W : Given 𝓤 H A) (mem : Memory → SProp 𝓤) (run : Routine → Fun 𝓤) (𝓣 : Tables 𝓤 H) (known₀ : Triple 𝓤 (𝓣 .C #export-words·formula-from) (FormulaFrom 𝓤 H A mem run))
+    (known₁ : Triple 𝓤 (𝓣 .C #slot-search·search-slots) (SearchSlots 𝓤 H A mem run)) (known₂ : Triple 𝓤 (𝓣 .C #export-words·put-outcome) (PutWords O.the-row words 𝓤 H A)) where
   walks : Walks 𝓤 H A this.ended stayed (WpFn 𝓤 H (𝓣 .C) (𝓣 .Λ) code.function) (this.clauses 𝓤 H A mem run)
   walks = walked 𝓤 H A this.ended stayed (this.clauses 𝓤 H A mem run) (WpFn 𝓤 H (𝓣 .C) (𝓣 .Λ) code.function) (λ κs. (uint-vals w32, (uint-vals w32, (uint-vals w64, (uint-vals w32, (slice-vals, (slice-vals, (slice-vals, (slice-vals, (slice-vals, tt))))))))))
       (λ κs. (uint-tells w32, (uint-tells w32, (uint-tells w64, (uint-tells w32, (shr-slice-tells (named 0) (κs .0) u8, (shr-slice-tells (named 1) (κs .1 .0) u64, (shr-slice-tells (named 2) (κs .1 .1 .0) u64, (mut-slice-tells (named 3) (κs .1 .1 .1 .0) R, (mut-slice-tells (named 4) (κs .1 .1 .1 .1 .0) u64, tt))))))))))
@@ -218,6 +218,6 @@ jugbowo-search-slots-spec 𝓤 H 𝓜 𝓖 𝓡 =
     entered 𝓤 H (tripleOf 𝓤 H (𝓖 .A) this.signature (this.spec 𝓤 H (𝓖 .A) (𝓜 .mem) (𝓡 .run)))
     (tables 𝓤 H 𝓜 𝓡 code.env .C) (tables 𝓤 H 𝓜 𝓡 code.env .Λ) #slot-exports·jugbowo-search-slots code.function (code.unfolded 𝓤 H 𝓜 𝓡)
     (meets 𝓤 H (𝓖 .A) (givenOf 𝓤 H 𝓜 𝓖) (𝓜 .mem) (𝓡 .run) (tablesOf 𝓤 H 𝓜 (tables 𝓤 H 𝓜 𝓡 code.env))
-    (cited 𝓤 H (FormulaFrom 𝓤 H (𝓖 .A) (𝓜 .mem) (𝓡 .run)) 𝓜 𝓡 code.env #interface·formula-from formula-from-def.routine code.calls-interface·formula-from (formula-from-thm.met 𝓤 H 𝓜 𝓖 𝓡))
-    (cited 𝓤 H (SearchSlots 𝓤 H (𝓖 .A) (𝓜 .mem) (𝓡 .run)) 𝓜 𝓡 code.env #slots·search-slots search-slots-def.routine code.calls-slots·search-slots (search-slots-thm.met 𝓤 H 𝓜 𝓖 𝓡))
-    (cited 𝓤 H (PutWords O.the-row words 𝓤 H (𝓖 .A)) 𝓜 𝓡 code.env #replies·put-outcome put-outcome-def.routine code.calls-replies·put-outcome (put-outcome-thm.met 𝓤 H 𝓜 𝓖 𝓡)))
+    (cited 𝓤 H (FormulaFrom 𝓤 H (𝓖 .A) (𝓜 .mem) (𝓡 .run)) 𝓜 𝓡 code.env #export-words·formula-from formula-from-def.routine code.calls-export-words·formula-from (formula-from-thm.met 𝓤 H 𝓜 𝓖 𝓡))
+    (cited 𝓤 H (SearchSlots 𝓤 H (𝓖 .A) (𝓜 .mem) (𝓡 .run)) 𝓜 𝓡 code.env #slot-search·search-slots search-slots-def.routine code.calls-slot-search·search-slots (search-slots-thm.met 𝓤 H 𝓜 𝓖 𝓡))
+    (cited 𝓤 H (PutWords O.the-row words 𝓤 H (𝓖 .A)) 𝓜 𝓡 code.env #export-words·put-outcome put-outcome-def.routine code.calls-export-words·put-outcome (put-outcome-thm.met 𝓤 H 𝓜 𝓖 𝓡)))

@@ -43,32 +43,32 @@ use denote.Exit.{yes}
 use Rattle.formula.specs.declared.Formula.{Formula}
 use Rattle.formula.proofs.Formula as F
 use Rattle.formula.proofs.Formula.Laws as F′
-use Rattle.certificate.specs.declared.Written.{Written}
-use Rattle.certificate.specs.Writer.{Wrote}
-use Rattle.certificate.proofs.Written as O
-use Rattle.slices.proofs.least.Symbol as least-def
-use Rattle.slices.proofs.least.Symbol.{name as #slices·least}
-use Rattle.slices.proofs.least.Met as least-thm
-use Rattle.columns.specs.declared.Slot.{Slot}
-use Rattle.columns.specs.Slots.{pointsIn, falsifiedIn, depthsIn}
-use Rattle.slot_writer.specs.WriteLaws.{wrote-whole}
-use Rattle.lending.proofs.Places.{k, gk, P, N, D, long₁, long₂, long₃, fits-in, fronts-in}
-use Rattle.columns.proofs.Row.{R, mut-again}
-use Rattle.lending.proofs.Called.{free-all, placed}
-use Rattle.lending.proofs.Lent.{lend, unlend, share, unshare, zeros-typed, abstracted, emptied, big-lit, room64, room32}
-use Rattle.lending.proofs.LeastCalled as Count
-use Rattle.lending.proofs.LeastCalled.{Least}
-use Rattle.columns.proofs.CopiedOut as Out
-use Rattle.columns.proofs.CopiedOut.{CopyOut}
-use Rattle.lending.proofs.Spelled.{formula-val, formula-typed}
+use Rattle.certificate_writer.specs.declared.Written.{Written}
+use Rattle.certificate_writer.specs.Contract.{Wrote}
+use Rattle.certificate_writer.proofs.Written as O
+use Rattle.point_slices.proofs.least.Symbol as least-def
+use Rattle.point_slices.proofs.least.Symbol.{name as #point-slices·least}
+use Rattle.point_slices.proofs.least.Met as least-thm
+use Rattle.slot_columns.specs.declared.Slot.{Slot}
+use Rattle.slot_columns.specs.Slots.{pointsIn, falsifiedIn, depthsIn}
+use Rattle.slot_writer.specs.Laws.WriteLaws.{wrote-whole}
+use Rattle.slot_proofs.proofs.Places.{k, gk, P, N, D, long₁, long₂, long₃, fits-in, fronts-in}
+use Rattle.slot_columns.proofs.Row.{R, mut-again}
+use Rattle.slot_proofs.proofs.Called.{free-all, placed}
+use Rattle.slot_proofs.proofs.Lent.{lend, unlend, share, unshare, zeros-typed, abstracted, emptied, big-lit, room64, room32}
+use Rattle.slot_proofs.proofs.LeastCalled as Count
+use Rattle.slot_proofs.proofs.LeastCalled.{Least}
+use Rattle.slot_columns.proofs.CopiedOut as Out
+use Rattle.slot_columns.proofs.CopiedOut.{CopyOut}
+use Rattle.slot_proofs.proofs.Spelled.{formula-val, formula-typed}
 use Rattle.slot_writer.proofs.WrittenFront as Front
 use Rattle.slot_writer.proofs.WrittenFront.{WriteFront, written-typed}
-use Rattle.columns.proofs.copy_out.Symbol as copy-out-def
-use Rattle.columns.proofs.copy_out.Symbol.{name as #columns·copy-out}
-use Rattle.columns.proofs.copy_out.Met as copy-out-thm
-use Rattle.fronts.proofs.write_front.Symbol as write-front-def
-use Rattle.fronts.proofs.write_front.Symbol.{name as #fronts·write-front}
-use Rattle.fronts.proofs.write_front.Met as write-front-thm
+use Rattle.slot_columns.proofs.copy_out.Symbol as copy-out-def
+use Rattle.slot_columns.proofs.copy_out.Symbol.{name as #slot-columns·copy-out}
+use Rattle.slot_columns.proofs.copy_out.Met as copy-out-thm
+use Rattle.slot_prefixes.proofs.write_front.Symbol as write-front-def
+use Rattle.slot_prefixes.proofs.write_front.Symbol.{name as #slot-prefixes·write-front}
+use Rattle.slot_prefixes.proofs.write_front.Met as write-front-thm
 use Rattle.slot_writer.proofs.write_slots.Key.{name as #slot-writer·write-slots}
 use Rattle.slot_writer.proofs.write_slots as this
 use Rattle.slot_writer.proofs.write_slots.Statement as stated
@@ -116,8 +116,8 @@ module _ {M : Type 1} (𝓤 : URA M) (H : Heap 𝓤) (A : Atoms 𝓤) (W : Given
         move ! (3 ∷ 0 ∷ []) $ fjoin ! $ move ! (2 ∷ 0 ∷ []) $ fjoin ! $ move ! (1 ∷ 0 ∷ []) $ fjoin ! $
         owned ! F.the-row (Is F.the-row) (LL.makes F.the-type F′.the-plain 𝓤 H A) f (formula-val f ∷ []) gf $ fjoin ! $ frame ! $ done !
 
-    module _ (C : Calls 𝓤 H) (Λ : Loops 𝓤 H) (fm : FmC 𝓤 H (W .laws) C) (known₀ : Triple 𝓤 (C #slices·least) (Least 𝓤 H A mem run)) (known₁ : Triple 𝓤 (C #columns·copy-out) (CopyOut 𝓤 H A mem run))
-        (known₂ : Triple 𝓤 (C #fronts·write-front) (WriteFront 𝓤 H A mem run)) where
+    module _ (C : Calls 𝓤 H) (Λ : Loops 𝓤 H) (fm : FmC 𝓤 H (W .laws) C) (known₀ : Triple 𝓤 (C #point-slices·least) (Least 𝓤 H A mem run)) (known₁ : Triple 𝓤 (C #slot-columns·copy-out) (CopyOut 𝓤 H A mem run))
+        (known₂ : Triple 𝓤 (C #slot-prefixes·write-front) (WriteFront 𝓤 H A mem run)) where
       walk : ent 𝓤 (onEntry 𝓤 H A this.signature (κ₀, (κ₁, (κ₂, (κ₃, tt)))) (q₀, (q₁, (q₂, (q₃, tt)))) x at)
           (WpFn 𝓤 H C Λ code.function (formula-val f ∷ sliceVal (c₀, d₀) (length us) ∷ sliceVal (c₁, d₁) (length vs) ∷ sliceVal (b, o) (length ys) ∷ vint w32 count ∷ sliceVal (b₃, o₃) (length os) ∷ []) Post)
       walk =
@@ -182,8 +182,8 @@ module _ {M : Type 1} (𝓤 : URA M) (H : Heap 𝓤) (A : Atoms 𝓤) (W : Given
           keep ! (4 ∷ 5 ∷ 8 ∷ 2 ∷ 7 ∷ 6 ∷ 9 ∷ 0 ∷ 1 ∷ 3 ∷ []) $
           by ! (exits r w₂ os′ same (wrote-whole f us vs ys (k ys) refl count os ps fs ds r os′ told))))))))))))))))))))))))))))))))))))))))))))))))))
 
-module _ {M : Type 1} (𝓤 : URA M) (H : Heap 𝓤) (A : Atoms 𝓤) (W : Given 𝓤 H A) (mem : Memory → SProp 𝓤) (run : Routine → Fun 𝓤) (𝓣 : Tables 𝓤 H) (known₀ : Triple 𝓤 (𝓣 .C #slices·least) (Least 𝓤 H A mem run)) (known₁ : Triple 𝓤 (𝓣 .C #columns·copy-out) (CopyOut 𝓤 H A mem run))
-    (known₂ : Triple 𝓤 (𝓣 .C #fronts·write-front) (WriteFront 𝓤 H A mem run)) where
+module _ {M : Type 1} (𝓤 : URA M) (H : Heap 𝓤) (A : Atoms 𝓤) (W : Given 𝓤 H A) (mem : Memory → SProp 𝓤) (run : Routine → Fun 𝓤) (𝓣 : Tables 𝓤 H) (known₀ : Triple 𝓤 (𝓣 .C #point-slices·least) (Least 𝓤 H A mem run)) (known₁ : Triple 𝓤 (𝓣 .C #slot-columns·copy-out) (CopyOut 𝓤 H A mem run))
+    (known₂ : Triple 𝓤 (𝓣 .C #slot-prefixes·write-front) (WriteFront 𝓤 H A mem run)) where
   walks : Walks 𝓤 H A this.ended stayed (WpFn 𝓤 H (𝓣 .C) (𝓣 .Λ) code.function) (this.clauses 𝓤 H A mem run)
   walks = walked 𝓤 H A this.ended stayed (this.clauses 𝓤 H A mem run) (WpFn 𝓤 H (𝓣 .C) (𝓣 .Λ) code.function) (λ κs. (LL.vals F.the-type F′.the-laws, (slice-vals, (slice-vals, (slice-vals, (uint-vals w32, (slice-vals, tt)))))))
       (λ κs. (LL.tells F.the-type F′.the-laws, (shr-slice-tells (named 0) (κs .0) u64, (shr-slice-tells (named 1) (κs .1 .0) u64, (shr-slice-tells (named 2) (κs .1 .1 .0) R, (uint-tells w32, (mut-slice-tells (named 3) (κs .1 .1 .1 .0) u8, tt)))))))
@@ -214,6 +214,6 @@ write-slots-spec 𝓤 H 𝓜 𝓖 𝓡 =
     entered 𝓤 H (tripleOf 𝓤 H (𝓖 .A) this.signature (this.spec 𝓤 H (𝓖 .A) (𝓜 .mem) (𝓡 .run)))
     (tables 𝓤 H 𝓜 𝓡 code.env .C) (tables 𝓤 H 𝓜 𝓡 code.env .Λ) #slot-writer·write-slots code.function (code.unfolded 𝓤 H 𝓜 𝓡)
     (meets 𝓤 H (𝓖 .A) (givenOf 𝓤 H 𝓜 𝓖) (𝓜 .mem) (𝓡 .run) (tablesOf 𝓤 H 𝓜 (tables 𝓤 H 𝓜 𝓡 code.env))
-    (cited 𝓤 H (Least 𝓤 H (𝓖 .A) (𝓜 .mem) (𝓡 .run)) 𝓜 𝓡 code.env #slices·least least-def.routine code.calls-slices·least (least-thm.met 𝓤 H 𝓜 𝓖 𝓡))
-    (cited 𝓤 H (CopyOut 𝓤 H (𝓖 .A) (𝓜 .mem) (𝓡 .run)) 𝓜 𝓡 code.env #columns·copy-out copy-out-def.routine code.calls-columns·copy-out (copy-out-thm.met 𝓤 H 𝓜 𝓖 𝓡))
-    (cited 𝓤 H (WriteFront 𝓤 H (𝓖 .A) (𝓜 .mem) (𝓡 .run)) 𝓜 𝓡 code.env #fronts·write-front write-front-def.routine code.calls-fronts·write-front (write-front-thm.met 𝓤 H 𝓜 𝓖 𝓡)))
+    (cited 𝓤 H (Least 𝓤 H (𝓖 .A) (𝓜 .mem) (𝓡 .run)) 𝓜 𝓡 code.env #point-slices·least least-def.routine code.calls-point-slices·least (least-thm.met 𝓤 H 𝓜 𝓖 𝓡))
+    (cited 𝓤 H (CopyOut 𝓤 H (𝓖 .A) (𝓜 .mem) (𝓡 .run)) 𝓜 𝓡 code.env #slot-columns·copy-out copy-out-def.routine code.calls-slot-columns·copy-out (copy-out-thm.met 𝓤 H 𝓜 𝓖 𝓡))
+    (cited 𝓤 H (WriteFront 𝓤 H (𝓖 .A) (𝓜 .mem) (𝓡 .run)) 𝓜 𝓡 code.env #slot-prefixes·write-front write-front-def.routine code.calls-slot-prefixes·write-front (write-front-thm.met 𝓤 H 𝓜 𝓖 𝓡)))

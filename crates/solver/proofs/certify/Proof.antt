@@ -1,8 +1,8 @@
 -- `solver::certify` meets its contract: what the writer puts out is accepted, and it refuses for want of room alone. Assumes nothing.
 use mathlib.Core.Path.{sym, ap, _∙_}
 use borrow.Author.Needs.{needs}
-use Rattle.certificate.specs.Writer.{replyOf}
-use Rattle.solver.specs.SolverLaws.{acceptable, certifies, uncertifies}
+use Rattle.certificate_writer.specs.Contract.{replyOf}
+use Rattle.solver.specs.Laws.SolverLaws.{acceptable, certifies, uncertifies}
 use Rattle.solver.proofs.certify.Statement.{statement}
 use Rattle.solver.proofs.certify.Tie as tie
 

@@ -4,8 +4,9 @@ use Prim.Native.Nat.{ℕ}
 use native.Mathlib.Nat.{sub-zero}
 use lib.ListN.{take}
 use borrow.Author.Needs.{needs}
-use Rattle.formula.specs.ReplyLaws.{accepted-not-refused}
-use Rattle.checker.specs.Checker.{replyOf, checkReply}
+use Rattle.formula.specs.Laws.ReplyLaws.{accepted-not-refused}
+use Rattle.checker.specs.Checker.{checkReply}
+use Rattle.checker.specs.Contract.{replyOf}
 use Rattle.solver.proofs.confirm.Statement.{statement}
 use Rattle.solver.proofs.confirm.Tie as tie
 

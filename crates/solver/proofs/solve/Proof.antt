@@ -4,9 +4,9 @@ use native.Mathlib.Nat.{le-trans, le-of-eq}
 use lib.ListN.{length-replicate}
 use borrow.Author.Needs.{needs}
 use Prim.Native.Nat.{ℕ}
-use Rattle.answer.specs.Answers.{replyOf}
+use Rattle.dimacs_lines.specs.Reply.{replyOf}
 use Rattle.solver.specs.Solver.{blank}
-use Rattle.solver.specs.SolverLaws.{solves-refused, solves-read, clauses-held}
+use Rattle.solver.specs.Laws.SolverLaws.{solves-refused, solves-read, clauses-held}
 use Rattle.solver.proofs.solve.Statement.{statement}
 use Rattle.solver.proofs.solve.Tie as tie
 

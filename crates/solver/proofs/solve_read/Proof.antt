@@ -5,7 +5,8 @@ use native.Mathlib.Nat.{sub-zero}
 use lib.ListN.{take}
 use borrow.Author.Needs.{needs}
 use Rattle.claims.specs.Claim.{by-value}
-use Rattle.solver.specs.Solver.{slotsOf, Solved}
+use Rattle.solver.specs.Solver.{slotsOf}
+use Rattle.solver.specs.Contract.{Solved}
 use Rattle.solver.proofs.solve_read.Statement.{statement}
 use Rattle.solver.proofs.solve_read.Tie as tie
 

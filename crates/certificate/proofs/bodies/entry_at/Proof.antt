@@ -6,8 +6,8 @@ use native.Mathlib.Nat.{le-div-iff-mul-le, suc-mul}
 use native.Mathlib.Omega.{arith}
 use lib.ListN.{length}
 use borrow.Author.Needs.{needs}
-use Rattle.certificate.specs.Reader.{valueOf}
-use Rattle.certificate.specs.ReaderLaws.{number-inside, number-outside}
+use Rattle.certificate.specs.Contract.{valueOf}
+use Rattle.certificate.specs.Laws.ReaderLaws.{number-inside, number-outside}
 use Rattle.certificate.proofs.bodies.entry_at.Statement.{statement}
 use Rattle.certificate.proofs.bodies.entry_at.Tie as tie
 

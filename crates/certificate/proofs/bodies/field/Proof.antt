@@ -1,7 +1,7 @@
 -- `certificate::bodies::field` meets its contract. Assumes nothing.
 use mathlib.Core.Path.{sym, _∙_}
 use borrow.Author.Needs.{needs}
-use Rattle.certificate.specs.BytesLaws.{number-of}
+use Rattle.certificate.specs.Laws.BytesLaws.{number-of}
 use Rattle.certificate.proofs.bodies.field.Statement.{statement}
 use Rattle.certificate.proofs.bodies.field.Tie as tie
 

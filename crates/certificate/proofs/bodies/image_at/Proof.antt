@@ -4,8 +4,8 @@ use Prim.Native.Nat.{_+_, _-_, _*_, _≤_, _<_}
 use native.Mathlib.Nat.{le-div-iff-mul-le, div-lt-iff-lt-mul}
 use native.Mathlib.Omega.{arith}
 use lib.ListN.{length}
-use Rattle.certificate.specs.Reader.{valueOf}
-use Rattle.certificate.specs.ReaderLaws.{image-inside, image-of-none, image-behind}
+use Rattle.certificate.specs.Contract.{valueOf}
+use Rattle.certificate.specs.Laws.ReaderLaws.{image-inside, image-of-none, image-behind}
 use borrow.Author.Needs.{needs}
 use Rattle.certificate.proofs.bodies.image_at.Statement.{statement}
 use Rattle.certificate.proofs.bodies.image_at.Tie as tie

@@ -7,7 +7,7 @@ use lib.ListN.{length, getD, drop}
 use lib.Seq.{drop-length}
 use borrow.Author.Needs.{needs}
 use Rattle.certificate.specs.Bytes.{numberFrom}
-use Rattle.certificate.specs.BytesLaws.{number-next}
+use Rattle.certificate.specs.Laws.BytesLaws.{number-next}
 use Rattle.certificate.proofs.bodies.number_from.Statement.{statement}
 use Rattle.certificate.proofs.bodies.number_from.Tie as tie
 

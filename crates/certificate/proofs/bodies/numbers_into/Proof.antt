@@ -6,9 +6,9 @@ use native.Mathlib.Omega.{arith}
 use lib.ListN.{length, set, length-set}
 use borrow.Author.Needs.{needs}
 use Rattle.math.specs.Lists.{over}
-use Rattle.math.specs.OverLaws.{over-none}
+use Rattle.math.specs.Laws.OverLaws.{over-none}
 use Rattle.certificate.specs.Bytes.{entries, numbersIn, numberWidth}
-use Rattle.certificate.specs.BytesLaws.{into-next}
+use Rattle.certificate.specs.Laws.BytesLaws.{into-next}
 use Rattle.certificate.proofs.bodies.numbers_into.Statement.{statement}
 use Rattle.certificate.proofs.bodies.numbers_into.Tie as tie
 

@@ -6,7 +6,7 @@ use lib.Dec.{ltb}
 use lib.ListN.{length, getD, drop}
 use borrow.Author.Needs.{needs}
 use borrow.Author.Tests.{not-true, not-false}
-use Rattle.math.specs.ScanLaws.{all-ends, all-stops, all-goes-on}
+use Rattle.math.specs.Laws.ScanLaws.{all-ends, all-stops, all-goes-on}
 use Rattle.formula.specs.Refusals.{allBelow}
 use Rattle.formula.proofs.refusals.all_below.Statement.{statement}
 use Rattle.formula.proofs.refusals.all_below.Tie as tie

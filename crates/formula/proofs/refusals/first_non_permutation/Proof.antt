@@ -6,9 +6,9 @@ use lib.ListN.{length, getD, drop}
 use borrow.Author.Needs.{needs}
 use borrow.Author.Tests.{not-true, not-false}
 use Rattle.math.specs.Lists.{firstFailing}
-use Rattle.math.specs.ScanLaws.{onFrom, failing-begins, failing-ends, failing-stops, failing-goes-on}
-use Rattle.permutations.specs.Permutations.{isPermutation, permutationsIn}
-use Rattle.images.specs.LoopLaws.{noPermutation, length-permutations, permutation-at, part-ends}
+use Rattle.math.specs.Laws.ScanLaws.{onFrom, failing-begins, failing-ends, failing-stops, failing-goes-on}
+use Rattle.permutation_theory.specs.Permutations.{isPermutation, permutationsIn}
+use Rattle.permutation_images.specs.Laws.LoopLaws.{noPermutation, length-permutations, permutation-at, part-ends}
 use Rattle.formula.proofs.refusals.first_non_permutation.Statement.{statement}
 use Rattle.formula.proofs.refusals.first_non_permutation.Tie as tie
 

@@ -6,12 +6,12 @@ use lib.ListN.{length, getD, drop}
 use borrow.Author.Needs.{needs}
 use borrow.Author.Tests.{not-true, not-false}
 use Rattle.math.specs.Lists.{firstFailing}
-use Rattle.math.specs.ScanLaws.{onFrom, failing-begins, failing-ends, failing-stops, failing-goes-on}
+use Rattle.math.specs.Laws.ScanLaws.{onFrom, failing-begins, failing-ends, failing-stops, failing-goes-on}
 use Rattle.points.specs.Points.{numbered}
-use Rattle.slices.specs.Slices.{clausesOf}
-use Rattle.images.specs.Contracts.{Movable}
-use Rattle.images.specs.LoopLaws.{noPermutation, length-permutations, permutation-at, listed-room, listed-movable}
-use Rattle.permutations.specs.Permutations.{keeps, permutationsIn}
+use Rattle.point_slices.specs.Slices.{clausesOf}
+use Rattle.permutation_images.specs.Laws.Contracts.{Movable}
+use Rattle.permutation_images.specs.Laws.LoopLaws.{noPermutation, length-permutations, permutation-at, listed-room, listed-movable}
+use Rattle.permutation_theory.specs.Permutations.{keeps, permutationsIn}
 use Rattle.formula.proofs.refusals.first_non_symmetry.Statement.{statement}
 use Rattle.formula.proofs.refusals.first_non_symmetry.Tie as tie
 

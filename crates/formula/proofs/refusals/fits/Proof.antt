@@ -2,9 +2,9 @@
 use mathlib.Core.Path.{sym, _∙_}
 use native.Mathlib.Omega.{arith}
 use borrow.Author.Needs.{needs}
-use Rattle.math.specs.ListLaws.{not-true-false, same-tests}
+use Rattle.math.specs.Laws.ListLaws.{not-true-false, same-tests}
 use mathlib.Core.Bool.{true≢false}
-use Rattle.formula.specs.RefusalLaws.{fits-sound, fits-complete, allBelow-sound, allBelow-complete}
+use Rattle.formula.specs.Laws.RefusalLaws.{fits-sound, fits-complete, allBelow-sound, allBelow-complete}
 use Rattle.formula.proofs.refusals.fits.Statement.{statement}
 use Rattle.formula.proofs.refusals.fits.Tie as tie
 

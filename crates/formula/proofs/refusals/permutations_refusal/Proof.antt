@@ -1,12 +1,12 @@
 -- `formula::refusals::permutations_refusal` meets its contract: too many first, then the first that is none. Assumes nothing.
 use mathlib.Core.Path.{_≡_, refl, sym, ap, _∙_}
 use native.Mathlib.Nat.{le-of-eq, le-trans, lt-of-lt-of-le}
-use Rattle.images.specs.LoopLaws.{length-permutations}
-use Rattle.permutations.specs.Permutations.{permutationsIn}
+use Rattle.permutation_images.specs.Laws.LoopLaws.{length-permutations}
+use Rattle.permutation_theory.specs.Permutations.{permutationsIn}
 use Rattle.formula.specs.Refusals.{permutationFault}
-use Rattle.formula.specs.RefusalLaws.{too-many, few-enough}
+use Rattle.formula.specs.Laws.RefusalLaws.{too-many, few-enough}
 use Rattle.formula.specs.Reply.{faultAt}
-use Rattle.formula.specs.ReplyLaws.{fault-zero, fault-pos}
+use Rattle.formula.specs.Laws.ReplyLaws.{fault-zero, fault-pos}
 use Rattle.formula.proofs.refusals.permutations_refusal.Statement.{statement}
 use Rattle.formula.proofs.refusals.permutations_refusal.Tie as tie
 

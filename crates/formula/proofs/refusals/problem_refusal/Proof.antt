@@ -2,11 +2,11 @@
 use mathlib.Core.Path.{_≡_, sym, ap, _∙_, subst}
 use lib.ListN.{length}
 use borrow.Author.Needs.{needs}
-use Rattle.formula.specs.RefusalLaws.{stops-10, stops-11, ends-12, formula-passes, images-room, formula-listed}
+use Rattle.formula.specs.Laws.RefusalLaws.{stops-10, stops-11, ends-12, formula-passes, images-room, formula-listed}
 use Rattle.formula.specs.Refusals.{formulaFault, permutationFault, faultOf}
 use Rattle.formula.specs.Reply.{sound}
-use Rattle.formula.specs.ReplyLaws.{IsFault}
-use Rattle.permutations.specs.Permutations.{permutationsIn}
+use Rattle.formula.specs.Laws.ReplyLaws.{IsFault}
+use Rattle.permutation_theory.specs.Permutations.{permutationsIn}
 use Rattle.formula.proofs.refusals.problem_refusal.Statement.{statement}
 use Rattle.formula.proofs.refusals.problem_refusal.Tie as tie
 

@@ -5,10 +5,10 @@ use Prim.Native.Nat.{ℕ, zero, suc, _<_}
 use native.Mathlib.Nat.{le-of-suc-le-suc, not-suc-le-zero}
 use borrow.Author.Needs.{needs}
 use Rattle.points.specs.Points.{Numbered}
-use Rattle.permutations.specs.Permutations.{permutationsIn}
+use Rattle.permutation_theory.specs.Permutations.{permutationsIn}
 use Rattle.formula.specs.Refusals.{symmetryFault}
 use Rattle.formula.specs.Reply.{sound}
-use Rattle.formula.specs.ReplyLaws.{fault-zero, fault-pos}
+use Rattle.formula.specs.Laws.ReplyLaws.{fault-zero, fault-pos}
 use Rattle.formula.proofs.refusals.symmetry_refusal.Statement.{statement}
 use Rattle.formula.proofs.refusals.symmetry_refusal.Tie as tie
 

@@ -1,0 +1,68 @@
+-- Laws of stores into the output: numbers that stand without gaps, one more at a time, and the eight numbers of the contents. Assumes nothing.
+use mathlib.Core.List.{List, [], _∷_, _++_}
+use mathlib.Core.Path.{_≡_, refl, sym, ap, ap₂, _∙_}
+use Prim.Native.Nat.{ℕ, _+_, _*_, _≤_, _<_, zero-le}
+use native.Mathlib.Nat.{add-zero, zero-add, le-of-lt}
+use native.Mathlib.Numerals.{add-one}
+use lib.ListN.{length, getD, take}
+use lib.Seq.{length-take-le, take-suc}
+use Rattle.math.specs.Lists.{spliced}
+use Rattle.math.specs.Laws.SpliceLaws.{spliced-none, spliced-next}
+use Rattle.certificate.specs.Bytes.{bytesOf, joined, fieldWidth, pointWidth}
+use Rattle.certificate.specs.Laws.BytesLaws.{length-bytesOf, length-joined, joined-append, joined-snoc}
+use Rattle.certificate.specs.Certificate.{fieldsOf, layout, contentsLength}
+
+-- behind one part, another
+pub part-stored : (at place : ℕ) (a b old before after : List ℕ) → at ≤ length old → place ≡ at + length a
+    → before ≡ spliced at a old → after ≡ spliced place b before → after ≡ spliced at (a ++ b) old
+part-stored at place a b old before after room here e f = f ∙ ap₂ (λ (k : ℕ) (l : List ℕ). spliced k b l) here e ∙ spliced-next at a b old room
+
+module _ (w at : ℕ) (old : List ℕ) (room : at ≤ length old) where
+  -- no number stored yet
+  pub none-stored : old ≡ spliced at (joined (bytesOf w) []) old
+  unfolding joined
+  none-stored = sym (spliced-none at old)
+
+  -- behind the numbers xs, w bytes each, one more
+  pub one-stored : (xs : List ℕ) (x place : ℕ) (before after : List ℕ) → place ≡ at + length xs * w
+      → before ≡ spliced at (joined (bytesOf w) xs) old → after ≡ spliced place (bytesOf w x) before
+      → after ≡ spliced at (joined (bytesOf w) (xs ++ x ∷ [])) old
+  one-stored xs x place before after here e f =
+      part-stored at place (joined (bytesOf w) xs) (bytesOf w x) old before after room
+      (here ∙ ap (λ (k : ℕ). at + k) (sym (length-joined (bytesOf w) w xs (λ y _. length-bytesOf w y)))) e f
+      ∙ ap (λ l. spliced at l old) (sym (joined-snoc (bytesOf w) xs x))
+
+  -- of a list, number by number: after i come i + 1
+  pub next-stored : (i : ℕ) (xs before after : List ℕ) → i < length xs
+      → before ≡ spliced at (joined (bytesOf w) (take i xs)) old → after ≡ spliced (at + i * w) (bytesOf w (getD xs i 0)) before
+      → after ≡ spliced at (joined (bytesOf w) (take (i + 1) xs)) old
+  next-stored i xs before after more e f =
+      one-stored (take i xs) (getD xs i 0) (at + i * w) before after (ap (λ (k : ℕ). at + k * w) (sym (length-take-le i xs (le-of-lt more)))) e f
+      ∙ ap (λ l. spliced at (joined (bytesOf w) l) old) (sym (take-suc xs i 0 more) ∙ ap (λ (k : ℕ). take k xs) (sym (add-one i)))
+
+-- four numbers of the contents, one behind the other
+pub four-stored : (at : ℕ) (old : List ℕ) → at ≤ length old → (a b c d : ℕ) (one two three four : List ℕ)
+    → one ≡ spliced at (bytesOf fieldWidth a) old → two ≡ spliced (at + 4) (bytesOf fieldWidth b) one
+    → three ≡ spliced (at + 8) (bytesOf fieldWidth c) two → four ≡ spliced (at + 12) (bytesOf fieldWidth d) three
+    → four ≡ spliced at (joined (bytesOf fieldWidth) (a ∷ b ∷ c ∷ d ∷ [])) old
+four-stored at old room a b c d one two three four e f g h =
+    let none = none-stored fieldWidth at old room in
+    let first = one-stored fieldWidth at old room [] a at old one (sym (add-zero at)) none e in
+    let second = one-stored fieldWidth at old room (a ∷ []) b (at + 4) one two refl first f in
+    let third = one-stored fieldWidth at old room (a ∷ b ∷ []) c (at + 8) two three refl second g in
+    one-stored fieldWidth at old room (a ∷ b ∷ c ∷ []) d (at + 12) three four refl third h
+
+-- C2: "n, m (rules), then count and offset of each body": four of the eight numbers, then the others
+pub contents-stored : (n m a k points numbers : ℕ) (old half whole : List ℕ)
+    → points ≡ contentsLength + a * n → numbers ≡ contentsLength + a * n + k * pointWidth
+    → half ≡ spliced 0 (joined (bytesOf fieldWidth) (n ∷ m ∷ a ∷ contentsLength ∷ [])) old
+    → whole ≡ spliced 16 (joined (bytesOf fieldWidth) (k ∷ points ∷ k ∷ numbers ∷ [])) half
+    → whole ≡ spliced 0 (joined (bytesOf fieldWidth) (fieldsOf (layout n m a k k))) old
+unfolding fieldsOf layout
+contents-stored n m a k points numbers old half whole p q e f =
+    let front : List ℕ = n ∷ m ∷ a ∷ contentsLength ∷ [] in
+    let back : List ℕ = k ∷ points ∷ k ∷ numbers ∷ [] in
+    part-stored 0 16 (joined (bytesOf fieldWidth) front) (joined (bytesOf fieldWidth) back) old half whole zero-le
+    (sym (zero-add (length (joined (bytesOf fieldWidth) front)) ∙ length-joined (bytesOf fieldWidth) fieldWidth front (λ y _. length-bytesOf fieldWidth y))) e f
+    ∙ ap (λ l. spliced 0 l old) (sym (joined-append (bytesOf fieldWidth) front back))
+    ∙ ap₂ (λ (u v : ℕ). spliced 0 (joined (bytesOf fieldWidth) (n ∷ m ∷ a ∷ contentsLength ∷ k ∷ u ∷ k ∷ v ∷ [])) old) p q

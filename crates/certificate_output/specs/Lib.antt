@@ -1,0 +1,2 @@
+-- What the stores into the output go by.
+pub mod Laws

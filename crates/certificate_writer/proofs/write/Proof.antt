@@ -1,0 +1,90 @@
+-- `certificate_writer::write` meets its contract: a law of WriteLaws for each way out. Assumes nothing.
+use mathlib.Core.Path.{_≡_, sym}
+use lib.ListN.{length}
+use borrow.Author.Needs.{needs}
+use Rattle.certificate_writer.specs.Laws.WriteLaws.{slots-counted, wrote-faulty, within-limits, wrote-too-short, storable-of, wrote-all}
+use Rattle.certificate_writer.proofs.write.Statement.{statement}
+use Rattle.certificate_writer.proofs.write.Tie as tie
+
+problem-refusal-requires : tie.Need-problem-refusal-requires
+problem-refusal-requires c κs = tt
+
+room-requires : tie.Need-room-requires
+room-requires c κs = tt
+
+slots-refusal-requires : tie.Need-slots-refusal-requires
+slots-refusal-requires c κs = slots-counted _ _ _ _ (c .before .problem-refusal .ensures) _ _ _ _ (c .room .ensures)
+
+enum-told : tie.Need-enum-told
+enum-told c = search needs
+
+enum-known-told : tie.Need-enum-known-told
+enum-known-told c = search needs
+
+returns : tie.Need-returns
+returns c =
+    let slots = c .before .before .before in
+    wrote-faulty _ _ _ _ _ _ _ _ _ (slots .before .before .problem-refusal .ensures) _ (slots .before .room .ensures) _ (slots .slots-refusal .ensures) _ _ (c .before .told .given .1)
+
+length-needed-requires : tie.Need-length-needed-requires
+length-needed-requires c κs =
+    let slots = c .before .before in
+    let a = slots .before .before .before .before .before .before .before .before .before .args in
+    within-limits (a .f) (a .positive .now) (a .negative .now) (a .points .now) (a .falsified .now) (a .depths .now) (a .count) (a .out .now)
+    _ (slots .before .before .problem-refusal .ensures) _ (slots .before .room .ensures) _ (slots .slots-refusal .ensures) (c .enum-told .given .1)
+
+returns-2 : tie.Need-returns-2
+returns-2 c =
+    let fine = c .before .before in
+    let slots = fine .before .before in
+    wrote-too-short _ _ _ _ _ _ _ _ _ (slots .before .before .problem-refusal .ensures) _ (slots .before .room .ensures) _ (slots .slots-refusal .ensures) (fine .enum-told .given .1)
+    _ (c .before .length-needed .ensures) (c .if1 .taken)
+
+-- the array of the images is as long as its type says
+whole : (c : tie.Start) → length (c .args .f .images) ≡ 1024
+whole c = search needs
+
+slice-aggregate-put-certificate : tie.Need-slice-aggregate-put-certificate
+slice-aggregate-put-certificate c =
+    let slots = c .before .before .before .before .before .before .before in
+    sym (whole (slots .before .before .before .before .before .before .before .before .before))
+
+put-certificate-requires : tie.Need-put-certificate-requires
+put-certificate-requires c κs =
+    let roomy = c .before .before .before in
+    let fine = roomy .before .before in
+    let slots = fine .before .before in
+    let start = slots .before .before .before .before .before .before .before .before .before in
+    let a = start .args in
+    storable-of (a .f) (a .positive .now) (a .negative .now) (a .points .now) (a .falsified .now) (a .depths .now) (a .count) (a .out .now)
+    _ (slots .before .before .problem-refusal .ensures) _ (slots .before .room .ensures) _ (slots .slots-refusal .ensures) (fine .enum-told .given .1)
+    _ (roomy .before .length-needed .ensures) (roomy .if1 .left) (whole start)
+
+same-length : tie.Need-same-length
+same-length c = c .before .before .put-certificate .kept .0
+
+returns-3 : tie.Need-returns-3
+returns-3 c =
+    let stored = c .before .before in
+    let roomy = stored .before .before .before .before in
+    let fine = roomy .before .before in
+    let slots = fine .before .before in
+    wrote-all _ _ _ _ _ _ _ _ _ (slots .before .before .problem-refusal .ensures) _ (slots .before .room .ensures) _ (slots .slots-refusal .ensures) (fine .enum-told .given .1)
+    _ (roomy .before .length-needed .ensures) (roomy .if1 .left) _ (stored .put-certificate .ensures)
+
+pub write-spec : {M : Type 1} → statement M
+write-spec =
+    tie.close
+    (tie.spec
+    problem-refusal-requires
+    room-requires
+    slots-refusal-requires
+    enum-told
+    enum-known-told
+    returns
+    length-needed-requires
+    returns-2
+    slice-aggregate-put-certificate
+    put-certificate-requires
+    same-length
+    returns-3)

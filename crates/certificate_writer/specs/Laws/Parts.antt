@@ -1,0 +1,29 @@
+-- What the writer's steps test and store, for the contracts of its functions. Assumes nothing.
+use mathlib.Core.List.{List, [], _∷_, _++_}
+use Prim.Native.Nat.{ℕ, _*_, _≤_}
+use lib.ListN.{length, take}
+use Rattle.points.specs.Points.{Numbered}
+use Rattle.point_slices.specs.Slices.{pointsOf}
+use Rattle.formula.specs.Reply.{Fault, first}
+use Rattle.certificate.specs.Bytes.{bytesOf, joined, fieldWidth, pointWidth, numberWidth}
+use Rattle.certificate.specs.Certificate.{fieldsOf, layout, certificateLength}
+use Rattle.certificate.specs.Rows.{pointsFault, numbersFault}
+
+-- N5: rows 16 and 17, of the first count slots, behind what was found before
+unfoldable pub slotsFault : Fault → ℕ → ℕ → List Numbered → ℕ → List ℕ → List ℕ → Fault
+unfolding first pointsFault numbersFault
+slotsFault earlier limit n clauses count points numbers =
+    first (earlier ∷ pointsFault limit n count points ∷ numbersFault clauses count points numbers ∷ [])
+
+-- C3: "Bodies follow without gaps": the contents, then the bytes of the permutations as they stand, the points and the clause numbers
+abbrev pub parts : ℕ → ℕ → ℕ → List ℕ → List ℕ → List ℕ → ℕ → List ℕ
+parts n m permutations images points numbers count =
+    joined (bytesOf fieldWidth) (fieldsOf (layout n m permutations count count)) ++ take (permutations * n) images
+    ++ joined (bytesOf pointWidth) (take count (pointsOf points)) ++ joined (bytesOf numberWidth) (take count numbers)
+
+-- what is to be stored is there, and the output has room for it
+pub record Storable (n permutations : ℕ) (images points numbers : List ℕ) (count : ℕ) (out : List ℕ) : Type 0 where
+  pub imagesHeld : permutations * n ≤ length images
+  pub pointsHeld : count ≤ length (pointsOf points)
+  pub numbersHeld : count ≤ length numbers
+  pub room : certificateLength n permutations count ≤ length out

@@ -1,0 +1,100 @@
+-- Laws of the writer's steps: rows 16 and 17 in order, and four parts stored one behind the other. Assumes nothing.
+use mathlib.Core.List.{List, [], _∷_, _++_}
+use mathlib.Core.Path.{_≡_, refl, sym, ap, ap₂, _∙_}
+use Prim.Native.Nat.{ℕ, _+_, _*_, _≤_, zero-le}
+use native.Mathlib.Nat.{zero-add}
+use lib.ListN.{length, take, length-append}
+use lib.Seq.{length-take-le}
+use Rattle.math.specs.Lists.{over, spliced}
+use Rattle.math.specs.Laws.SpliceLaws.{spliced-front}
+use Rattle.points.specs.Points.{Numbered}
+use Rattle.point_slices.specs.Slices.{pointsOf}
+use Rattle.permutation_theory.specs.Permutations.{Permutation, permutationsIn}
+use Rattle.permutation_images.specs.Laws.LoopLaws.{length-permutations}
+use Rattle.formula.specs.Reply.{Fault, sound}
+use Rattle.formula.specs.Laws.ReplyLaws.{IsFault, answers-first, answers-rest, first-last}
+use Rattle.certificate.specs.Bytes.{bytesOf, joined, fieldWidth, pointWidth, numberWidth}
+use Rattle.certificate.specs.Laws.BytesLaws.{length-bytesOf, length-joined, joined-permutations}
+use Rattle.certificate.specs.Certificate.{FileContents, contentsLength, fieldsOf, layout, encode}
+use Rattle.certificate.specs.Laws.CertificateLaws.{length-contents}
+use Rattle.certificate.specs.Rows.{pointsFault, numbersFault}
+use Rattle.certificate_output.specs.Laws.OutputLaws.{part-stored}
+use Rattle.certificate_writer.specs.Laws.Parts.{slotsFault, parts, Storable}
+
+-- ---- rows 16 and 17
+
+module _ (earlier : Fault) (limit n : ℕ) (clauses : List Numbered) (count : ℕ) (points numbers : List ℕ) where
+  abbrev sixteen : Fault
+  sixteen = pointsFault limit n count points
+
+  abbrev seventeen : Fault
+  seventeen = numbersFault clauses count points numbers
+
+  -- what was found before is the answer
+  pub stops-earlier : IsFault earlier → earlier ≡ slotsFault earlier limit n clauses count points numbers
+  unfolding slotsFault
+  stops-earlier h = answers-first earlier earlier (sixteen ∷ seventeen ∷ []) refl h
+
+  module _ (passed : earlier ≡ sound) (r : Fault) (tested : r ≡ sixteen) where
+    -- else what row 16 finds
+    pub stops-16 : IsFault r → r ≡ slotsFault earlier limit n clauses count points numbers
+    unfolding slotsFault
+    stops-16 h = answers-rest r earlier (sixteen ∷ seventeen ∷ []) passed (answers-first r sixteen (seventeen ∷ []) tested h)
+
+    -- and else what row 17 does
+    pub ends-17 : r ≡ sound → seventeen ≡ slotsFault earlier limit n clauses count points numbers
+    unfolding slotsFault
+    ends-17 h =
+        answers-rest seventeen earlier (sixteen ∷ seventeen ∷ []) passed
+        (answers-rest seventeen sixteen (seventeen ∷ []) (sym tested ∙ h) (sym (first-last seventeen)))
+
+-- ---- the stores
+
+module _ (n m a : ℕ) (images points numbers : List ℕ) (count : ℕ) (out : List ℕ) (storable : Storable n a images points numbers count out) where
+  abbrev contentsPart : List ℕ
+  contentsPart = joined (bytesOf fieldWidth) (fieldsOf (layout n m a count count))
+
+  abbrev pointsPart : List ℕ
+  pointsPart = joined (bytesOf pointWidth) (take count (pointsOf points))
+
+  -- where the bodies begin
+  begins-images : length contentsPart ≡ contentsLength
+  begins-images = length-contents (layout n m a count count)
+
+  begins-points : length (contentsPart ++ take (a * n) images) ≡ contentsLength + a * n
+  begins-points = length-append contentsPart (take (a * n) images) ∙ ap₂ _+_ begins-images (length-take-le (a * n) images (storable .imagesHeld))
+
+  begins-numbers : length (contentsPart ++ take (a * n) images ++ pointsPart) ≡ contentsLength + a * n + count * pointWidth
+  begins-numbers =
+      length-append (contentsPart ++ take (a * n) images) pointsPart
+      ∙ ap₂ _+_ begins-points (length-joined (bytesOf pointWidth) pointWidth (take count points) (λ x _. length-bytesOf pointWidth x)
+      ∙ ap (λ (k : ℕ). k * pointWidth) (length-take-le count points (storable .pointsHeld)))
+
+  -- behind the parts stored so far, the next
+  behind : (place : ℕ) (front part before after : List ℕ) → length front ≡ place → before ≡ spliced 0 front out → after ≡ spliced place part before → after ≡ spliced 0 (front ++ part) out
+  behind place front part before after e = part-stored 0 place front part out before after zero-le (sym (zero-add (length front) ∙ e))
+
+  pub certificate-stored : (one two three four : List ℕ)
+      → one ≡ spliced 0 contentsPart out
+      → two ≡ spliced contentsLength (take (a * n) images) one
+      → three ≡ spliced (contentsLength + a * n) pointsPart two
+      → four ≡ spliced (contentsLength + a * n + count * pointWidth) (joined (bytesOf numberWidth) (take count numbers)) three
+      → four ≡ over (parts n m a images points numbers count) out
+  certificate-stored one two three four e f g h =
+      behind _ _ _ three four begins-numbers (behind _ _ _ two three begins-points (behind _ _ _ one two begins-images e f) g) h
+      ∙ spliced-front (parts n m a images points numbers count) out
+
+-- the parts are those of the certificate of what they stand for
+pub parts-encode : (n m a : ℕ) (images points numbers : List ℕ) (count : ℕ) → count ≤ length points → count ≤ length numbers
+    → parts n m a images points numbers count ≡ encode n m (permutationsIn n a images) (take count (pointsOf points)) (take count numbers)
+unfolding encode
+parts-encode n m a images points numbers count enough-points enough-numbers =
+    let es : List Permutation = permutationsIn n a images in
+    let xs : List ℕ = take count (pointsOf points) in
+    let ks : List ℕ = take count numbers in
+    let whole : FileContents → List ℕ → List ℕ =
+    λ c body. joined (bytesOf fieldWidth) (fieldsOf c) ++ body ++ joined (bytesOf pointWidth) xs ++ joined (bytesOf numberWidth) ks in
+    ap₂ whole
+    (ap (λ (j : ℕ). layout n m j count count) (sym (length-permutations n a images))
+    ∙ ap₂ (λ (i j : ℕ). layout n m (length es) i j) (sym (length-take-le count points enough-points)) (sym (length-take-le count numbers enough-numbers)))
+    (sym (joined-permutations n a images))

@@ -1,0 +1,3 @@
+-- What the writer tests and stores.
+pub mod Contract
+pub mod Laws

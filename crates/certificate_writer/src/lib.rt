@@ -1,0 +1,126 @@
+// The writer: puts the certificate of a formula and of filled slots into lent bytes.
+use certificate_output::put_bytes;
+use certificate_output::put_contents;
+use certificate_output::put_numbers;
+use certificate_output::put_points;
+use check_distinct::local_refusal;
+use check_falsified::numbers_refusal;
+use formula::Checked;
+use formula::Formula;
+use formula::refusals::problem_refusal;
+use formula::room::room;
+ghost use mathlib.Core.Path.{_≡_};
+ghost use Prim.Native.Nat.{_≤_};
+ghost use Rattle.math.specs.Lists.{over};
+ghost use Rattle.points.specs.Points.{numbered};
+ghost use Rattle.point_slices.specs.Slices.{pointsOf, clausesOf};
+ghost use Rattle.formula.specs.Limits.{maxVariables, maxPermutations, maxSlots};
+ghost use Rattle.formula.specs.Refusals.{faultOf};
+ghost use Rattle.formula.specs.Reply.{sound};
+ghost use Rattle.certificate.specs.Certificate.{certificateLength};
+ghost use Rattle.certificate_writer.specs.Contract.{Wrote};
+ghost use Rattle.check_distinct.specs.Laws.Indexing.{Counted};
+ghost use Rattle.certificate_writer.specs.Laws.Parts.{slotsFault, parts, Storable};
+
+// What the writer answers: the certificate's length in bytes, or a refusal.
+pub enum Written {
+    Bytes(usize),
+    Refused { code: u32, place: usize },
+}
+
+// What was found before; else refusals 16 and 17, in this order, of the first `count` slots of at most `lent`. `write` sees to what it requires.
+fn slots_refusal(
+    found: Checked,
+    n: u32,
+    positive: &[u64],
+    negative: &[u64],
+    points: &[u64],
+    falsified: &[u32],
+    lent: usize,
+    count: u32,
+) -> Checked
+    requires { ⌜ (faultOf found ≡ sound → Counted maxSlots n lent (pointsOf (now points))) ⌝ }
+    ensures { λ r. ⌜ faultOf r ≡ slotsFault (faultOf found) lent n (numbered (clausesOf (now (positive .entry)) (now (negative .entry)))) count (pointsOf (now (points .entry))) (now (falsified .entry)) ⌝ }
+{
+    let Checked::Passed = found else {
+        return found;
+    };
+    let many = count as usize;
+    let sixteen = local_refusal(points, n, many, lent);
+    let Checked::Passed = sixteen else {
+        return sixteen;
+    };
+    numbers_refusal(positive, negative, points, falsified, many)
+}
+
+// The length of a certificate. Refusals 10, 11 and 16 see to what it requires.
+fn length_needed(n: u32, permutations: u32, count: u32) -> usize
+    requires { ⌜ (n ≤ maxVariables) × (permutations ≤ maxPermutations) × (count ≤ maxSlots) ⌝ }
+    ensures { λ r. ⌜ r ≡ certificateLength n permutations count ⌝ }
+{
+    let area = permutations as usize * n as usize;
+    let many = count as usize;
+    32 + area + many * 8 + many * 4
+}
+
+// C3: stores a certificate at the front of `out`: its contents, the permutations, the points and the clause numbers. The writer sees to what
+// it requires.
+fn put_certificate(
+    out: &mut [u8],
+    n: u32,
+    m: u32,
+    permutations: u32,
+    images: &[u8],
+    points: &[u64],
+    falsified: &[u32],
+    count: u32,
+)
+    requires { ⌜ Storable n permutations (now images) (now points) (now falsified) count (now out) ⌝ }
+    ensures { λ _. ⌜ now (out .exit) ≡ over (parts n m permutations (now (images .entry)) (now (points .entry)) (now (falsified .entry)) count) (now (out .entry)) ⌝ }
+{
+    let area = permutations as usize * n as usize;
+    let many = count as usize;
+    let points_at = 32 + area;
+    let numbers_at = points_at + many * 8;
+    put_contents(out, n, m, permutations, count, points_at, numbers_at);
+    put_bytes(out, 32, images, area);
+    put_points(out, points_at, points, many);
+    put_numbers(out, numbers_at, falsified, many);
+}
+
+// D2.4, N5, C6, R19: writes the certificate of the formula and of the first `count` slots; refusals 10, 11, 12, 16, 17 and 19 leave `out` as it was.
+// Beside refusal 12, it looks each point up among those before it, at most count · (n + 1) comparisons, and stores each byte once.
+pub fn write(
+    f: Formula,
+    positive: &[u64],
+    negative: &[u64],
+    points: &[u64],
+    falsified: &[u32],
+    depths: &[u32],
+    count: u32,
+    out: &mut [u8],
+) -> Written
+    ensures { λ r. ⌜ Wrote f (now (positive .entry)) (now (negative .entry)) (now (points .entry)) (now (falsified .entry)) (now (depths .entry)) count (now (out .entry)) r (now (out .exit)) ⌝ }
+{
+    let found = problem_refusal(f, positive, negative);
+    let lent = room(points, falsified, depths);
+    let n = f.variables;
+    let a = f.permutations;
+    let told = slots_refusal(found, n, positive, negative, points, falsified, lent, count);
+    match told {
+        Checked::Passed => {}
+        Checked::Refused { code, place } => {
+            return Written::Refused { code, place };
+        }
+    }
+    let size = length_needed(n, a, count);
+    if out.len() < size {
+        return Written::Refused {
+            code: 19,
+            place: size,
+        };
+    }
+    let images = f.images;
+    put_certificate(out, n, f.clauses, a, &images, points, falsified, count);
+    Written::Bytes(size)
+}

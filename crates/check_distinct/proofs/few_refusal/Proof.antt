@@ -1,0 +1,18 @@
+-- `check_distinct::few_refusal` meets its contract: an array of zeros is what the test is to be lent. Assumes nothing.
+use mathlib.Core.Path.{refl}
+use Rattle.check_distinct.specs.Laws.IndexingLaws.{zeros-links, links-indexable}
+use Rattle.check_distinct.proofs.few_refusal.Statement.{statement}
+use Rattle.check_distinct.proofs.few_refusal.Tie as tie
+
+slice-aggregate-points-refusal : tie.Need-slice-aggregate-points-refusal
+slice-aggregate-points-refusal c = refl
+
+points-refusal-requires : tie.Need-points-refusal-requires
+points-refusal-requires c κs = links-indexable (zeros-links 1024 3072 refl) (c .before .before .pre)
+
+returns : tie.Need-returns
+returns c = c .before .points-refusal .ensures .tells
+
+pub few-refusal-spec : {M : Type 1} → statement M
+few-refusal-spec =
+    tie.close (tie.spec slice-aggregate-points-refusal points-refusal-requires returns)

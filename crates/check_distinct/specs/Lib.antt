@@ -1,0 +1,2 @@
+-- What tests of points that index them go by.
+pub mod Laws

@@ -1,0 +1,48 @@
+-- `check_entries::copied_refusal` meets its contract: the first entries of the slices are those of the bodies. Assumes nothing.
+use mathlib.Core.Path.{ap₂, _∙_}
+use borrow.Author.Needs.{needs}
+use Rattle.points.specs.Points.{numbered}
+use Rattle.point_slices.specs.Slices.{clausesOf}
+use Rattle.permutation_theory.specs.Permutations.{permutationsIn}
+use Rattle.certificate.specs.Bytes.{pointWidth, numberWidth}
+use Rattle.check_entries.specs.Laws.EntryLaws.{copied, lent-ready}
+use Rattle.check_entries.specs.Laws.Entries.{listsFault}
+use Rattle.check_entries.proofs.copied_refusal.Statement.{statement}
+use Rattle.check_entries.proofs.copied_refusal.Tie as tie
+
+points-into-requires : tie.Need-points-into-requires
+points-into-requires c κs = search needs
+
+numbers-into-requires : tie.Need-numbers-into-requires
+numbers-into-requires c κs = search needs
+
+lists-refusal-requires : tie.Need-lists-refusal-requires
+lists-refusal-requires c κs = let pre = c .before .before .before .before .before .before .before .before .before .before .before .before .before .before .before .before .before .before .before .pre in lent-ready (pre .0) (pre .1) _ (c .before .before .before .before .before .before .before .before .before .points-into .kept .0)
+
+same-length : tie.Need-same-length
+same-length c = search needs
+
+same-length-2 : tie.Need-same-length-2
+same-length-2 c = search needs
+
+same-length-3 : tie.Need-same-length-3
+same-length-3 c = search needs
+
+returns : tie.Need-returns
+returns c =
+    let a = c .before .before .before .before .before .before .before .before .before .before .before .before .before .before .before .before .before .before .before .before .before .before .args in
+    c .before .before .lists-refusal .ensures
+    ∙ ap₂ (listsFault (a .n) (numbered (clausesOf (a .positive .now) (a .negative .now))) (permutationsIn (a .n) (a .permutations) (a .images .now)))
+    (copied pointWidth (a .count) (a .points .now) _ _ (c .before .before .before .before .before .before .before .before .before .before .before .before .points-into .ensures)) (copied numberWidth (a .count) (a .numbers .now) _ _ (c .before .before .before .before .before .before .before .before .numbers-into .ensures))
+
+pub copied-refusal-spec : {M : Type 1} → statement M
+copied-refusal-spec =
+    tie.close
+    (tie.spec
+    points-into-requires
+    numbers-into-requires
+    lists-refusal-requires
+    same-length
+    same-length-2
+    same-length-3
+    returns)

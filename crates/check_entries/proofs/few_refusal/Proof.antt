@@ -1,0 +1,30 @@
+-- `check_entries::few_refusal` meets its contract: arrays of zeros are what the test is to be lent. Assumes nothing.
+use mathlib.Core.Path.{refl}
+use Rattle.check_entries.specs.Laws.EntryLaws.{zeros-lent}
+use Rattle.check_entries.proofs.few_refusal.Statement.{statement}
+use Rattle.check_entries.proofs.few_refusal.Tie as tie
+
+slice-aggregate-copied-refusal : tie.Need-slice-aggregate-copied-refusal
+slice-aggregate-copied-refusal c = refl
+
+slice-aggregate-copied-refusal-2 : tie.Need-slice-aggregate-copied-refusal-2
+slice-aggregate-copied-refusal-2 c = refl
+
+slice-aggregate-copied-refusal-3 : tie.Need-slice-aggregate-copied-refusal-3
+slice-aggregate-copied-refusal-3 c = refl
+
+copied-refusal-requires : tie.Need-copied-refusal-requires
+copied-refusal-requires c κs = (c .before .before .before .before .before .before .before .before .pre, zeros-lent 1024 3072 refl)
+
+returns : tie.Need-returns
+returns c = c .before .before .before .copied-refusal .ensures
+
+pub few-refusal-spec : {M : Type 1} → statement M
+few-refusal-spec =
+    tie.close
+    (tie.spec
+    slice-aggregate-copied-refusal
+    slice-aggregate-copied-refusal-2
+    slice-aggregate-copied-refusal-3
+    copied-refusal-requires
+    returns)

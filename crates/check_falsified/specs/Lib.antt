@@ -1,0 +1,2 @@
+-- What the loop of row 17 goes by.
+pub mod Laws

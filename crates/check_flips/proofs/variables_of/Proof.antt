@@ -1,0 +1,49 @@
+-- `check_flips::variables_of` meets its contract: the clause of number k stands at index k − 1. Assumes nothing.
+use mathlib.Core.Path.{sym, ap, _∙_}
+use Prim.Native.Nat.{_-_}
+use native.Mathlib.Nat.{le-of-eq, le-trans, lt-of-lt-of-le}
+use native.Mathlib.Omega.{arith}
+use borrow.Author.Needs.{needs}
+use Rattle.points.specs.Points.{listed}
+use Rattle.check_flips.specs.Laws.FlipLaws.{listed-none, listed-past, listed-at}
+use Rattle.check_flips.proofs.variables_of.Statement.{statement}
+use Rattle.check_flips.proofs.variables_of.Tie as tie
+
+returns : tie.Need-returns
+returns c = listed-none _ _ (c .if1 .taken)
+
+sub-place : tie.Need-sub-place
+sub-place c = search needs
+
+clause-count-requires : tie.Need-clause-count-requires
+clause-count-requires c κs = search needs
+
+returns-2 : tie.Need-returns-2
+returns-2 c =
+    let a = c .before .before .before .before .before .args in
+    listed-past _ _ (a .k - 1) (omega arith) (le-trans (le-of-eq (sym (c .before .clause-count .ensures))) (c .if2 .taken))
+
+clause-at-requires : tie.Need-clause-at-requires
+clause-at-requires c κs = search needs
+
+listed-requires : tie.Need-listed-requires
+listed-requires c κs = search needs
+
+returns-3 : tie.Need-returns-3
+returns-3 c =
+    let counted = c .before .before .before in
+    let a = counted .before .before .before .before .args in
+    c .listed .ensures ∙ ap listed (c .before .clause-at .ensures)
+    ∙ listed-at _ _ (a .k - 1) (omega arith) (lt-of-lt-of-le (c .before .before .if2 .left) (le-of-eq (counted .clause-count .ensures)))
+
+pub variables-of-spec : {M : Type 1} → statement M
+variables-of-spec =
+    tie.close
+    (tie.spec
+    returns
+    sub-place
+    clause-count-requires
+    returns-2
+    clause-at-requires
+    listed-requires
+    returns-3)

@@ -1,0 +1,76 @@
+-- Source document 002: neighbourhoods, transport functions and stable sets as published, over any number n of variables. A set of points
+-- is a predicate, and the formula is a list of clauses. Assumes nothing.
+use mathlib.Core.Bool.{cond}
+use mathlib.Core.List.{List, [], _∷_}
+use mathlib.Core.Logic.{_⊎_}
+use mathlib.Core.Option.{Option, some, none}
+use mathlib.Core.Path.{_≡_}
+use Prim.Native.Nat.{ℕ, _<_, _^_}
+use lib.Dec.{eqb}
+use Rattle.math.specs.Lists.{_∈_}
+use Rattle.points.specs.Points.{Clause, Satisfies, Numbered, distance}
+use Rattle.permutation_theory.specs.Permutations.{Permutation, IsPermutation, imageOfPoint, clausesIn, Keeps}
+use Rattle.certificate.specs.Rows.{clauseNumbered}
+
+-- 002, definition 3: "the set of points that are at Hamming distance 1 from p and that satisfy C"
+pub record Nbhd (n : ℕ) (p : ℕ) (c : Clause) (q : ℕ) : Type 0 where
+  pub point : q < 2 ^ n
+  pub near : distance n p q ≡ 1
+  pub satisfied : Satisfies c q
+
+-- 002, definition 4: "a transport function $g:P \to F$ is meant to assign each point $p \in P$ a clause that is falsified by p"
+pub record Transport (clauses : List Numbered) (P : ℕ → Type 0) (g : ℕ → Clause) : Type 0 where
+  pub member : (p : ℕ) → P p → g p ∈ clausesIn clauses
+  pub falsified : (p : ℕ) → P p → Satisfies (g p) p → ⊥
+
+-- 002, definition 5: "Let P be a nonempty subset of Z(F)", and for each p of P "$Nbhd(p,g(p)) \subseteq P$"
+pub record StableSet (n : ℕ) (clauses : List Numbered) (P : ℕ → Type 0) (g : ℕ → Clause) : Type 0 where
+  pub witness : ℕ
+  pub nonempty : P witness
+  pub within : (p : ℕ) → P p → p < 2 ^ n
+  pub transport : Transport clauses P g
+  pub closed : (p : ℕ) → P p → (q : ℕ) → Nbhd n p (g p) q → P q
+
+-- 002, definitions 8 and 9: "The set of the permutations, with respect to which a CNF formula is symmetric, forms a group", there named G
+pub record Symmetry (n : ℕ) (clauses : List Numbered) (e : Permutation) : Type 0 where
+  pub bijective : IsPermutation n e
+  pub keeps : Keeps e clauses
+
+-- 002, definition 10: "there is a permutation $\pi \in G$ such that $p' = \pi(p)$ or $p = \pi(p')$"
+pub record Symmetric (n : ℕ) (clauses : List Numbered) (p q : ℕ) : Type 0 where
+  pub symmetry : Permutation
+  pub inGroup : Symmetry n clauses symmetry
+  pub maps : (q ≡ imageOfPoint symmetry p) ⊎ (p ≡ imageOfPoint symmetry q)
+
+-- 002, definition 11: "every point $p' \in Nbhd(p,g(p))$ is either in P or there is a point p of P that is symmetric to p'"; nonempty as in definition 5
+pub record StableModulo (n : ℕ) (clauses : List Numbered) (P : ℕ → Type 0) (g : ℕ → Clause) : Type 0 where
+  pub witness : ℕ
+  pub nonempty : P witness
+  pub within : (p : ℕ) → P p → p < 2 ^ n
+  pub transport : Transport clauses P g
+  pub closed : (p : ℕ) → P p → (q : ℕ) → Nbhd n p (g p) q → P q ⊎ ((r : ℕ) × P r × Symmetric n clauses q r)
+
+-- ---- the transport function of a certificate
+
+-- the number beside the first point x of a list; 0 where there is none
+unfoldable pub numberBeside : List ℕ → List ℕ → ℕ → ℕ
+numberBeside [] ks x = 0
+numberBeside (y ∷ ys) [] x = 0
+numberBeside (y ∷ ys) (k ∷ ks) x = cond (eqb y x) k (numberBeside ys ks x)
+
+-- the clause that is there, or one without variables
+unfoldable pub orEmpty : Option Clause → Clause
+orEmpty none = record { positive = 0; negative = 0 }
+orEmpty (some c) = c
+
+-- to each point the clause of its number
+unfoldable pub transportOf : List Numbered → List ℕ → List ℕ → ℕ → Clause
+unfolding orEmpty clauseNumbered numberBeside
+transportOf clauses points numbers x = orEmpty (clauseNumbered clauses (numberBeside points numbers x))
+
+-- k is the number of a clause of the formula that a transport function gives to x
+pub record Names (clauses : List Numbered) (g : ℕ → Clause) (x k : ℕ) : Type 0 where
+  pub one : Numbered
+  pub member : one ∈ clauses
+  pub numbered : one .number ≡ k
+  pub same : one .clause ≡ g x

@@ -1,0 +1,18 @@
+-- What `checker::check` promises. Assumes nothing.
+use mathlib.Core.List.{List}
+use mathlib.Core.Path.{_≡_}
+use Prim.Native.Nat.{ℕ}
+use Rattle.formula.specs.declared.Formula.{Formula}
+use Rattle.formula.specs.Reply.{Reply, refused, accepted}
+use Rattle.checker.specs.Checker.{checkReply}
+use Rattle.checker.specs.declared.Verdict.{Verdict}
+use Rattle.checker.specs.declared.Verdict.the-variants.{Accepted, Refused}
+
+-- F10: what the code's answer says in document 01's terms
+unfoldable pub replyOf : Verdict → Reply
+replyOf Accepted = accepted
+replyOf (Refused code place) = refused code place
+
+-- G.a: what the checker promises
+pub record CheckedAs (f : Formula) (positive negative file : List ℕ) (r : Verdict) : Type 0 where
+  pub reply : replyOf r ≡ checkReply f positive negative file

@@ -1,0 +1,275 @@
+-- The certificate of an unsatisfiable formula: the slots that the search leaves pass the writer's tests, and what the writer then puts out is
+-- a stable set, so the checker accepts it. Assumes nothing.
+use mathlib.Core.Bool.{true, _&&_}
+use mathlib.Core.List.{List, [], _++_, map, Memᴰ·append-right}
+use mathlib.Core.Path.{_≡_, refl, sym, ap, _∙_, subst}
+use Prim.Native.Nat.{ℕ, _≤_, _<_, _^_}
+use native.Mathlib.Nat.{le-trans, le-of-eq, lt-of-lt-of-le}
+use native.Mathlib.Omega.{arith}
+use lib.Dec.{leb}
+use lib.ListN.{length, getD, take, drop, length-map, List·getD-map}
+use lib.Seq.{getD-take}
+use borrow.Author.Tests.{le-leb, lt-leb}
+use Rattle.math.specs.Bits.{flip}
+use Rattle.math.specs.Laws.ListLaws.{here, and-join, getD-in, map-out}
+use Rattle.math.specs.Lists.{_∈_, firstFailing, below, over}
+use Rattle.math.specs.Laws.PartLaws.{over-front, over-length}
+use Rattle.points.specs.Laws.PointLaws.{falsified}
+use Rattle.points.specs.Points.{Numbered, Satisfies, satisfies, variables, FirstFalsified}
+use Rattle.point_slices.specs.Slices.{pointsOf, clausesOf}
+use Rattle.permutation_theory.specs.Permutations.{Covered}
+use Rattle.formula.specs.declared.Formula.{Formula}
+use Rattle.formula.specs.Limits.{maxSlots, capacity}
+use Rattle.formula.specs.Problem.{Problem, problemOf}
+use Rattle.formula.specs.Laws.RefusalLaws.{formula-passes, permutation-passes, symmetry-passes, fits-complete}
+use Rattle.formula.specs.Refusals.{clausesFault, formulaFault, permutationFault, symmetryFault}
+use Rattle.formula.specs.Reply.{Reply, refused, unsatisfiable, written, accepted, sound, fault, first, faultAt, unless, unlessKept, Fault}
+use Rattle.formula.specs.Laws.ReplyLaws.{first-skips, first-stops, test-passed, passes-below, not-refused}
+use Rattle.search.specs.Laws.Accepted.{rows, answered}
+use Rattle.search_theory.specs.Laws.Answers.{ClosedSlots}
+use Rattle.search.specs.Laws.Answered.{Answered}
+use Rattle.search.specs.Search.{lentBy, searchFault, searchReply, searchSlots, searchSlice}
+use Rattle.search.specs.Laws.Theorems.{search-closed, slots-filled}
+use Rattle.search_theory.specs.Walk.{Slot, slot, walked}
+use Rattle.certificate.specs.Certificate.{filePoints, fileNumbers}
+use Rattle.certificate.specs.Laws.RowLaws.{points-pass, point-passes-take, clause-of, numbered-own, number-passes, OwnNumbers}
+use Rattle.certificate.specs.Rows.{pointPasses, pointsFault, clauseNumbered, numberPasses, numbersFault, roomFault}
+use Rattle.certificate.specs.Writer.{lengthNeeded, certificateOf, writeFault, writeReply, writeOutput}
+use Rattle.certificate.specs.Laws.WriterLaws.{write-rows, passed-writer, reply-written, reads-back, past-unchanged}
+use Rattle.checker.specs.Checker.{checkReply}
+use Rattle.checker.specs.Laws.CheckerLaws.{accepts-complete}
+use Rattle.check_theory.specs.Stable.{Transported, Stable}
+
+-- ---- lists of slots, part by part
+
+slotD : Slot
+slotD = slot 0 0 0
+
+-- the part of the slot of index i
+part-at : (part : Slot → ℕ) → part (slot 0 0 0) ≡ 0 → (l : List Slot) (i : ℕ) → getD (map part l) i 0 ≡ part (getD l i (slot 0 0 0))
+part-at part e l i = ap (getD (map part l) i) (sym e) ∙ List·getD-map part l i (slot 0 0 0)
+
+-- a clause that is the first falsified one is among the clauses
+first-member : (cs : List Numbered) (x : ℕ) (c : Numbered) → FirstFalsified cs x c → c ∈ cs
+first-member cs x c f = subst (λ l. c ∈ l) (sym (f .place)) (Memᴰ·append-right (f .before) (here c (f .after)))
+
+unsatisfiable-not-refused : {k : ℕ} (code place : ℕ) → unsatisfiable k ≡ refused code place → ⊥
+unsatisfiable-not-refused code place e = let z : _≡_ {A = ℕ} 0 1 = cc in omega arith
+
+module _ (f : Formula) (positive negative points numbers depths : List ℕ) where
+  abbrev pb : Problem
+  pb = problemOf f positive negative
+
+  abbrev lent : ℕ
+  lent = lentBy points numbers depths
+
+  abbrev l : List Slot
+  l = searchSlots f positive negative lent
+
+  module _ (k : ℕ) (reply : searchReply f positive negative lent ≡ unsatisfiable k) where
+    answer : Answered f positive negative lent (unsatisfiable k)
+    answer = answered f positive negative lent (unsatisfiable k) reply unsatisfiable-not-refused
+
+    passed : searchFault f positive negative lent ≡ sound
+    unfolding searchReply
+    passed = not-refused (searchFault f positive negative lent) (walked pb lent .reply) (unsatisfiable k) reply unsatisfiable-not-refused
+
+    closed : ClosedSlots pb l
+    closed = search-closed f positive negative lent k reply .0
+
+    counted : k ≡ length l
+    counted = search-closed f positive negative lent k reply .1
+
+    few : length l ≤ lent
+    few = slots-filled pb lent (answer .ready) (answer .room) (answer .walks)
+
+    -- ---- the slices as the search leaves them
+
+    abbrev after : (Slot → ℕ) → List ℕ → List ℕ
+    after part old = searchSlice part f positive negative lent old
+
+    after-is : (part : Slot → ℕ) (old : List ℕ) → after part old ≡ over (map part l) old
+    unfolding searchSlice
+    after-is part old = ap (λ t. unlessKept t (over (map part l) old) old) passed
+
+    after-length : (part : Slot → ℕ) (old : List ℕ) → lent ≤ length old → length (after part old) ≡ length old
+    after-length part old h = ap length (after-is part old) ∙ over-length (map part l) old (le-trans (le-of-eq (length-map l part)) (le-trans few h))
+
+    after-front : (part : Slot → ℕ) (old : List ℕ) → take k (after part old) ≡ map part l
+    after-front part old = ap (take k) (after-is part old) ∙ over-front k (map part l) old (length-map l part ∙ sym counted)
+
+    abbrev points′ : List ℕ
+    points′ = after (λ (s : Slot). s .point) points
+
+    abbrev numbers′ : List ℕ
+    numbers′ = after (λ (s : Slot). s .falsified) numbers
+
+    abbrev depths′ : List ℕ
+    depths′ = after (λ (s : Slot). s .depth) depths
+
+    lent-parts : (lent ≤ length points) × (lent ≤ length numbers) × (lent ≤ length depths) × (lent ≤ maxSlots)
+    unfolding capacity
+    lent-parts = (omega arith, omega arith, omega arith, omega arith)
+
+    same-lent : lentBy points′ numbers′ depths′ ≡ lent
+    same-lent =
+        let e = after-length (λ (s : Slot). s .point) points (lent-parts .0) in
+        let g = after-length (λ (s : Slot). s .falsified) numbers (lent-parts .1) in
+        let h = after-length (λ (s : Slot). s .depth) depths (lent-parts .2) in
+        ap (λ a. capacity a (length numbers′) (length depths′)) e ∙ ap (λ b. capacity (length points) b (length depths′)) g ∙ ap (capacity (length points) (length numbers)) h
+
+    -- ---- the writer's tests
+
+    -- the rows 10, 11 and 12 are the search's
+    sheet-passed : (formulaFault f positive negative ≡ sound) × (permutationFault (pb .variables) (pb .permutations) ≡ sound) × (symmetryFault (pb .clauses) (pb .permutations) ≡ sound)
+    unfolding problemOf
+    sheet-passed = let r = rows f positive negative lent passed in (r .0, r .1, r .2)
+
+    abbrev cs : List Numbered
+    cs = pb .clauses
+
+    abbrev xs : List ℕ
+    xs = map (λ (s : Slot). s .point) l
+
+    abbrev ks : List ℕ
+    ks = map (λ (s : Slot). s .falsified) l
+
+    points-below : (x : ℕ) → x ∈ xs → x < 2 ^ pb .variables
+    points-below x m = let w = map-out (λ (s : Slot). s .point) l m in subst (λ y. y < 2 ^ pb .variables) (sym (w .2)) (closed .below (w .0) (w .1))
+
+    own-numbers : OwnNumbers cs
+    unfolding problemOf
+    own-numbers = numbered-own 1 (clausesOf positive negative)
+
+    -- an entry of a slice among the first k is that of the slots
+    front-at : (part : Slot → ℕ) → part (slot 0 0 0) ≡ 0 → (old : List ℕ) (i : ℕ) → i < k → getD (after part old) i 0 ≡ part (getD l i (slot 0 0 0))
+    front-at part e old i lt = sym (getD-take k (after part old) i 0 lt) ∙ ap (λ q. getD q i 0) (after-front part old) ∙ part-at part e l i
+
+    within : (i : ℕ) → i < k → i < length l
+    within i lt = subst (λ m. i < m) counted lt
+
+    row16 : pointsFault (lentBy points′ numbers′ depths′) (pb .variables) k (pointsOf points′) ≡ sound
+    unfolding pointsFault
+    row16 =
+        let some : 1 ≤ k = subst (λ m. 1 ≤ m) (sym counted) (closed .nonempty) in
+        let most : k ≤ lentBy points′ numbers′ depths′ = subst (λ m. m ≤ lentBy points′ numbers′ depths′) (sym counted) (le-trans few (le-of-eq (sym same-lent))) in
+        test-passed (leb 1 k && leb k (lentBy points′ numbers′ depths′)) (faultAt 16 (firstFailing (pointPasses (pb .variables) points′) (below k))) 16 0
+        (and-join (leb 1 k) (leb k (lentBy points′ numbers′ depths′)) (le-leb 1 k some) (le-leb k (lentBy points′ numbers′ depths′) most))
+        (passes-below 16 (pointPasses (pb .variables) points′) k each)
+      where
+        each : (i : ℕ) → i < k → pointPasses (pb .variables) points′ i ≡ true
+        each i lt =
+            sym (point-passes-take (pb .variables) points′ k i lt)
+            ∙ ap (λ q. pointPasses (pb .variables) q i) (after-front (λ (s : Slot). s .point) points)
+            ∙ points-pass (pb .variables) xs points-below (closed .distinct) i (lt-of-lt-of-le (within i lt) (le-of-eq (sym (length-map l (λ (s : Slot). s .point)))))
+
+    row17 : numbersFault cs k (pointsOf points′) numbers′ ≡ sound
+    unfolding numbersFault
+    row17 = passes-below 17 (numberPasses cs points′ numbers′) k each
+      where
+        each : (i : ℕ) → i < k → numberPasses cs points′ numbers′ i ≡ true
+        each i lt =
+            let t = getD l i (slot 0 0 0) in
+            let m = closed .settled t (getD-in l i (slot 0 0 0) (within i lt)) .moved in
+            let number : getD numbers′ i 0 ≡ m .clause .number = front-at (λ (s : Slot). s .falsified) refl numbers i lt ∙ m .number in
+            let point : getD points′ i 0 ≡ t .point = front-at (λ (s : Slot). s .point) refl points i lt in
+            number-passes cs points′ numbers′ i (m .clause .clause)
+            (ap (clauseNumbered cs) number ∙ clause-of cs own-numbers (m .clause) (first-member cs (t .point) (m .clause) (m .first)))
+            (ap (satisfies (m .clause .clause)) point ∙ falsified (m .clause .clause) (t .point) (m .first .falsified))
+
+    -- ---- what the writer answers and puts out
+
+    abbrev size : ℕ
+    size = lengthNeeded pb k
+
+    module _ (out : List ℕ) where
+      abbrev faults : Fault
+      faults = writeFault f positive negative points′ numbers′ depths′ k out
+
+      abbrev reply-of : Reply
+      reply-of = writeReply f positive negative points′ numbers′ depths′ k out
+
+      abbrev output : List ℕ
+      output = writeOutput f positive negative points′ numbers′ depths′ k out
+
+      -- C7: "there the writer refuses by 19 only"
+      short-fault : length out < size → faults ≡ fault 19 size
+      unfolding roomFault
+      short-fault lt =
+          let r = sheet-passed in
+          write-rows f positive negative points′ numbers′ depths′ k out
+          ∙ first-skips _ _ (r .0) ∙ first-skips _ _ (r .1) ∙ first-skips _ _ (r .2) ∙ first-skips _ _ row16 ∙ first-skips _ _ row17
+          ∙ first-stops (roomFault size (length out)) [] 19 size (rw (lt-leb size (length out) lt))
+
+      pub short-reply : length out < size → reply-of ≡ refused 19 size
+      unfolding writeReply
+      short-reply lt = ap (λ t. unless t (written size)) (short-fault lt)
+
+      pub short-output : length out < size → output ≡ out
+      unfolding writeOutput
+      short-output lt = ap (λ t. unlessKept t (certificateOf pb points′ numbers′ k ++ drop size out) out) (short-fault lt)
+
+      no-fault : size ≤ length out → faults ≡ sound
+      unfolding roomFault
+      no-fault le =
+          let r = sheet-passed in
+          passed-writer f positive negative points′ numbers′ depths′ k out
+          (record { row10 = r .0; row11 = r .1; row12 = r .2; row16 = row16; row17 = row17; row19 = rw (le-leb size (length out) le) })
+
+      pub long-reply : size ≤ length out → reply-of ≡ written size
+      long-reply le = reply-written f positive negative points′ numbers′ depths′ k out (no-fault le)
+
+      pub long-rest : size ≤ length out → drop size output ≡ drop size out
+      long-rest le = past-unchanged f positive negative points′ numbers′ depths′ k out size (long-reply le)
+
+    -- ---- the slots are a stable set, in the checker's form
+
+    transported : (i : ℕ) → i < length xs → Transported (pb .variables) cs (pb .permutations) xs (getD xs i 0) (getD ks i 0)
+    transported i lt =
+        let at : i < length l = subst (λ m. i < m) (length-map l (λ (s : Slot). s .point)) lt in
+        let t = getD l i (slot 0 0 0) in
+        let s = closed .settled t (getD-in l i (slot 0 0 0) at) in
+        let point : getD xs i 0 ≡ t .point = part-at (λ (s : Slot). s .point) refl l i in
+        record {
+          own = s .moved .clause;
+          member = first-member cs (t .point) (s .moved .clause) (s .moved .first);
+          named = sym (s .moved .number) ∙ sym (part-at (λ (s : Slot). s .falsified) refl l i);
+          falsified = λ h. s .moved .first .falsified (subst (Satisfies (s .moved .clause .clause)) point h);
+          flips = λ v m. subst (λ x. Covered (pb .permutations) xs (flip x v)) (sym point) (s .flips v m);
+        }
+
+    stable : Stable (pb .variables) cs (pb .permutations) xs ks
+    stable =
+        let r = sheet-passed in
+        let e = permutation-passes (pb .variables) (pb .permutations) (r .1) in
+        let many : length xs ≡ length l = length-map l (λ (s : Slot). s .point) in
+        record {
+          fewPermutations = e .0;
+          arePermutations = e .1;
+          keepClauses = symmetry-passes cs (pb .permutations) (r .2);
+          somePoint = le-trans (closed .nonempty) (le-of-eq (sym many));
+          fewPoints = le-trans (le-of-eq many) (le-trans few (lent-parts .3));
+          within = points-below;
+          distinct = closed .distinct;
+          paired = length-map l (λ (s : Slot). s .falsified) ∙ sym many;
+          transported = transported;
+        }
+
+    clauses-sound : clausesFault f positive negative ≡ sound
+    unfolding clausesFault
+    clauses-sound = rw (fits-complete (f .variables) (f .clauses) positive negative (formula-passes f positive negative (sheet-passed .0) .0))
+
+    -- D3.4: "Its certificate is then accepted."
+    pub long-accepted : (out : List ℕ) → size ≤ length out → checkReply f positive negative (take size (output out)) ≡ accepted
+    long-accepted out le =
+        let w = reads-back f positive negative points′ numbers′ depths′ k out size (long-reply out le) in
+        let same-points : filePoints (take size (output out)) ≡ xs = w .readsPoints ∙ after-front (λ (s : Slot). s .point) points in
+        let same-numbers : fileNumbers (take size (output out)) ≡ ks = w .readsNumbers ∙ after-front (λ (s : Slot). s .falsified) numbers in
+        accepts-complete f positive negative (take size (output out))
+        (record {
+          clausesSound = clauses-sound;
+          inOrder = w .inOrder;
+          sameVariables = w .readsVariables;
+          sameTotal = w .readsTotal;
+          stable = rw (w .readsPermutations, same-points, same-numbers) stable;
+        })

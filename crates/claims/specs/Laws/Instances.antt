@@ -1,0 +1,88 @@
+-- Nothing in the claim is vacuous: for each of its fields a worked case is an instance, and what the field then says of it. Assumes nothing.
+use mathlib.Core.List.{[], _∷_}
+use mathlib.Core.Path.{_≡_, refl}
+use Prim.Native.Nat.{ℕ}
+use native.Mathlib.Omega.{arith}
+use lib.Dec.{lit≤}
+use lib.ListN.{replicate}
+use Rattle.math.specs.Bits.{bit, flip}
+use Rattle.formula.specs.Limits.{capacity}
+use Rattle.formula.specs.Problem.{problemOf, Unsatisfiable}
+use Rattle.formula.specs.Reply.{refused, satisfiable, unsatisfiable, unknown}
+use Rattle.dimacs_format.specs.Laws.Example.{satisfiable-text}
+use Rattle.dimacs_format.specs.Reader.{readReply, readFormula, readPositive, readNegative}
+use Rattle.search.specs.Search.{searchReply}
+use Rattle.certificate.specs.Writer.{lengthNeeded}
+use Rattle.claims.specs.Cases.{Case, caseA-swap, caseA-3, caseA-4, caseB, certificateIn}
+use Rattle.claims.specs.Laws.CasesHold.{swap-accepted}
+use Rattle.claims.specs.Claim.{Sheet, from-text, by-value, problemIn, Slots, Answered, Meets, AtLeast, Certified}
+use Rattle.claims.specs.Laws.Theorem.{claim}
+
+-- the sheet of a case, by value, and three slices of p places
+abbrev sheetOf : Case → Sheet
+sheetOf c = by-value (c .formula) (c .positive) (c .negative)
+
+abbrev places : ℕ → Slots
+places p = record { points = replicate p 7; numbers = replicate p 7; depths = replicate p 7 }
+
+satisfiable-kept : {x d k : ℕ} (code place : ℕ) → satisfiable x d k ≡ refused code place → ⊥
+satisfiable-kept code place e = let z : _≡_ {A = ℕ} 0 1 = cc in omega arith
+
+unsatisfiable-kept : {k : ℕ} (code place : ℕ) → unsatisfiable k ≡ refused code place → ⊥
+unsatisfiable-kept code place e = let z : _≡_ {A = ℕ} 0 1 = cc in omega arith
+
+unknown-kept : {b k : ℕ} (code place : ℕ) → unknown b k ≡ refused code place → ⊥
+unknown-kept code place e = let z : _≡_ {A = ℕ} 0 1 = cc in omega arith
+
+-- ---- accepted sheets with each answer
+
+pub answered-B : Answered (sheetOf caseB) (places 5) (satisfiable 2 1 4)
+unfolding searchReply capacity bit flip
+answered-B = record { readable = tt; reply = refl; accepted = satisfiable-kept }
+
+-- the program's example, read into slices of three and of two places
+abbrev sheetText : Sheet
+sheetText = from-text satisfiable-text (0 ∷ 0 ∷ 9 ∷ []) (0 ∷ 0 ∷ [])
+
+pub answered-text : Answered sheetText (places 5) (satisfiable 2 1 4)
+unfolding searchReply capacity readReply readFormula readPositive readNegative bit flip
+answered-text = record { readable = refl; reply = refl; accepted = satisfiable-kept }
+
+pub answered-A : Answered (sheetOf caseA-swap) (places 4) (unsatisfiable 3)
+unfolding searchReply capacity bit flip
+answered-A = record { readable = tt; reply = refl; accepted = unsatisfiable-kept }
+
+pub answered-A-3 : Answered (sheetOf caseA-3) (places 3) (unknown 1 3)
+unfolding searchReply capacity bit flip
+answered-A-3 = record { readable = tt; reply = refl; accepted = unknown-kept }
+
+-- ---- what the claim says of them
+
+-- 1: 010 meets the rules of B, by value and as text, and no choice that does is nearer to 000
+pub nearest-B : Meets (problemIn (sheetOf caseB)) 2
+nearest-B = claim .nearest (sheetOf caseB) (places 5) 2 1 4 answered-B .0
+
+pub nearest-text : AtLeast (problemIn sheetText) 1
+nearest-text = claim .nearest sheetText (places 5) 2 1 4 answered-text .2
+
+-- 2: A cannot be met, with exchange 2 1
+pub refuted-A : Unsatisfiable (problemIn (sheetOf caseA-swap))
+refuted-A = claim .exactly (sheetOf caseA-swap) (places 4) (unsatisfiable 3) answered-A (λ b k e. let z : _≡_ {A = ℕ} 0 1 = cc in omega arith) .0 (3, refl)
+
+-- 3: its certificate is 70 bytes long; an output of 71 takes it, and the checker accepts it; one of 69 is refused
+pub certified-A : Certified (sheetOf caseA-swap) (places 4) 3 70 (replicate 71 9)
+unfolding lengthNeeded problemOf
+certified-A = claim .certified (sheetOf caseA-swap) (places 4) 3 answered-A (replicate 71 9)
+
+-- 4: a certificate that is accepted, from wherever it comes
+pub refuted-again : Unsatisfiable (problemOf (caseA-swap .formula) (caseA-swap .positive) (caseA-swap .negative))
+refuted-again = claim .refutes (caseA-swap .formula) (caseA-swap .positive) (caseA-swap .negative) (certificateIn caseA-swap) swap-accepted
+
+-- 5: with three slots A without exchange is left open, and every choice that meets the rules would differ from 00 in a name
+pub bound-A : AtLeast (problemIn (sheetOf caseA-3)) 1
+bound-A = claim .bound (sheetOf caseA-3) (places 3) 1 3 answered-A-3
+
+-- 6: with 2 ^ 2 slots it is not left open
+pub roomy-A : (b k : ℕ) → Answered (sheetOf caseA-4) (places 4) (unknown b k) → ⊥
+unfolding problemOf
+roomy-A b k = claim .roomy (sheetOf caseA-4) (places 4) b k (lit≤ tt) (lit≤ tt) (lit≤ tt) (lit≤ tt)

@@ -1,3 +1,0 @@
--- What the functions on clause words promise, and the laws that their proofs use.
-pub mod ClauseScans
-pub mod ClauseScanLaws

@@ -1,3 +1,0 @@
--- What look-ups of points and their images go by.
-pub mod Coverage
-pub mod CoverageLaws

@@ -1,0 +1,52 @@
+-- `dimacs::expect_number` meets its contract: the part up to the next blank is read. Assumes nothing.
+use mathlib.Core.Path.{sym, ap, _∙_}
+use borrow.Author.Needs.{needs}
+use Rattle.dimacs.specs.Laws.ProblemScanLaws.{number-behind, number-other}
+use Rattle.dimacs_words.specs.Laws.Scans.{numberOf}
+use Rattle.dimacs.proofs.expect_number.Statement.{statement}
+use Rattle.dimacs.proofs.expect_number.Tie as tie
+
+run-end-requires : tie.Need-run-end-requires
+run-end-requires c κs = search needs
+
+run-end-requires-2 : tie.Need-run-end-requires-2
+run-end-requires-2 c κs = search needs
+
+sub-read-number : tie.Need-sub-read-number
+sub-read-number c = search needs
+
+part-read-number-start : tie.Need-part-read-number-start
+part-read-number-start c = search needs
+
+part-read-number-end : tie.Need-part-read-number-end
+part-read-number-end c = search needs
+
+read-number-requires : tie.Need-read-number-requires
+read-number-requires c κs = search needs
+
+enum-known-number : tie.Need-enum-known-number
+enum-known-number c = search needs
+
+enum-told : tie.Need-enum-told
+enum-told c = search needs
+
+returns : tie.Need-returns
+returns c = number-other (c .before .before .before .before .before .before .before .args .line .now) _ _ _ (c .before .before .before .before .before .run-end .ensures) (c .before .before .before .before .run-end2 .ensures) (sym (c .before .before .read-number .ensures) ∙ ap numberOf (c .enum-told .given .1))
+
+returns-2 : tie.Need-returns-2
+returns-2 c = number-behind (c .before .before .before .before .before .before .before .before .args .line .now) _ _ _ (c .before .before .before .before .before .before .run-end .ensures) (c .before .before .before .before .before .run-end2 .ensures) _ (sym (c .before .before .before .read-number .ensures) ∙ ap numberOf (c .before .number .given .1))
+
+pub expect-number-spec : {M : Type 1} → statement M
+expect-number-spec =
+    tie.close
+    (tie.spec
+    run-end-requires
+    run-end-requires-2
+    sub-read-number
+    part-read-number-start
+    part-read-number-end
+    read-number-requires
+    enum-known-number
+    enum-told
+    returns
+    returns-2)

@@ -1,0 +1,28 @@
+-- `dimacs::is_skipped` meets its contract: a comment, or all blanks. Assumes nothing.
+use mathlib.Core.Path.{sym, _∙_}
+use borrow.Author.Needs.{needs}
+use Rattle.dimacs.specs.Laws.ProblemScanLaws.{skipped-comment, skipped-blank}
+use Rattle.dimacs_format.specs.Text.{isComment}
+use Rattle.dimacs.proofs.is_skipped.Statement.{statement}
+use Rattle.dimacs.proofs.is_skipped.Tie as tie
+
+slice-aggregate-begins : tie.Need-slice-aggregate-begins
+slice-aggregate-begins c = search needs
+
+begins-requires : tie.Need-begins-requires
+begins-requires c κs = search needs
+
+returns : tie.Need-returns
+unfolding isComment
+returns c = skipped-comment (c .before .before .before .before .args .line .now) (sym (c .before .begins .ensures) ∙ c .if1 .taken)
+
+run-end-requires : tie.Need-run-end-requires
+run-end-requires c κs = search needs
+
+returns-2 : tie.Need-returns-2
+unfolding isComment
+returns-2 c = skipped-blank (c .before .before .before .before .before .args .line .now) _ (sym (c .before .before .begins .ensures) ∙ c .before .if1 .left) (c .run-end .ensures)
+
+pub is-skipped-spec : {M : Type 1} → statement M
+is-skipped-spec =
+    tie.close (tie.spec slice-aggregate-begins begins-requires returns run-end-requires returns-2)

@@ -1,0 +1,100 @@
+-- Laws of refusals 1 to 4: the size of the text, its problem line, its sizes, the room in the slices. Assumes nothing.
+use mathlib.Core.Bool.{cond}
+use mathlib.Core.List.{List}
+use mathlib.Core.Option.{Option, some, none}
+use mathlib.Core.Path.{_≡_, sym, ap, _∙_, subst}
+use Prim.Native.Nat.{ℕ, _-_, _≤_, _<_}
+use native.Mathlib.Omega.{arith}
+use lib.ListN.{length, take, drop}
+use borrow.Author.Tests.{le-leb, lt-leb}
+use Rattle.dimacs_lines.specs.declared.Parsed.{Parsed}
+use Rattle.dimacs.specs.declared.Found.{Found}
+use Rattle.dimacs.specs.declared.Found.the-variants.{Line as FoundLine, Absent}
+use Rattle.dimacs_words.specs.declared.Class.the-variants.{Line as LineBytes}
+use Rattle.dimacs_format.specs.Reader.{refuses, andThen, walk, Sizes, problemWords, problemIn, withinLimits, lineStep, begin, atEnd, withRoom, withSizes, withProblem, fromProblem, withLines, reading, readReply, readFormula, readPositive, readNegative}
+use Rattle.dimacs.specs.Contract.{Read}
+use Rattle.dimacs_lines.specs.Laws.Answers.{Answers}
+use Rattle.dimacs.specs.Laws.ProblemScans.{ProblemFound}
+use Rattle.dimacs_words.specs.Laws.Scans.{belongs, Stretch, linesBehind}
+use Rattle.dimacs_format.specs.Text.{maxText, Line, piece, lines, begins, problemWord}
+use Rattle.dimacs_format.specs.Laws.TextLaws.{words-bytes}
+
+-- ---- sizes and room
+
+module _ (size a b : ℕ) (l : Line) (after : List Line) (z : Sizes) where
+  pub sizes-low : z .variables < 1 → withSizes size a b l after z ≡ refuses 3 (l .start)
+  unfolding withSizes withinLimits
+  sizes-low h = rw (lt-leb 1 (z .variables) h)
+
+  pub sizes-high : 1 ≤ z .variables → 64 < z .variables → withSizes size a b l after z ≡ refuses 3 (l .start)
+  unfolding withSizes withinLimits
+  sizes-high lo h = rw (le-leb 1 (z .variables) lo, lt-leb (z .variables) 64 h)
+
+  pub sizes-many : 1 ≤ z .variables → z .variables ≤ 64 → 4096 < z .total → withSizes size a b l after z ≡ refuses 3 (l .start)
+  unfolding withSizes withinLimits
+  sizes-many lo hi h = rw (le-leb 1 (z .variables) lo, le-leb (z .variables) 64 hi, lt-leb (z .total) 4096 h)
+
+  module _ (lo : 1 ≤ z .variables) (hi : z .variables ≤ 64) (few : z .total ≤ 4096) where
+    sizes-fit : withSizes size a b l after z ≡ withRoom size a b l after z
+    unfolding withSizes withinLimits
+    sizes-fit = rw (le-leb 1 (z .variables) lo, le-leb (z .variables) 64 hi, le-leb (z .total) 4096 few)
+
+    pub room-first : a < z .total → withSizes size a b l after z ≡ refuses 4 (l .start)
+    unfolding withRoom
+    room-first h = sizes-fit ∙ rw (lt-leb (z .total) a h)
+
+    pub room-second : z .total ≤ a → b < z .total → withSizes size a b l after z ≡ refuses 4 (l .start)
+    unfolding withRoom
+    room-second g h = sizes-fit ∙ rw (le-leb (z .total) a g, lt-leb (z .total) b h)
+
+    pub room-both : z .total ≤ a → z .total ≤ b → withSizes size a b l after z ≡ andThen (walk (lineStep z) begin after) (atEnd size z)
+    unfolding withRoom
+    room-both g h = sizes-fit ∙ rw (le-leb (z .total) a g, le-leb (z .total) b h)
+
+-- ---- the whole text
+
+-- what a problem line says does not depend on where it stands
+problem-anywhere : (start : ℕ) (line : List ℕ) → problemIn (piece start line) ≡ problemIn (piece 0 line)
+unfolding problemIn
+problem-anywhere start line = ap (λ l. cond (begins problemWord line) (problemWords l) none) (words-bytes start 0 line)
+
+pub answers-read : (text positive₀ negative₀ : List ℕ) (r : Parsed) (positive₁ negative₁ : List ℕ)
+    → Answers (reading text (length positive₀) (length negative₀)) positive₀ negative₀ r positive₁ negative₁ → Read text positive₀ negative₀ r positive₁ negative₁
+unfolding readReply readFormula readPositive readNegative
+answers-read text positive₀ negative₀ r positive₁ negative₁ a = record { reply = a .reply; formula = a .formula; positive = a .positive; negative = a .negative }
+
+module _ (text : List ℕ) (a b : ℕ) where
+  pub text-long : maxText < length text → reading text a b ≡ refuses 1 maxText
+  unfolding reading
+  text-long h = rw (lt-leb (length text) maxText h)
+
+  module _ (h : length text ≤ maxText) where
+    by-lines : reading text a b ≡ withLines (length text) a b (fromProblem (lines 0 text))
+    unfolding reading
+    by-lines = rw (le-leb (length text) maxText h)
+
+    pub text-absent : (r : Found) → ProblemFound text r → r ≡ Absent → reading text a b ≡ refuses 2 (length text)
+    unfolding withLines
+    text-absent (FoundLine start stop) f e = absurd (let z : _≡_ {A = ℕ} 0 1 = cc in omega arith)
+    text-absent Absent f e = by-lines ∙ ap (withLines (length text) a b) f
+
+    module _ (r : Found) (found : ProblemFound text r) (start stop : ℕ) (e : r ≡ FoundLine start stop) where
+      pub problem-place : Stretch (belongs LineBytes) text start stop
+      problem-place = subst (ProblemFound text) e found .0
+
+      by-problem : (o : Option Sizes) → o ≡ problemIn (piece 0 (take (stop - start) (drop start text)))
+          → reading text a b ≡ withProblem (length text) a b (piece start (take (stop - start) (drop start text))) (linesBehind text stop) o
+      unfolding withLines
+      by-problem o f =
+          by-lines ∙ ap (withLines (length text) a b) (subst (ProblemFound text) e found .1)
+          ∙ ap (withProblem (length text) a b (piece start (take (stop - start) (drop start text))) (linesBehind text stop))
+          (problem-anywhere start (take (stop - start) (drop start text)) ∙ sym f)
+
+      pub text-malformed : none ≡ problemIn (piece 0 (take (stop - start) (drop start text))) → reading text a b ≡ refuses 2 start
+      unfolding withProblem
+      text-malformed f = by-problem none f
+
+      pub text-sized : (z : Sizes) → some z ≡ problemIn (piece 0 (take (stop - start) (drop start text)))
+          → reading text a b ≡ withSizes (length text) a b (piece start (take (stop - start) (drop start text))) (linesBehind text stop) z
+      unfolding withProblem
+      text-sized z f = by-problem (some z) f

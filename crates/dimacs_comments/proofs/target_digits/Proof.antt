@@ -1,0 +1,69 @@
+-- `dimacs_comments::target_digits` meets its contract: at digit i what is left is read behind those passed. Assumes nothing.
+use mathlib.Core.Path.{_≡_, sym, ap, _∙_, subst}
+use Prim.Native.Nat.{_≤_, _<_, _-_, _+_, _^_}
+use native.Mathlib.Omega.{arith}
+use lib.ListN.{length, getD, take, drop}
+use borrow.Author.Needs.{needs}
+use Rattle.dimacs_comments.specs.Laws.CommentScans.{binaryIn}
+use Rattle.dimacs_comments.specs.Laws.CommentScanLaws.{binaryFrom, binary-begins, digit-joins, digit-below, binary-ends, binary-stops, binary-goes-on, binary-low, binary-high, binary-digit}
+use Rattle.dimacs_comments.proofs.target_digits.Statement.{statement}
+use Rattle.dimacs_comments.proofs.target_digits.Tie as tie
+
+abbrev Inv-loop : tie.InvT-loop
+Inv-loop bytes n x₀ i₀ x i = (n ≤ 64) × (n ≤ length bytes) × (x < 2 ^ i) × (binaryIn n bytes ≡ binaryFrom x i (drop i (take n bytes)))
+
+abbrev μ-loop : tie.MeasureT-loop
+μ-loop bytes n x₀ i₀ x i = n - i
+
+loop-holds : tie.Need-loop-holds Inv-loop μ-loop
+loop-holds c = (c .before .pre .0, c .before .pre .1, search needs, binary-begins _ _)
+
+cast-at : tie.Need-cast-at Inv-loop μ-loop
+cast-at c = search needs
+
+shared-slice-read-b : tie.Need-shared-slice-read-b Inv-loop μ-loop
+shared-slice-read-b c = omega arith
+
+returns : tie.Need-returns Inv-loop μ-loop
+returns c =
+    let l = c .before .before .before .loop in
+    sym (l .inv .3 ∙ binary-stops _ _ (l .inv .1) (l .x) (l .i) (c .before .before .loop-test .taken) (binary-low _ (c .if1 .taken)))
+
+returns-2 : tie.Need-returns-2 Inv-loop μ-loop
+returns-2 c =
+    let l = c .before .before .before .before .loop in
+    sym (l .inv .3 ∙ binary-stops _ _ (l .inv .1) (l .x) (l .i) (c .before .before .before .loop-test .taken) (binary-high _ (c .if2 .taken)))
+
+cast-digit : tie.Need-cast-digit Inv-loop μ-loop
+cast-digit c = search needs
+
+carry-requires : tie.Need-carry-requires Inv-loop μ-loop
+carry-requires c κs = omega (arith, c .before .before .before .loop-test .taken, c .before .before .before .before .loop .inv .0)
+
+add-i : tie.Need-add-i Inv-loop μ-loop
+add-i c = search needs
+
+loop-less : tie.Need-loop-less Inv-loop μ-loop
+loop-less c = search needs
+
+loop-again : tie.Need-loop-again Inv-loop μ-loop
+loop-again c =
+    let l = c .before .before .before .before .before .loop in
+    let small : getD (c .before .before .before .before .before .before .before .args .bytes .now) (l .i) 0 - 48 < 2 = omega (arith, c .before .if2 .left) in
+    let moved = c .carry .ensures ∙ digit-joins (l .x) (l .i) _ (l .inv .2) small in (
+      l .inv .0,
+      l .inv .1,
+      subst (λ y. y < 2 ^ (l .i + 1)) (sym moved) (digit-below (l .x) (l .i) _ (l .inv .2) small),
+      l .inv .3 ∙ binary-goes-on _ _ (l .inv .1) (l .x) (l .i) (c .before .before .before .before .loop-test .taken) (binary-digit _ (c .before .before .if1 .left) (c .before .if2 .left))
+          ∙ ap (λ y. binaryFrom y (l .i + 1) (drop (l .i + 1) (take (c .before .before .before .before .before .before .before .args .n) (c .before .before .before .before .before .before .before .args .bytes .now)))) (sym moved),
+    )
+
+returns-3 : tie.Need-returns-3 Inv-loop μ-loop
+returns-3 c =
+    let l = c .before .loop in
+    sym (l .inv .3 ∙ binary-ends _ _ (l .inv .1) (l .x) (l .i) (c .loop-test .left))
+
+pub target-digits-spec : {M : Type 1} → statement M
+target-digits-spec =
+    tie.close
+    (tie.spec Inv-loop μ-loop loop-holds cast-at shared-slice-read-b returns returns-2 cast-digit carry-requires add-i loop-less loop-again returns-3)

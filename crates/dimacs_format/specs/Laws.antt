@@ -1,0 +1,10 @@
+-- Laws, and what functions inside the library promise each other: no contract of an entry point cites any of it.
+pub mod TextLaws
+pub mod StepLaws
+pub mod ClauseLaws
+pub mod CommentLaws
+pub mod LineLaws
+pub mod ReaderLaws
+pub mod InputLaws
+pub mod Handed
+pub mod Example

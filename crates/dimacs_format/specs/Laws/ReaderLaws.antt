@@ -1,0 +1,266 @@
+-- The reader accepts just the accepted texts, and yields what they say; what it yields after a refusal; what an accepted text is sure to
+-- hold. Assumes nothing.
+use mathlib.Core.Bool.{Bool, true, false, cond, _&&_, _||_}
+use mathlib.Core.List.{List, [], _∷_, _++_, nil≢cons, List·Memᴰ·tail, List·Memᴰ·not-nil, List·Memᴰ·cases-cons}
+use mathlib.Core.Logic.{inl, inr, ⊎-elim}
+use mathlib.Core.Option.{Option, some, none}
+use mathlib.Core.Path.{_≡_, refl, sym, ap, ap₂, _∙_, subst}
+use Prim.Native.Nat.{ℕ, _≤_, _<_}
+use native.Mathlib.Omega.{arith}
+use lib.Dec.{eqb, leb}
+use lib.ListN.{length, drop}
+use borrow.Author.Tests.{eqb-true, eq-eqb, leb-true, le-leb, lt-leb}
+use Rattle.math.specs.Laws.ListLaws.{here, and-split, and-join, or-split, or-left, or-right, all-at, all-of}
+use Rattle.math.specs.Lists.{over, _∈_, select}
+use Rattle.formula.specs.Limits.{maxVariables, maxClauses}
+use Rattle.formula.specs.Problem.{emptyFormula}
+use Rattle.formula.specs.Reply.{parsed, refused}
+use Rattle.dimacs_format.specs.Text.{maxText, isBlank, Line, lines, wordsOf, spelled, sameBytes, begins, isComment, allBlank, problemWord, formatWord, isTargetLine, isPermutationLine, numberIn, tokenIn, malformed}
+use Rattle.dimacs_format.specs.Input.{Input, emptyClause, formulaOf, positives, negatives}
+use Rattle.dimacs_format.specs.Reader.{Step, andThen, walk, Sizes, sizesIn, problemWords, problemIn, withinLimits, Progress, begin, lineStep, isSkipped, fromProblem, inputOf, atEnd, withRoom, withProblem, withLines, reading, replyTo, formulaFrom, sliceFrom, readReply, readFormula, readPositive, readNegative, goes, refuses}
+use Rattle.dimacs_format.specs.Accepted.{ProblemLine, Permuted, wordsAmong, Skipped, Accepts}
+use Rattle.dimacs_format.specs.Laws.TextLaws.{begins-split, same-bytes}
+use Rattle.dimacs_format.specs.Laws.StepLaws.{same-some, not-some, some-cond, goes-same, never, both-go}
+use Rattle.dimacs_format.specs.Laws.ClauseLaws.{walk-grouped, grouped-walk}
+use Rattle.dimacs_format.specs.Laws.LineLaws.{walk-parts, parts-walk}
+use Rattle.dimacs_format.specs.Laws.CommentLaws.{walk-targeted, targeted-walk, walk-permuted, permuted-walk}
+
+-- ---- the problem line
+
+sizes-of : (v c : Option ℕ) (z : Sizes) → sizesIn v c ≡ some z → (v ≡ some (z .variables)) × (c ≡ some (z .total))
+unfolding sizesIn
+sizes-of none c z e = absurd (not-some e)
+sizes-of (some v) none z e = absurd (not-some e)
+sizes-of (some v) (some c) z e = (ap (λ (k : Sizes). some (k .variables)) (same-some e), ap (λ (k : Sizes). some (k .total)) (same-some e))
+
+pub problem-of : (l : Line) (z : Sizes) → problemIn l ≡ some z → ProblemLine l (z .variables) (z .total)
+unfolding problemIn
+problem-of l z e =
+    let c = some-cond (begins problemWord (l .bytes)) e in
+    by (spelled (wordsOf l)) refl (c .1) (begins-split problemWord (l .bytes) (c .0))
+  where
+    by : (ws : List (List ℕ)) → spelled (wordsOf l) ≡ ws → problemWords ws ≡ some z → l .bytes ≡ problemWord ++ drop 1 (l .bytes)
+        → ProblemLine l (z .variables) (z .total)
+    by [] f e b = absurd (not-some e)
+    by (p ∷ []) f e b = absurd (not-some e)
+    by (p ∷ q ∷ []) f e b = absurd (not-some e)
+    by (p ∷ q ∷ v ∷ []) f e b = absurd (not-some e)
+    by (p ∷ q ∷ v ∷ c ∷ []) f e b =
+        let w = some-cond (sameBytes p problemWord && sameBytes q formatWord) e in
+        let s = and-split (sameBytes p problemWord) (sameBytes q formatWord) (w .0) in
+        let k = sizes-of (numberIn v) (numberIn c) z (w .1) in
+        record {
+          rest = drop 1 (l .bytes);
+          first = b;
+          third = v;
+          fourth = c;
+          four = f ∙ ap₂ (λ x y. x ∷ y ∷ v ∷ c ∷ []) (same-bytes p problemWord (s .0)) (same-bytes q formatWord (s .1));
+          variables = k .0;
+          total = k .1;
+        }
+    by (p ∷ q ∷ v ∷ c ∷ w ∷ ws) f e b = absurd (not-some e)
+
+pub problem-in : (l : Line) (n c : ℕ) → ProblemLine l n c → problemIn l ≡ some (record { variables = n; total = c })
+unfolding problemIn
+problem-in l n c p =
+    ap (λ t. cond t (problemWords (spelled (wordsOf l))) none) (ap (begins problemWord) (p .first)) ∙ ap problemWords (p .four)
+    ∙ ap₂ sizesIn (p .variables) (p .total)
+
+-- a problem line is no comment and not all blanks
+problem-shown : (l : Line) (n c : ℕ) → ProblemLine l n c → isSkipped l ≡ false
+unfolding isSkipped
+problem-shown l n c p = ap (λ bs. begins (99 ∷ []) bs || allBlank bs) (p .first)
+
+-- ---- the lines before it
+
+skipped-of : (l : Line) → isSkipped l ≡ true → Skipped l
+unfolding isSkipped
+skipped-of l e = ⊎-elim inl (λ h. inr (λ b m. all-at isBlank h m)) (or-split (isComment l) (allBlank (l .bytes)) e)
+
+skipped-is : (l : Line) → Skipped l → isSkipped l ≡ true
+unfolding isSkipped
+skipped-is l (inl e) = or-left (isComment l) (allBlank (l .bytes)) e
+skipped-is l (inr h) = or-right (isComment l) (allBlank (l .bytes)) (all-of isBlank (l .bytes) h)
+
+from-split : (ls : List Line) (l : Line) (after : List Line) → fromProblem ls ≡ l ∷ after
+    → (before : List Line) × (ls ≡ before ++ l ∷ after) × ((k : Line) → k ∈ before → Skipped k)
+unfolding fromProblem
+from-split [] l after e = absurd (nil≢cons e)
+from-split (k ∷ ls) l after e = by (isSkipped k) refl e (from-split ls l after)
+  where
+    by : (t : Bool) → isSkipped k ≡ t → cond t (fromProblem ls) (k ∷ ls) ≡ l ∷ after
+        → (fromProblem ls ≡ l ∷ after → (before : List Line) × (ls ≡ before ++ l ∷ after) × ((k : Line) → k ∈ before → Skipped k))
+        → (before : List Line) × (k ∷ ls ≡ before ++ l ∷ after) × ((k : Line) → k ∈ before → Skipped k)
+    by true s e ih =
+        let i = ih e in
+        (k ∷ i .0, ap (λ r. k ∷ r) (i .1), λ j m. ⊎-elim (λ p. subst Skipped (sym p) (skipped-of k s)) (λ m. i .2 j m) (List·Memᴰ·cases-cons m))
+    by false s e ih = ([], e, λ j m. absurd (List·Memᴰ·not-nil m))
+
+from-of : (before : List Line) (l : Line) (after : List Line) → ((k : Line) → k ∈ before → Skipped k) → isSkipped l ≡ false
+    → fromProblem (before ++ l ∷ after) ≡ l ∷ after
+unfolding fromProblem
+from-of [] l after h e = ap (λ t. cond t (fromProblem after) (l ∷ after)) e
+from-of (k ∷ before) l after h e =
+    ap (λ t. cond t (fromProblem (before ++ l ∷ after)) (k ∷ before ++ l ∷ after)) (skipped-is k (h k (here k before)))
+    ∙ from-of before l after (λ j m. h j (List·Memᴰ·tail m)) e
+
+-- S16: "A second `p` line is a malformed word."
+pub second-problem : tokenIn problemWord ≡ malformed
+unfolding tokenIn
+second-problem = refl
+
+-- ---- what the reader takes is accepted
+
+module _ (text : List ℕ) (p q : ℕ) where
+  -- behind a problem line with sizes z: the walk came to s, and C clauses are closed
+  accepts-with : (l : Line) (after : List Line) (z : Sizes) (s : Progress) → length text ≤ maxText → fromProblem (lines 0 text) ≡ l ∷ after
+      → problemIn l ≡ some z → withinLimits z ≡ true → leb (z .total) p && leb (z .total) q ≡ true → walk (lineStep z) begin after ≡ goes s
+      → length (s .clauses .closed) ≡ z .total → Accepts text p q (inputOf (z .variables) s)
+  unfolding withinLimits
+  accepts-with l after z s size from is limits room walked full =
+      let f = from-split (lines 0 text) l after from in
+      let a = walk-parts z after begin s walked in
+      let t = and-split (leb 1 (z .variables) && leb (z .variables) maxVariables) (leb (z .total) maxClauses) limits in
+      let v = and-split (leb 1 (z .variables)) (leb (z .variables) maxVariables) (t .0) in
+      let r = and-split (leb (z .total) p) (leb (z .total) q) room in
+      let e = walk-permuted (z .variables) (select isPermutationLine after) [] (omega arith) (a .permutations) in
+      record {
+        size = size;
+        before = f .0;
+        problem = l;
+        after = after;
+        place = f .1;
+        skipped = f .2;
+        sizes = subst (ProblemLine l (z .variables)) (sym full) (problem-of l z is);
+        some-variable = leb-true 1 (z .variables) (v .0);
+        few-variables = leb-true (z .variables) maxVariables (v .1);
+        few-clauses = subst (λ k. k ≤ maxClauses) (sym full) (leb-true (z .total) maxClauses (t .1));
+        room-positive = subst (λ k. k ≤ p) (sym full) (leb-true (z .total) p (r .0));
+        room-negative = subst (λ k. k ≤ q) (sym full) (leb-true (z .total) q (r .1));
+        grouped = walk-grouped z (wordsAmong after) (s .clauses) (a .clauses) full;
+        targeted = walk-targeted (z .variables) (select isTargetLine after) (a .target);
+        permuted = subst (Permuted (z .variables) (select isPermutationLine after)) (sym (e .2)) (e .1);
+        few-permutations = e .3;
+      }
+
+  -- D2.1: a text that the reader takes is an accepted one, and says what the reader found
+  pub reading-accepts : (d : Input) → reading text p q ≡ goes d → Accepts text p q d
+  unfolding reading
+  reading-accepts d e = whole (leb (length text) maxText) refl (fromProblem (lines 0 text)) refl e
+    where
+      ends : (l : Line) (after : List Line) (z : Sizes) (s : Progress) → length text ≤ maxText → fromProblem (lines 0 text) ≡ l ∷ after → problemIn l ≡ some z
+          → withinLimits z ≡ true → leb (z .total) p && leb (z .total) q ≡ true → walk (lineStep z) begin after ≡ goes s
+          → (t : Bool) → eqb (length (s .clauses .closed)) (z .total) ≡ t → cond t (goes (inputOf (z .variables) s)) (refuses 7 (length text)) ≡ goes d → Accepts text p q d
+      ends l after z s size from is limits room walked true f e =
+          subst (Accepts text p q) (goes-same e) (accepts-with l after z s size from is limits room walked (eqb-true (length (s .clauses .closed)) (z .total) f))
+      ends l after z s size from is limits room walked false f e = absurd (never e)
+
+      sized : (l : Line) (after : List Line) (z : Sizes) → length text ≤ maxText → fromProblem (lines 0 text) ≡ l ∷ after → problemIn l ≡ some z
+          → (t : Bool) → withinLimits z ≡ t → (u : Bool) → leb (z .total) p && leb (z .total) q ≡ u
+          → cond t (cond u (andThen (walk (lineStep z) begin after) (atEnd (length text) z)) (refuses 4 (l .start))) (refuses 3 (l .start)) ≡ goes d → Accepts text p q d
+      sized l after z size from is false f u g e = absurd (never e)
+      sized l after z size from is true f false g e = absurd (never e)
+      sized l after z size from is true f true g e =
+          let v = both-go (walk (lineStep z) begin after) (atEnd (length text) z) e in
+          ends l after z (v .0) size from is f g (v .1) (eqb (length (v .0 .clauses .closed)) (z .total)) refl (v .2)
+
+      headed : (l : Line) (after : List Line) → length text ≤ maxText → fromProblem (lines 0 text) ≡ l ∷ after → (o : Option Sizes) → problemIn l ≡ o
+          → withProblem (length text) p q l after o ≡ goes d → Accepts text p q d
+      headed l after size from none is e = absurd (never e)
+      headed l after size from (some z) is e = sized l after z size from is (withinLimits z) refl (leb (z .total) p && leb (z .total) q) refl e
+
+      whole : (t : Bool) → leb (length text) maxText ≡ t → (ls : List Line) → fromProblem (lines 0 text) ≡ ls
+          → cond t (withLines (length text) p q ls) (refuses 1 maxText) ≡ goes d → Accepts text p q d
+      whole false f ls from e = absurd (never e)
+      whole true f [] from e = absurd (never e)
+      whole true f (l ∷ after) from e = headed l after (leb-true (length text) maxText f) from (problemIn l) refl e
+
+  -- ---- what is accepted the reader takes
+
+  -- D2.1: and an accepted text is taken, with what it says
+  pub accepts-reading : (d : Input) → Accepts text p q d → reading text p q ≡ goes d
+  unfolding reading
+  accepts-reading d a =
+      let z : Sizes = record { variables = d .variables; total = length (d .clauses) } in
+      let t = targeted-walk (d .variables) (a .targeted) in
+      let s : Progress = record { clauses = record { closed = d .clauses; begun = emptyClause }; target = t .0; permutations = d .permutations } in
+      let from : fromProblem (lines 0 text) ≡ a .problem ∷ a .after =
+      ap fromProblem (a .place) ∙ from-of (a .before) (a .problem) (a .after) (a .skipped) (problem-shown (a .problem) (d .variables) (length (d .clauses)) (a .sizes)) in
+      let limits : withinLimits z ≡ true =
+      and-join (leb 1 (d .variables) && leb (d .variables) maxVariables) (leb (length (d .clauses)) maxClauses)
+      (and-join (leb 1 (d .variables)) (leb (d .variables) maxVariables) (le-leb 1 (d .variables) (a .some-variable)) (le-leb (d .variables) maxVariables (a .few-variables)))
+      (le-leb (length (d .clauses)) maxClauses (a .few-clauses)) in
+      let room : leb (length (d .clauses)) p && leb (length (d .clauses)) q ≡ true =
+      and-join (leb (length (d .clauses)) p) (leb (length (d .clauses)) q) (le-leb (length (d .clauses)) p (a .room-positive))
+      (le-leb (length (d .clauses)) q (a .room-negative)) in
+      let walked : walk (lineStep z) begin (a .after) ≡ goes s =
+      parts-walk z (a .after) begin s
+      (record {
+        clauses = grouped-walk z (wordsAmong (a .after)) (d .clauses) (a .grouped) refl;
+        target = t .1;
+        permutations = permuted-walk (d .variables) (a .permuted) [] (omega (arith, a .few-permutations));
+      }) in
+      ap (λ b. cond b (withLines (length text) p q (fromProblem (lines 0 text))) (refuses 1 maxText)) (le-leb (length text) maxText (a .size))
+      ∙ ap (withLines (length text) p q) from
+      ∙ ap (withProblem (length text) p q (a .problem) (a .after)) (problem-in (a .problem) (d .variables) (length (d .clauses)) (a .sizes))
+      ∙ ap (λ b. cond b (withRoom (length text) p q (a .problem) (a .after) z) (refuses 3 (a .problem .start))) limits
+      ∙ ap (λ b. cond b (andThen (walk (lineStep z) begin (a .after)) (atEnd (length text) z)) (refuses 4 (a .problem .start))) room
+      ∙ ap (λ m. andThen m (atEnd (length text) z)) walked
+      ∙ ap (λ b. cond b (goes (inputOf (d .variables) s)) (refuses 7 (length text))) (eq-eqb (length (d .clauses)) (length (d .clauses)) refl)
+      ∙ ap (λ x. goes (record { variables = d .variables; clauses = d .clauses; target = x; permutations = d .permutations })) (t .2)
+
+-- R1: "text too long | 1 | 1,048,576"
+pub too-long : (text : List ℕ) (p q : ℕ) → maxText < length text → reading text p q ≡ refuses 1 maxText
+unfolding reading
+too-long text p q lt = ap (λ b. cond b (withLines (length text) p q (fromProblem (lines 0 text))) (refuses 1 maxText)) (lt-leb (length text) maxText lt)
+
+-- a text says one thing
+pub accepts-once : (text : List ℕ) (p q : ℕ) (d e : Input) → Accepts text p q d → Accepts text p q e → d ≡ e
+accepts-once text p q d e a b = goes-same (sym (accepts-reading text p q d a) ∙ accepts-reading text p q e b)
+
+-- ---- what the reader yields
+
+-- the reader's answer and the two slices at exit are those of d
+pub record Yields (text positive₀ negative₀ : List ℕ) (d : Input) : Type 0 where
+  pub reply : readReply text positive₀ negative₀ ≡ parsed
+  pub formula : readFormula text positive₀ negative₀ ≡ formulaOf d
+  -- S23: "Rules go to two lent slices, places past C unchanged."
+  pub positive : readPositive text positive₀ negative₀ ≡ over (positives (d .clauses)) positive₀
+  pub negative : readNegative text positive₀ negative₀ ≡ over (negatives (d .clauses)) negative₀
+
+module _ (text positive₀ negative₀ : List ℕ) where
+  goes-yields : (d : Input) → reading text (length positive₀) (length negative₀) ≡ goes d → Yields text positive₀ negative₀ d
+  unfolding readReply readFormula readPositive readNegative
+  goes-yields d e =
+      record {
+        reply = ap replyTo e;
+        formula = ap formulaFrom e;
+        positive = ap (λ r. sliceFrom positives r positive₀) e;
+        negative = ap (λ r. sliceFrom negatives r negative₀) e;
+      }
+
+  -- D2.1: an accepted text is read, and yields what it says
+  pub accepts-yields : (d : Input) → Accepts text (length positive₀) (length negative₀) d → Yields text positive₀ negative₀ d
+  accepts-yields d a = goes-yields d (accepts-reading text (length positive₀) (length negative₀) d a)
+
+  -- D2.1: a text that is read is an accepted one
+  pub parsed-accepts : readReply text positive₀ negative₀ ≡ parsed
+      → (d : Input) × Accepts text (length positive₀) (length negative₀) d × Yields text positive₀ negative₀ d
+  unfolding readReply
+  parsed-accepts e = by (reading text (length positive₀) (length negative₀)) refl e
+    where
+      by : (r : Step Input) → reading text (length positive₀) (length negative₀) ≡ r → replyTo r ≡ parsed
+          → (d : Input) × Accepts text (length positive₀) (length negative₀) d × Yields text positive₀ negative₀ d
+      by (goes d) f e = (d, reading-accepts text (length positive₀) (length negative₀) d f, goes-yields d f)
+      by (refuses code place) f e = absurd (let z : _≡_ {A = ℕ} 0 1 = cc in let n : ⊥ = omega arith in n)
+
+  -- N1: "Every row leaves all lent slices unchanged"; N2: "a refusal carries one that is 0 throughout"
+  pub refused-leaves : (code place : ℕ) → readReply text positive₀ negative₀ ≡ refused code place
+      → (readFormula text positive₀ negative₀ ≡ emptyFormula) × (readPositive text positive₀ negative₀ ≡ positive₀) × (readNegative text positive₀ negative₀ ≡ negative₀)
+  unfolding readReply readFormula readPositive readNegative
+  refused-leaves code place e = by (reading text (length positive₀) (length negative₀)) e
+    where
+      by : (r : Step Input) → replyTo r ≡ refused code place
+          → (formulaFrom r ≡ emptyFormula) × (sliceFrom positives r positive₀ ≡ positive₀) × (sliceFrom negatives r negative₀ ≡ negative₀)
+      by (goes d) e = absurd (let z : _≡_ {A = ℕ} 0 1 = cc in let n : ⊥ = omega arith in n)
+      by (refuses c p) e = (refl, refl, refl)

@@ -1,0 +1,10 @@
+-- The reader's answer in document 01's terms. Assumes nothing.
+use Prim.Native.Nat.{ℕ}
+use Rattle.formula.specs.Reply.{Reply, parsed, refused}
+use Rattle.dimacs_lines.specs.declared.Parse.{Parse}
+use Rattle.dimacs_lines.specs.declared.Parse.the-variants.{Accepted, Refused}
+
+-- F10: the reply that an answer of the code is
+abbrev pub replyOf : Parse → Reply
+replyOf Accepted = parsed
+replyOf (Refused code place) = refused code place

@@ -1,0 +1,48 @@
+-- `dimacs_words::belongs` meets its contract, class by class. Assumes nothing.
+use mathlib.Core.Bool.{not}
+use mathlib.Core.Path.{sym, ap, _∙_}
+use borrow.Author.Needs.{needs}
+use Rattle.dimacs_words.specs.Laws.Scans.{belongs}
+use Rattle.dimacs_format.specs.Text.{endsLine}
+use Rattle.dimacs_words.proofs.belongs.Statement.{statement}
+use Rattle.dimacs_words.proofs.belongs.Tie as tie
+
+enum-told : tie.Need-enum-told
+enum-told c = search needs
+
+is-blank-requires : tie.Need-is-blank-requires
+is-blank-requires c κs = search needs
+
+enum-told-2 : tie.Need-enum-told-2
+enum-told-2 c = search needs
+
+is-blank-requires-2 : tie.Need-is-blank-requires-2
+is-blank-requires-2 c κs = search needs
+
+enum-told-3 : tie.Need-enum-told-3
+enum-told-3 c = search needs
+
+returns : tie.Need-returns
+unfolding belongs
+returns c = c .is-blank .ensures ∙ sym (ap (λ k. belongs k (c .before .before .before .args .b)) (c .before .enum-told .given .1))
+
+returns-2 : tie.Need-returns-2
+unfolding belongs
+returns-2 c = ap not (c .is-blank2 .ensures) ∙ sym (ap (λ k. belongs k (c .before .before .before .args .b)) (c .before .enum-told2 .given .1))
+
+returns-3 : tie.Need-returns-3
+unfolding belongs endsLine
+returns-3 c = sym (ap (λ k. belongs k (c .before .before .args .b)) (c .enum-told3 .given .1))
+
+pub belongs-spec : {M : Type 1} → statement M
+belongs-spec =
+    tie.close
+    (tie.spec
+    enum-told
+    is-blank-requires
+    enum-told-2
+    is-blank-requires-2
+    enum-told-3
+    returns
+    returns-2
+    returns-3)

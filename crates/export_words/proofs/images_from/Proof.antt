@@ -1,0 +1,38 @@
+-- `export_words::images_from` meets its contract: the first 1,024 bytes are all that can be copied. Assumes nothing.
+use mathlib.Core.List.{List}
+use mathlib.Core.Path.{_≡_, sym, ap, _∙_}
+use Prim.Native.Nat.{ℕ, _<_, min}
+use native.Mathlib.Decide.{decLt}
+use native.Mathlib.Omega.{arith}
+use lib.ListN.{length, take, replicate}
+use lib.Seq.{take-all}
+use borrow.Author.Needs.{needs}
+use Rattle.math.specs.Lists.{over}
+use Rattle.export_words.specs.Words.{imagesFrom}
+use Rattle.export_words.proofs.images_from.Statement.{statement}
+use Rattle.export_words.proofs.images_from.Tie as tie
+
+whole : (bytes : List ℕ) (i : ℕ) → i ≡ min (length bytes) 1024 → take i bytes ≡ take 1024 bytes
+whole bytes i e = by (decLt 1024 (length bytes))
+  where
+    by : Dec (1024 < length bytes) → take i bytes ≡ take 1024 bytes
+    by (yes lt) = ap (λ (j : ℕ). take j bytes) (let z : i ≡ 1024 = omega arith in z)
+    by (no ge) = take-all i bytes (omega arith) ∙ sym (take-all 1024 bytes (omega arith))
+
+least-requires : tie.Need-least-requires
+least-requires c κs = search needs
+
+slice-aggregate-copy-bytes : tie.Need-slice-aggregate-copy-bytes
+slice-aggregate-copy-bytes c = search needs
+
+copy-bytes-requires : tie.Need-copy-bytes-requires
+copy-bytes-requires c κs = (omega arith, omega arith)
+
+returns : tie.Need-returns
+unfolding imagesFrom over
+returns c =
+    let bytes = c .before .before .before .before .before .args .bytes .now in
+    c .before .copy-bytes .ensures ∙ ap (λ l. over l (replicate 1024 0)) (whole bytes _ (c .before .before .before .least .ensures))
+
+pub images-from-spec : {M : Type 1} → statement M
+images-from-spec = tie.close (tie.spec least-requires slice-aggregate-copy-bytes copy-bytes-requires returns)

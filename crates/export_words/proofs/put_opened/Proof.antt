@@ -1,0 +1,78 @@
+-- `export_words::put_opened` meets its contract: of each answer the words that it carries, and the contents where it has some. Assumes nothing.
+use mathlib.Core.List.{List}
+use mathlib.Core.Path.{_≡_, sym, ap, _∙_}
+use Prim.Native.Nat.{ℕ}
+use borrow.Author.Needs.{needs}
+use Rattle.math.specs.Lists.{over}
+use Rattle.math.specs.Laws.OverLaws.{over-none}
+use Rattle.certificate.specs.declared.Opened.{Opened}
+use Rattle.certificate.specs.Contract.{replyOf, handedOut}
+use Rattle.export_words.specs.Words.{wordsOf}
+use Rattle.export_words.specs.Replies.{contentsWords}
+use Rattle.export_words.proofs.put_opened.Statement.{statement}
+use Rattle.export_words.proofs.put_opened.Tie as tie
+
+-- of equal answers the words are equal
+told-by : {r s : Opened} (reply : List ℕ) → r ≡ s → over (wordsOf (replyOf r)) reply ≡ over (wordsOf (replyOf s)) reply
+told-by reply e = ap (λ (r : Opened). over (wordsOf (replyOf r)) reply) e
+
+-- and the contents
+handed : {r s : Opened} (to : List ℕ) → r ≡ s → over (contentsWords (handedOut r)) to ≡ over (contentsWords (handedOut s)) to
+handed to e = ap (λ (r : Opened). over (contentsWords (handedOut r)) to) e
+
+enum-known-r : tie.Need-enum-known-r
+enum-known-r c = search needs
+
+put-contents-requires : tie.Need-put-contents-requires
+put-contents-requires c κs = search needs
+
+put-words-requires : tie.Need-put-words-requires
+put-words-requires c κs = search needs
+
+enum-known-r-2 : tie.Need-enum-known-r-2
+enum-known-r-2 c = search needs
+
+cast-put-words : tie.Need-cast-put-words
+cast-put-words c = search needs
+
+put-words-requires-2 : tie.Need-put-words-requires-2
+put-words-requires-2 c κs = search needs
+
+same-length : tie.Need-same-length
+same-length c = search needs
+
+same-length-2 : tie.Need-same-length-2
+same-length-2 c = search needs
+
+returns : tie.Need-returns
+unfolding wordsOf replyOf handedOut
+returns c =
+    let told = c .before .before in
+    let kept = told .before .before .before .before in
+    let b = kept .before .before .before in
+    (kept .put-contents .ensures ∙ handed _ (sym (b .r .given .1)), told .put-words .ensures ∙ told-by _ (sym (b .r .given .1)))
+
+same-length-3 : tie.Need-same-length-3
+same-length-3 c = search needs
+
+returns-2 : tie.Need-returns-2
+unfolding wordsOf replyOf handedOut contentsWords
+returns-2 c =
+    let b = c .before .before .before .before .before in
+    (sym (over-none _) ∙ handed _ (sym (b .r2 .given .1)), c .before .before .put-words2 .ensures ∙ told-by _ (sym (b .r2 .given .1)))
+
+pub put-opened-spec : {M : Type 1} → statement M
+put-opened-spec =
+    tie.close
+    (tie.spec
+    enum-known-r
+    put-contents-requires
+    put-words-requires
+    enum-known-r-2
+    cast-put-words
+    put-words-requires-2
+    same-length
+    same-length-2
+    returns
+    same-length-3
+    returns-2)

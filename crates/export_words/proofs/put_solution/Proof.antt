@@ -1,0 +1,142 @@
+-- `export_words::put_solution` meets its contract: of each answer the words that it carries. Assumes nothing.
+use mathlib.Core.List.{List}
+use mathlib.Core.Path.{_≡_, sym, ap, _∙_}
+use Prim.Native.Nat.{ℕ}
+use borrow.Author.Needs.{needs}
+use Rattle.math.specs.Lists.{over}
+use Rattle.solver.specs.declared.Solution.{Solution}
+use Rattle.export_words.specs.Replies.{solutionWords}
+use Rattle.export_words.proofs.put_solution.Statement.{statement}
+use Rattle.export_words.proofs.put_solution.Tie as tie
+
+-- of equal answers the words are equal
+told : {r s : Solution} (reply : List ℕ) → r ≡ s → over (solutionWords r) reply ≡ over (solutionWords s) reply
+told reply e = ap (λ (r : Solution). over (solutionWords r) reply) e
+
+enum-known-r : tie.Need-enum-known-r
+enum-known-r c = search needs
+
+cast-put-words : tie.Need-cast-put-words
+cast-put-words c = search needs
+
+cast-put-words-2 : tie.Need-cast-put-words-2
+cast-put-words-2 c = search needs
+
+put-words-requires : tie.Need-put-words-requires
+put-words-requires c κs = search needs
+
+enum-known-r-2 : tie.Need-enum-known-r-2
+enum-known-r-2 c = search needs
+
+cast-put-words-3 : tie.Need-cast-put-words-3
+cast-put-words-3 c = search needs
+
+put-words-requires-2 : tie.Need-put-words-requires-2
+put-words-requires-2 c κs = search needs
+
+enum-known-r-3 : tie.Need-enum-known-r-3
+enum-known-r-3 c = search needs
+
+cast-put-words-4 : tie.Need-cast-put-words-4
+cast-put-words-4 c = search needs
+
+put-words-requires-3 : tie.Need-put-words-requires-3
+put-words-requires-3 c κs = search needs
+
+enum-known-r-4 : tie.Need-enum-known-r-4
+enum-known-r-4 c = search needs
+
+cast-put-words-5 : tie.Need-cast-put-words-5
+cast-put-words-5 c = search needs
+
+cast-put-words-6 : tie.Need-cast-put-words-6
+cast-put-words-6 c = search needs
+
+put-words-requires-4 : tie.Need-put-words-requires-4
+put-words-requires-4 c κs = search needs
+
+enum-known-r-5 : tie.Need-enum-known-r-5
+enum-known-r-5 c = search needs
+
+cast-put-words-7 : tie.Need-cast-put-words-7
+cast-put-words-7 c = search needs
+
+put-words-requires-5 : tie.Need-put-words-requires-5
+put-words-requires-5 c κs = search needs
+
+same-length : tie.Need-same-length
+same-length c = search needs
+
+returns : tie.Need-returns
+unfolding solutionWords
+returns c =
+    let b = c .before .before .before .before .before in
+    c .before .before .put-words .ensures ∙ told _ (sym (b .r .given .1))
+
+same-length-2 : tie.Need-same-length-2
+same-length-2 c = search needs
+
+returns-2 : tie.Need-returns-2
+unfolding solutionWords
+returns-2 c =
+    let b = c .before .before .before .before .before in
+    c .before .before .put-words2 .ensures ∙ told _ (sym (b .r2 .given .1))
+
+same-length-3 : tie.Need-same-length-3
+same-length-3 c = search needs
+
+returns-3 : tie.Need-returns-3
+unfolding solutionWords
+returns-3 c =
+    let b = c .before .before .before .before .before in
+    c .before .before .put-words3 .ensures ∙ told _ (sym (b .r3 .given .1))
+
+same-length-4 : tie.Need-same-length-4
+same-length-4 c = search needs
+
+returns-4 : tie.Need-returns-4
+unfolding solutionWords
+returns-4 c =
+    let b = c .before .before .before .before .before in
+    c .before .before .put-words4 .ensures ∙ told _ (sym (b .r4 .given .1))
+
+same-length-5 : tie.Need-same-length-5
+same-length-5 c = search needs
+
+returns-5 : tie.Need-returns-5
+unfolding solutionWords
+returns-5 c =
+    let b = c .before .before .before .before .before in
+    c .before .before .put-words5 .ensures ∙ told _ (sym (b .r5 .given .1))
+
+pub put-solution-spec : {M : Type 1} → statement M
+put-solution-spec =
+    tie.close
+    (tie.spec
+    enum-known-r
+    cast-put-words
+    cast-put-words-2
+    put-words-requires
+    enum-known-r-2
+    cast-put-words-3
+    put-words-requires-2
+    enum-known-r-3
+    cast-put-words-4
+    put-words-requires-3
+    enum-known-r-4
+    cast-put-words-5
+    cast-put-words-6
+    put-words-requires-4
+    enum-known-r-5
+    cast-put-words-7
+    put-words-requires-5
+    same-length
+    returns
+    same-length-2
+    returns-2
+    same-length-3
+    returns-3
+    same-length-4
+    returns-4
+    same-length-5
+    returns-5)

@@ -1,0 +1,219 @@
+// Formulas and answers as the numbers, bytes and words in which programs in other languages hand them over and get
+// them.
+use certificate::Contents;
+use certificate::Entry;
+use certificate::Opened;
+use certificate_writer::Written;
+use checker::Verdict;
+use dimacs_lines::Parse;
+use formula::Formula;
+use point_slices::least;
+use search::Outcome;
+use solver::Solution;
+ghost use mathlib.Core.List.{[], _∷_};
+ghost use mathlib.Core.Path.{_≡_};
+ghost use Prim.Native.Nat.{_≤_};
+ghost use lib.ListN.{length, take};
+ghost use Rattle.math.specs.Lists.{over};
+ghost use Rattle.export_words.specs.Words.{imagesFrom, formulaFrom, numbersOf, wordsOf};
+ghost use mathlib.Core.Option.{some};
+ghost use Rattle.dimacs_lines.specs.Reply.{replyOf as parseReply};
+ghost use Rattle.search.specs.Contract.{replyOf as outcomeReply};
+ghost use Rattle.certificate_writer.specs.Contract.{replyOf as writtenReply};
+ghost use Rattle.certificate.specs.Contract.{handedOut, valueOf, contentsIn, replyOf as openedReply};
+ghost use Rattle.checker.specs.Contract.{replyOf as verdictReply};
+ghost use Rattle.export_words.specs.Replies.{entryWords, contentsWords, solutionWords};
+
+// How many words an answer takes.
+pub const WORDS: usize = 4;
+
+// Copies the first `count` bytes of one slice to the front of another. One step a byte.
+pub fn copy_bytes(to: &mut [u8], from: &[u8], count: usize)
+    requires { ⌜ (count ≤ length (now to)) × (count ≤ length (now from)) ⌝ }
+    ensures { λ _. ⌜ now (to .exit) ≡ over (take count (now (from .entry))) (now (to .entry)) ⌝ }
+{
+    let mut i = 0;
+    while i < count {
+        to[i] = from[i];
+        i += 1;
+    }
+}
+
+// The images of a formula by value from lent bytes: the first 1,024, and 0 for those that are not lent.
+pub fn images_from(bytes: &[u8]) -> [u8; Formula::IMAGES]
+    ensures { λ r. ⌜ r ≡ imagesFrom (now (bytes .entry)) ⌝ }
+{
+    let mut images = [0u8; Formula::IMAGES];
+    let count = least(bytes.len(), Formula::IMAGES);
+    copy_bytes(&mut images, bytes, count);
+    images
+}
+
+// The formula by value that numbers and bytes make.
+pub fn formula_from(
+    variables: u32,
+    clauses: u32,
+    target: u64,
+    permutations: u32,
+    images: &[u8],
+) -> Formula
+    ensures { λ r. ⌜ r ≡ formulaFrom variables clauses target permutations (now (images .entry)) ⌝ }
+{
+    Formula {
+        variables,
+        clauses,
+        target,
+        permutations,
+        images: images_from(images),
+    }
+}
+
+// Writes four words to the front of a slice; the callers see to its length.
+pub fn put_words(to: &mut [u64], a: u64, b: u64, c: u64, d: u64)
+    requires { ⌜ 4 ≤ length (now to) ⌝ }
+    ensures { λ _. ⌜ now (to .exit) ≡ over (a ∷ b ∷ c ∷ d ∷ []) (now (to .entry)) ⌝ }
+{
+    to[0] = a;
+    to[1] = b;
+    to[2] = c;
+    to[3] = d;
+}
+
+// Writes a formula's four numbers and its images; the callers see to the room for them. One step a byte of the images.
+pub fn put_formula(numbers: &mut [u64], images: &mut [u8], f: Formula)
+    requires { ⌜ (4 ≤ length (now numbers)) × (1024 ≤ length (now images)) ⌝ }
+    ensures { λ _. ⌜ (now (numbers .exit) ≡ over (numbersOf f) (now (numbers .entry))) × (now (images .exit) ≡ over (f .images) (now (images .entry))) ⌝ }
+{
+    let bytes = f.images;
+    put_words(
+        numbers,
+        f.variables as u64,
+        f.clauses as u64,
+        f.target,
+        f.permutations as u64,
+    );
+    copy_bytes(images, &bytes, Formula::IMAGES);
+}
+
+// How many words an entry of a body takes, and how many a file's contents.
+pub const ENTRY: usize = 2;
+
+pub const CONTENTS: usize = 8;
+
+// Writes the words of the reader's answer; the callers see to the room for them.
+pub fn put_parse(reply: &mut [u64], r: Parse)
+    requires { ⌜ 4 ≤ length (now reply) ⌝ }
+    ensures { λ _. ⌜ now (reply .exit) ≡ over (wordsOf (parseReply r)) (now (reply .entry)) ⌝ }
+{
+    match r {
+        Parse::Refused { code, place } => put_words(reply, 0, code as u64, place as u64, 0),
+        Parse::Accepted => put_words(reply, 4, 0, 0, 0),
+    }
+}
+
+// Writes the words of the search's answer; the callers see to the room for them.
+pub fn put_outcome(reply: &mut [u64], r: Outcome)
+    requires { ⌜ 4 ≤ length (now reply) ⌝ }
+    ensures { λ _. ⌜ now (reply .exit) ≡ over (wordsOf (outcomeReply r)) (now (reply .entry)) ⌝ }
+{
+    match r {
+        Outcome::Refused { code, place } => put_words(reply, 0, code as u64, place as u64, 0),
+        Outcome::Satisfiable {
+            point,
+            distance,
+            filled,
+        } => put_words(reply, 1, point, distance as u64, filled as u64),
+        Outcome::Unsatisfiable { filled } => put_words(reply, 2, filled as u64, 0, 0),
+        Outcome::Unknown { bound, filled } => put_words(reply, 3, bound as u64, filled as u64, 0),
+    }
+}
+
+// Writes the words of the writer's answer; the callers see to the room for them.
+pub fn put_written(reply: &mut [u64], r: Written)
+    requires { ⌜ 4 ≤ length (now reply) ⌝ }
+    ensures { λ _. ⌜ now (reply .exit) ≡ over (wordsOf (writtenReply r)) (now (reply .entry)) ⌝ }
+{
+    match r {
+        Written::Refused { code, place } => put_words(reply, 0, code as u64, place as u64, 0),
+        Written::Bytes(size) => put_words(reply, 5, size as u64, 0, 0),
+    }
+}
+
+// Writes the words of the checker's answer; the callers see to the room for them.
+pub fn put_verdict(reply: &mut [u64], r: Verdict)
+    requires { ⌜ 4 ≤ length (now reply) ⌝ }
+    ensures { λ _. ⌜ now (reply .exit) ≡ over (wordsOf (verdictReply r)) (now (reply .entry)) ⌝ }
+{
+    match r {
+        Verdict::Accepted => put_words(reply, 7, 0, 0, 0),
+        Verdict::Refused { code, place } => put_words(reply, 0, code as u64, place as u64, 0),
+    }
+}
+
+// Writes the two words of an entry of a body; the callers see to the room for them.
+pub fn put_entry(reply: &mut [u64], r: Entry)
+    requires { ⌜ 2 ≤ length (now reply) ⌝ }
+    ensures { λ _. ⌜ now (reply .exit) ≡ over (entryWords (valueOf r)) (now (reply .entry)) ⌝ }
+{
+    match r {
+        Entry::Value(x) => {
+            reply[0] = 1;
+            reply[1] = x;
+        }
+        Entry::Outside => {
+            reply[0] = 0;
+            reply[1] = 0;
+        }
+    }
+}
+
+// Writes the eight numbers of a file's contents; `put_opened` sees to the room for them.
+fn put_contents(to: &mut [u64], c: Contents)
+    requires { ⌜ 8 ≤ length (now to) ⌝ }
+    ensures { λ _. ⌜ now (to .exit) ≡ over (contentsWords (some (contentsIn c))) (now (to .entry)) ⌝ }
+{
+    to[0] = c.variables as u64;
+    to[1] = c.clauses as u64;
+    to[2] = c.permutations as u64;
+    to[3] = c.permutations_at as u64;
+    to[4] = c.points as u64;
+    to[5] = c.points_at as u64;
+    to[6] = c.numbers as u64;
+    to[7] = c.numbers_at as u64;
+}
+
+// Writes the words of the file reader's answer, and the contents where there are some; the callers see to the room for both.
+pub fn put_opened(contents: &mut [u64], reply: &mut [u64], r: Opened)
+    requires { ⌜ (8 ≤ length (now contents)) × (4 ≤ length (now reply)) ⌝ }
+    ensures { λ _. ⌜ (now (contents .exit) ≡ over (contentsWords (handedOut r)) (now (contents .entry))) × (now (reply .exit) ≡ over (wordsOf (openedReply r)) (now (reply .entry))) ⌝ }
+{
+    match r {
+        Opened::File(c) => {
+            put_contents(contents, c);
+            put_words(reply, 6, 0, 0, 0);
+        }
+        Opened::Refused { code, place } => put_words(reply, 0, code as u64, place as u64, 0),
+    }
+}
+
+// Writes the words of the solver's answer; the callers see to the room for them.
+pub fn put_solution(reply: &mut [u64], r: Solution)
+    requires { ⌜ 4 ≤ length (now reply) ⌝ }
+    ensures { λ _. ⌜ now (reply .exit) ≡ over (solutionWords r) (now (reply .entry)) ⌝ }
+{
+    match r {
+        Solution::Satisfiable {
+            point,
+            distance,
+            filled,
+        } => put_words(reply, 1, point, distance as u64, filled as u64),
+        Solution::Unsatisfiable { filled, size } => {
+            put_words(reply, 8, filled as u64, size as u64, 0)
+        }
+        Solution::Uncertified { filled, needed } => {
+            put_words(reply, 9, filled as u64, needed as u64, 0)
+        }
+        Solution::Unknown { bound, filled } => put_words(reply, 3, bound as u64, filled as u64, 0),
+        Solution::Refused { code, place } => put_words(reply, 0, code as u64, place as u64, 0),
+    }
+}

@@ -1,0 +1,72 @@
+-- `exports::reader::jugbowo_read` meets its contract: with room for the answer it tells what the reader answers. Assumes nothing.
+use Rattle.exports.specs.Laws.ReadingLaws.{without-reply, without-numbers, without-images, tells-reading}
+use Rattle.exports.proofs.reading.jugbowo_read.Statement.{statement}
+use Rattle.exports.proofs.reading.jugbowo_read.Tie as tie
+
+returns : tie.Need-returns
+returns c =
+    let a = c .before .before .before .before .before .before .before .args in
+    without-reply (a .text .now) (a .positive .now) (a .negative .now) (a .numbers .now) (a .images .now) (a .reply .now) (c .if1 .taken)
+
+returns-2 : tie.Need-returns-2
+returns-2 c =
+    let a = c .before .before .before .before .before .before .before .before .args in
+    without-numbers (a .text .now) (a .positive .now) (a .negative .now) (a .numbers .now) (a .images .now) (a .reply .now) (c .before .if1 .left) (c .if2 .taken)
+
+returns-3 : tie.Need-returns-3
+returns-3 c =
+    let a = c .before .before .before .before .before .before .before .before .before .args in
+    without-images (a .text .now) (a .positive .now) (a .negative .now) (a .numbers .now) (a .images .now) (a .reply .now) (c .before .before .if1 .left) (c .before .if2 .left) (c .if3 .taken)
+
+read-requires : tie.Need-read-requires
+read-requires c κs = tt
+
+put-formula-requires : tie.Need-put-formula-requires
+put-formula-requires c κs =
+    let roomy = c .before .before .before .before .before .before .before .before .before .before in
+    (roomy .before .if2 .left, roomy .if3 .left)
+
+put-parse-requires : tie.Need-put-parse-requires
+put-parse-requires c κs = c .before .before .before .before .before .before .before .before .before .before .before .before .before .before .before .before .before .before .if1 .left
+
+same-length : tie.Need-same-length
+same-length c = c .before .before .before .before .before .before .before .before .before .before .before .before .before .before .before .before .read .kept .1 .0
+
+same-length-2 : tie.Need-same-length-2
+same-length-2 c = c .before .before .before .before .before .before .before .before .before .before .before .before .before .before .before .before .read .kept .1 .1 .0
+
+same-length-3 : tie.Need-same-length-3
+same-length-3 c = c .before .before .before .before .before .before .before .before .put-formula .kept .0
+
+same-length-4 : tie.Need-same-length-4
+same-length-4 c = c .before .before .before .before .before .before .before .before .put-formula .kept .1 .0
+
+same-length-5 : tie.Need-same-length-5
+same-length-5 c = c .before .before .put-parse .kept .0
+
+returns-4 : tie.Need-returns-4
+returns-4 c =
+    let told = c .before .before .before .before .before .before .before .before in
+    let answered = told .before .before .before .before .before .before .before .before in
+    let roomy = answered .before .before .before in
+    let a = roomy .before .before .before .before .before .before .before .before .before .args in
+    tells-reading (a .text .now) (a .positive .now) (a .negative .now) (a .numbers .now) (a .images .now) (a .reply .now) (answered .read .result) _ _ _ _ _
+    (roomy .before .before .if1 .left) (roomy .before .if2 .left) (roomy .if3 .left) (answered .read .ensures)
+    (told .put-formula .ensures .0) (told .put-formula .ensures .1) (c .before .before .put-parse .ensures)
+
+pub jugbowo-read-spec : {M : Type 1} → statement M
+jugbowo-read-spec =
+    tie.close
+    (tie.spec
+    returns
+    returns-2
+    returns-3
+    read-requires
+    put-formula-requires
+    put-parse-requires
+    same-length
+    same-length-2
+    same-length-3
+    same-length-4
+    same-length-5
+    returns-4)

@@ -1,0 +1,15 @@
+-- What the exported writer returns, and what it leaves in the slices lent to it. Assumes nothing.
+use mathlib.Core.Bool.{cond}
+use mathlib.Core.List.{List}
+use mathlib.Core.Path.{_≡_}
+use Prim.Native.Nat.{ℕ}
+use Rattle.math.specs.Lists.{over}
+use Rattle.formula.specs.declared.Formula.{Formula}
+use Rattle.certificate.specs.Writer.{writeReply, writeOutput}
+use Rattle.export_words.specs.Words.{wordsOf, hasRoom}
+
+-- D2.4 for a caller in another language: with room for the answer, it and the output are the writer's; without, nothing changes
+pub record WriteTold (f : Formula) (positive negative points falsified depths : List ℕ) (count : ℕ) (out₀ reply₀ : List ℕ) (r : ℕ) (out₁ reply₁ : List ℕ) : Type 0 where
+  pub told : r ≡ cond (hasRoom reply₀) 1 0
+  pub reply : reply₁ ≡ cond (hasRoom reply₀) (over (wordsOf (writeReply f positive negative points falsified depths count out₀)) reply₀) reply₀
+  pub output : out₁ ≡ cond (hasRoom reply₀) (writeOutput f positive negative points falsified depths count out₀) out₀

@@ -1,0 +1,33 @@
+// The search as an exported function.
+use export_words::WORDS;
+use export_words::formula_from;
+use export_words::put_outcome;
+use search::search;
+ghost use Rattle.export_words.specs.Words.{formulaFrom};
+ghost use Rattle.exports.specs.Searching.{SearchTold};
+
+// The search, its answer told in the first four words of `reply`. It returns 1; where `reply` has no room it returns 0 and changes nothing.
+#[no_mangle]
+pub extern "C" fn jugbowo_search(
+    variables: u32,
+    clauses: u32,
+    target: u64,
+    permutations: u32,
+    images: &[u8],
+    positive: &[u64],
+    negative: &[u64],
+    points: &mut [u64],
+    falsified: &mut [u32],
+    depths: &mut [u32],
+    reply: &mut [u64],
+) -> u32
+    ensures { λ r. ⌜ SearchTold (formulaFrom variables clauses target permutations (now (images .entry))) (now (positive .entry)) (now (negative .entry)) (now (points .entry)) (now (falsified .entry)) (now (depths .entry)) (now (reply .entry)) r (now (points .exit)) (now (falsified .exit)) (now (depths .exit)) (now (reply .exit)) ⌝ }
+{
+    if reply.len() < WORDS {
+        return 0;
+    }
+    let f = formula_from(variables, clauses, target, permutations, images);
+    let r = search(f, positive, negative, points, falsified, depths);
+    put_outcome(reply, r);
+    1
+}

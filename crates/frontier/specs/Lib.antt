@@ -1,3 +1,0 @@
--- The search from any slot on: the contract of its loop, and the laws.
-pub mod Exploring
-pub mod WalkingLaws

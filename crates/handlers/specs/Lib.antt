@@ -1,3 +1,0 @@
--- What the functions on one line promise, and the laws that their proofs use.
-pub mod HandlerScans
-pub mod HandlerLaws

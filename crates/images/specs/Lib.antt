@@ -1,3 +1,0 @@
--- What the functions on permutations require, and the laws of their loops.
-pub mod Contracts
-pub mod LoopLaws

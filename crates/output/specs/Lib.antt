@@ -1,2 +1,0 @@
--- What the stores into the output go by.
-pub mod OutputLaws

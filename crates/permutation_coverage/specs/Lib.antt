@@ -1,0 +1,2 @@
+-- What look-ups of points and their images go by.
+pub mod Laws

@@ -1,0 +1,87 @@
+// Which flips of a point are covered by the points of an index, modulo one listed permutation. The images of the
+// point are at hand: that of a flip is one of them with one more flip, and those of the next point are these with a
+// few.
+use point_index::contains;
+use point_slices::point_at;
+use point_slices::put_point;
+use points::Point;
+ghost use mathlib.Core.Path.{_≡_};
+ghost use Prim.Native.Nat.{_+_, _-_, _*_, _^_, _≤_, _<_};
+ghost use lib.ListN.{length, getD, take};
+ghost use Rattle.math.specs.Bits.{flip};
+ghost use Rattle.point_slices.specs.Slices.{pointsOf};
+ghost use Rattle.permutation_theory.specs.Permutations.{covered, permutationsIn};
+ghost use Rattle.permutation_coverage.specs.Laws.Coverage.{Permuting, Imaged, Coverable, Turns, Sends};
+
+// The image stored at index i, flipped where the permutation of index i sends variable v: the image of the flipped point (`image-flip`).
+fn flipped_image(moved: &[u64], images: &[u8], n: u32, i: usize, v: u32) -> Point
+    requires { ⌜ Sends n i v (now images) ⌝ }
+    ensures { λ r. ⌜ r ≡ flip (getD (pointsOf (now (moved .entry))) i 0) (getD (now (images .entry)) (i * n + v) 0 - 1) ⌝ }
+{
+    let place = i * n as usize + v as usize;
+    let to = images[place] as u32 - 1;
+    let image = point_at(moved, i);
+    points::flip(image, to)
+}
+
+// Turns the images of a point into those of the point with variable v flipped: one step for each permutation.
+fn flip_images(moved: &mut [u64], images: &[u8], n: u32, permutations: u32, v: u32)
+    requires { ⌜ Permuting n permutations (now images) × (permutations ≤ length (now moved)) × (v < n) ⌝ }
+    ensures { λ _. ⌜ Turns n permutations (now (images .entry)) v (pointsOf (now (moved .entry))) (pointsOf (now (moved .exit))) ⌝ }
+{
+    let group = permutations as usize;
+    let mut i = 0;
+    while i < group {
+        let image = flipped_image(moved, images, n, i, v);
+        put_point(moved, i, image);
+        i += 1;
+    }
+}
+
+// Turns the images of x into those of y: one step for each permutation and each variable in which they differ, which are two where both were
+// filled from one point.
+pub fn move_images(moved: &mut [u64], images: &[u8], n: u32, permutations: u32, x: Point, y: Point)
+    requires { ⌜ Permuting n permutations (now images) × Imaged n permutations (now images) x (pointsOf (now moved)) × (y < 2 ^ n) ⌝ }
+    ensures { λ _. ⌜ Imaged n permutations (now (images .entry)) y (pointsOf (now (moved .exit))) ⌝ }
+{
+    let mut left = points::differing(x, y);
+    let mut v = points::next_variable(left);
+    while v < n {
+        flip_images(moved, images, n, permutations, v);
+        left = points::flip(left, v);
+        v = points::next_variable(left);
+    }
+}
+
+// Whether x with variable v flipped, or an image of that, is among the first k points, of which the links are an index; `moved` holds the
+// images of x. At most permutations + 1 look-ups, each of at most n + 1 comparisons, and one step for each image.
+pub fn flip_covered(
+    links: &[u32],
+    heads: usize,
+    points: &[u64],
+    n: u32,
+    k: usize,
+    images: &[u8],
+    permutations: u32,
+    moved: &[u64],
+    x: Point,
+    v: u32,
+) -> bool
+    requires { ⌜ Coverable heads n k (pointsOf (now points)) (now links) permutations (now images) (pointsOf (now moved)) x × (v < n) ⌝ }
+    ensures { λ r. ⌜ r ≡ covered (permutationsIn n permutations (now (images .entry))) (take k (pointsOf (now (points .entry)))) (flip x v) ⌝ }
+{
+    let flipped = points::flip(x, v);
+    if contains(links, heads, points, n, k, flipped) {
+        return true;
+    }
+    let group = permutations as usize;
+    let mut i = 0;
+    while i < group {
+        let image = flipped_image(moved, images, n, i, v);
+        if contains(links, heads, points, n, k, image) {
+            return true;
+        }
+        i += 1;
+    }
+    false
+}

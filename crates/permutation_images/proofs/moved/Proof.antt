@@ -1,0 +1,92 @@
+-- `permutation_images::moved` meets its contract: at index i the set holds what the numbers from i on send. Assumes nothing.
+use mathlib.Core.Path.{_≡_, sym, ap, _∙_}
+use Prim.Native.Nat.{_-_, _+_, _*_, _/_, _%_, _^_, _≤_, _<_}
+use lib.Bits.{bitOr}
+use native.Mathlib.Nat.{div-one, le-refl}
+use native.Mathlib.Omega.{arith}
+use lib.ListN.{length, getD, drop}
+use lib.Seq.{drop-length}
+use borrow.Author.Needs.{needs}
+use Rattle.math.specs.Laws.ListLaws.{getD-in}
+use Rattle.permutation_images.specs.Laws.LoopLaws.{moved-step}
+use Rattle.permutation_theory.specs.Permutations.{moved}
+use Rattle.permutation_images.proofs.moved.Statement.{statement}
+use Rattle.permutation_images.proofs.moved.Tie as tie
+
+abbrev Inv-loop : tie.InvT-loop
+Inv-loop e s r₀ i₀ r i = (i ≤ length e) × (r ≡ moved (drop i e) (s / 2 ^ i))
+
+abbrev μ-loop : tie.MeasureT-loop
+μ-loop e s r₀ i₀ r i = i
+
+loop-holds : tie.Need-loop-holds Inv-loop μ-loop
+unfolding moved
+loop-holds c = (le-refl _, sym (ap (λ l. moved l (c .before .args .s / 2 ^ length (c .before .args .e .now))) (drop-length (c .before .args .e .now))))
+
+sub-i : tie.Need-sub-i Inv-loop μ-loop
+sub-i c = search needs
+
+shared-slice-read-image : tie.Need-shared-slice-read-image Inv-loop μ-loop
+shared-slice-read-image c = search needs
+
+-- the number read is one of 1 to 64
+read : (c : tie.After-shared-slice-known2 Inv-loop μ-loop)
+    → (1 ≤ getD (c .before .before .before .before .args .e .now) (c .before .before .loop .i - 1) 0)
+    × (getD (c .before .before .before .before .args .e .now) (c .before .before .loop .i - 1) 0 ≤ 64)
+read c =
+    let start = c .before .before .before .before in
+    start .pre .within _ (getD-in (start .args .e .now) (c .before .before .loop .i - 1) 0 (omega arith))
+
+-- and so is its variable's
+index : (c : tie.After-shared-slice-known2 Inv-loop μ-loop) → c .before .before .loop .i - 1 < 64
+index c = omega (arith, c .before .before .before .before .pre .size)
+
+sub-image : tie.Need-sub-image Inv-loop μ-loop
+sub-image c = read c .0
+
+cast-from : tie.Need-cast-from Inv-loop μ-loop
+cast-from c = let h = index c in omega arith
+
+cast-to : tie.Need-cast-to Inv-loop μ-loop
+cast-to c = let h = read c in omega arith
+
+carry-requires : tie.Need-carry-requires Inv-loop μ-loop
+carry-requires c κs = let from = index c in let to = read c in omega arith
+
+loop-less : tie.Need-loop-less Inv-loop μ-loop
+loop-less c = search needs
+
+loop-again : tie.Need-loop-again Inv-loop μ-loop
+loop-again c =
+    let l = c .before .before .before .loop in
+    let a = c .before .before .before .before .before .args in
+    let back : l .i - 1 + 1 ≡ l .i = omega arith in (
+      omega arith,
+      c .carry .ensures
+          ∙ ap (bitOr (a .s / 2 ^ (l .i - 1) % 2 * 2 ^ (getD (a .e .now) (l .i - 1) 0 - 1))) (l .inv .1 ∙ ap (λ j. moved (drop j (a .e .now)) (a .s / 2 ^ j)) (sym back))
+          ∙ sym (moved-step 0 (a .e .now) 0 (l .i - 1) (omega arith) (a .s)),
+    )
+
+returns : tie.Need-returns Inv-loop μ-loop
+returns c =
+    let l = c .before .loop in
+    let a = c .before .before .before .args in
+    let none : l .i ≡ 0 = omega arith in
+    l .inv .1 ∙ ap (λ j. moved (drop j (a .e .now)) (a .s / 2 ^ j)) none ∙ ap (moved (a .e .now)) (div-one (a .s))
+
+pub moved-spec : {M : Type 1} → statement M
+moved-spec =
+    tie.close
+    (tie.spec
+    Inv-loop
+    μ-loop
+    loop-holds
+    sub-i
+    shared-slice-read-image
+    sub-image
+    cast-from
+    cast-to
+    carry-requires
+    loop-less
+    loop-again
+    returns)

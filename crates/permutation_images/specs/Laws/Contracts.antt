@@ -1,0 +1,23 @@
+-- What the functions on permutations require of their callers, and one that they share. Assumes nothing.
+use mathlib.Core.Bool.{Bool, not, _&&_}
+use mathlib.Core.List.{List}
+use Prim.Native.Nat.{ℕ, _-_, _*_, _≤_}
+use lib.Dec.{leb}
+use lib.ListN.{length}
+use Rattle.math.specs.Bits.{bit}
+use Rattle.math.specs.Lists.{_∈_}
+use Rattle.permutation_theory.specs.Permutations.{Permutation, permutationsIn}
+
+-- at most 64 numbers, each of 1 to 64: every permutation that refusal 11 lets pass is so
+pub record Movable (es : List ℕ) : Type 0 where
+  pub size : length es ≤ 64
+  pub within : (v : ℕ) → v ∈ es → (1 ≤ v) × (v ≤ 64)
+
+-- k such permutations of n numbers each lie in the bytes: refusals 10 and 11 see to it
+pub record Listed (n k : ℕ) (bytes : List ℕ) : Type 0 where
+  pub room : k * n ≤ length bytes
+  pub movable : (e : Permutation) → e ∈ permutationsIn n k bytes → Movable (e .images)
+
+-- v is one of 1 to n, and not of the set of those seen
+unfoldable pub fresh : ℕ → ℕ → ℕ → Bool
+fresh n seen v = leb 1 v && leb v n && not (bit seen (v - 1))

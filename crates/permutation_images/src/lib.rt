@@ -1,0 +1,90 @@
+// Images of points and clauses under a permutation, and the permutation test. One permutation is a part of n bytes,
+// the image of variable 1 first.
+use points::Clause;
+use points::Point;
+ghost use mathlib.Core.Path.{_≡_};
+ghost use Prim.Native.Nat.{_+_, _*_, _≤_};
+ghost use lib.ListN.{length, take, drop};
+ghost use Rattle.points.specs.Laws.Contracts.{clauseOf};
+ghost use Rattle.permutation_theory.specs.Permutations.{isPermutation, moved, imageOfPoint, imageOfClause};
+ghost use Rattle.permutation_images.specs.Laws.Contracts.{Movable, fresh};
+
+// Whether v is one of 1 to n and not in the set of those seen.
+fn fresh(seen: Point, v: u32, n: u32) -> bool
+    ensures { λ r. ⌜ r ≡ fresh n seen v ⌝ }
+{
+    if v < 1 {
+        return false;
+    }
+    if n < v {
+        return false;
+    }
+    !points::member(seen, v - 1)
+}
+
+// Whether the bytes are each of 1 to n exactly once. One step a byte. At most 64 variables: refusal 10 sees to it.
+pub fn is_permutation(e: &[u8], n: u32) -> bool
+    requires { ⌜ n ≤ 64 ⌝ }
+    ensures { λ r. ⌜ r ≡ isPermutation n (record { images = now (e .entry) }) ⌝ }
+{
+    if e.len() != n as usize {
+        return false;
+    }
+    let mut seen: Point = 0;
+    let mut i = 0;
+    while i < e.len() {
+        let v = e[i] as u32;
+        if !fresh(seen, v, n) {
+            return false;
+        }
+        seen = points::flip(seen, v - 1);
+        i += 1;
+    }
+    true
+}
+
+// Where a permutation sends the variables of a set. One step a variable. Refusal 11 sees to what it requires.
+pub fn moved(e: &[u8], s: Point) -> Point
+    requires { ⌜ Movable (now e) ⌝ }
+    ensures { λ r. ⌜ r ≡ moved (now (e .entry)) s ⌝ }
+{
+    let mut r: Point = 0;
+    let mut i = e.len();
+    while 0 < i {
+        i -= 1;
+        let image = e[i] - 1;
+        let from = i as u32;
+        let to = image as u32;
+        r = points::carry(r, s, from, to);
+    }
+    r
+}
+
+// The image of a point.
+pub fn image_of_point(e: &[u8], x: Point) -> Point
+    requires { ⌜ Movable (now e) ⌝ }
+    ensures { λ r. ⌜ r ≡ imageOfPoint (record { images = now (e .entry) }) x ⌝ }
+{
+    moved(e, x)
+}
+
+// The image of a clause.
+pub fn image_of_clause(e: &[u8], c: Clause) -> Clause
+    requires { ⌜ Movable (now e) ⌝ }
+    ensures { λ r. ⌜ clauseOf r ≡ imageOfClause (record { images = now (e .entry) }) (clauseOf c) ⌝ }
+{
+    Clause {
+        positive: moved(e, c.positive),
+        negative: moved(e, c.negative),
+    }
+}
+
+// The permutation of number i + 1 among those that lie in the bytes, n each.
+pub fn permutation_at(images: &[u8], n: usize, i: usize) -> &[u8]
+    requires { ⌜ i * n + n ≤ length (now images) ⌝ }
+    ensures { λ r. ⌜ now r ≡ take n (drop (i * n) (now (images .entry))) ⌝ }
+{
+    let start = i * n;
+    let end = start + n;
+    &images[start..end]
+}

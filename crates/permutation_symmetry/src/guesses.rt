@@ -1,0 +1,88 @@
+// Guesses where a clause stands, in a lent slice: each entry is 0, or 1 more than the index of a clause. Nothing is promised of it, whatever
+// it holds: who takes a guess compares. The guesses for a clause are 16 entries in a row, up to the first that is 0.
+use point_index::head_of;
+use point_slices::clause_at;
+use point_slices::clause_count;
+use point_slices::least;
+use point_slices::number_at;
+use point_slices::put_number;
+use points::Clause;
+ghost use mathlib.Core.Bool.{true};
+ghost use mathlib.Core.Path.{_≡_};
+ghost use Prim.Native.Nat.{_<_};
+ghost use Rattle.math.specs.Lists.{any};
+ghost use Rattle.points.specs.Laws.Contracts.{clauseOf};
+ghost use Rattle.point_slices.specs.Slices.{clausesOf};
+ghost use Rattle.permutation_theory.specs.Permutations.{sameClause};
+
+// How many entries the slice should have; with fewer there are fewer guesses. At most half of them hold one.
+pub const ENTRIES: usize = 8192;
+
+// Where the guesses for a clause begin: 15 entries and more follow. The factors differ, so that clauses over the same variables begin apart,
+// and are large, since the hashes of points of few digits are small.
+fn place_of(c: Clause) -> usize
+    ensures { λ r. ⌜ r < 8177 ⌝ }
+{
+    let p = head_of(c.positive, 4294967296);
+    let q = head_of(c.negative, 4294967296);
+    (1031 * p + 4801 * q) % 8177
+}
+
+// Whether the clause at index i is the clause c.
+fn stands_at(positive: &[u64], negative: &[u64], i: usize, c: Clause) -> bool
+    ensures { λ r. ⌜ (r ≡ true → any (sameClause (clauseOf c)) (clausesOf (now (positive .entry)) (now (negative .entry))) ≡ true) ⌝ }
+{
+    let end = clause_count(positive, negative);
+    if end <= i {
+        return false;
+    }
+    let d = clause_at(positive, negative, i);
+    crate::same_clause(c, d)
+}
+
+// Whether a guess for the clause is right: then it is among those of the slices. At most 16 comparisons, one where the first is right.
+pub fn guessed(guesses: &[u32], positive: &[u64], negative: &[u64], c: Clause) -> bool
+    ensures { λ r. ⌜ (r ≡ true → any (sameClause (clauseOf c)) (clausesOf (now (positive .entry)) (now (negative .entry))) ≡ true) ⌝ }
+{
+    let mut i = place_of(c);
+    let end = i + 16;
+    while i < end {
+        let number = number_at(guesses, i);
+        if number == 0 {
+            return false;
+        }
+        let at = number as usize - 1;
+        if stands_at(positive, negative, at, c) {
+            return true;
+        }
+        i += 1;
+    }
+    false
+}
+
+// Stores a guess for the clause at the first entry that is 0; where none of the 16 is, nothing is stored.
+fn put_guess(guesses: &mut [u32], c: Clause, number: u32) {
+    let mut i = place_of(c);
+    let end = i + 16;
+    while i < end {
+        let held = number_at(guesses, i);
+        if held == 0 {
+            put_number(guesses, i, number);
+            return;
+        }
+        i += 1;
+    }
+}
+
+// Stores a guess for each of the first 4,096 clauses: at most 16 steps a clause.
+pub fn make_guesses(guesses: &mut [u32], positive: &[u64], negative: &[u64]) {
+    let held = clause_count(positive, negative);
+    let end = least(held, 4096);
+    let mut i = 0;
+    while i < end {
+        let c = clause_at(positive, negative, i);
+        let number = i as u32 + 1;
+        put_guess(guesses, c, number);
+        i += 1;
+    }
+}

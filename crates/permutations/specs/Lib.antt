@@ -1,6 +1,0 @@
--- Permutations of variables: definitions, the tests, images, and what a permutation that keeps the clauses does.
-pub mod Permutations
-pub mod PermutationLaws
-pub mod ImageLaws
-pub mod Images
-pub mod Symmetries

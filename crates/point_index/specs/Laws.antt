@@ -1,0 +1,5 @@
+-- Laws, and what functions inside the library promise each other: no contract of an entry point cites any of it.
+pub mod Index
+pub mod Looking
+pub mod TreeLaws
+pub mod IndexLaws

@@ -1,0 +1,81 @@
+-- Laws of clauses in two parallel slices, and of scanning them for the first falsified one. Assumes nothing.
+use mathlib.Core.Bool.{Bool, true, false, cond}
+use mathlib.Core.List.{List, [], _∷_, List·Memᴰ·head, List·Memᴰ·tail, List·Memᴰ·not-nil}
+use mathlib.Core.Logic.{_⊎_, inl, inr}
+use mathlib.Core.Option.{some}
+use mathlib.Core.Path.{_≡_, refl, sym, ap, _∙_}
+use Prim.Native.Nat.{ℕ, zero, suc, _+_, _≤_, _<_, min, zero-le}
+use native.Mathlib.Nat.{zero-min, min-zero, suc-min-suc, min-le-left, min-le-right, le-trans, le-of-eq, le-of-suc-le-suc, not-suc-le-zero}
+use native.Mathlib.Omega.{arith}
+use native.Mathlib.Numerals.{add-one}
+use lib.ListN.{length, getD, drop, drop-of-length-le, List·getD-eq-default}
+use lib.Seq.{drop-cons}
+use Rattle.math.specs.Lists.{_∈_}
+use Rattle.points.specs.Points.{Clause, satisfies, numberedFrom, firstFalsified, numberOf}
+use Rattle.point_slices.specs.Slices.{clausesOf, noLiterals}
+
+pub length-clauses : (ps ns : List ℕ) → length (clausesOf ps ns) ≡ min (length ps) (length ns)
+unfolding clausesOf
+length-clauses [] ns = sym (zero-min (length ns))
+length-clauses (p ∷ ps) [] = sym (min-zero (suc (length ps)))
+length-clauses (p ∷ ps) (n ∷ ns) = ap suc (length-clauses ps ns) ∙ sym (suc-min-suc (length ps) (length ns))
+
+pub clauses-le : (ps ns : List ℕ) → length (clausesOf ps ns) ≤ length ps
+clauses-le ps ns = le-trans (le-of-eq (length-clauses ps ns)) (min-le-left (length ps) (length ns))
+
+pub clause-at : (ps ns : List ℕ) (i : ℕ) → i < length ps → i < length ns
+    → getD (clausesOf ps ns) i noLiterals ≡ record { positive = getD ps i 0; negative = getD ns i 0 }
+unfolding clausesOf
+clause-at [] ns i hp hn = absurd (not-suc-le-zero hp)
+clause-at (p ∷ ps) [] i hp hn = absurd (not-suc-le-zero hn)
+clause-at (p ∷ ps) (n ∷ ns) zero hp hn = refl
+clause-at (p ∷ ps) (n ∷ ns) (suc i) hp hn = clause-at ps ns i (le-of-suc-le-suc hp) (le-of-suc-le-suc hn)
+
+pub clause-past : (ps ns : List ℕ) (i : ℕ) → (length ps ≤ i) ⊎ (length ns ≤ i) → noLiterals ≡ getD (clausesOf ps ns) i noLiterals
+clause-past ps ns i h = sym (List·getD-eq-default (clausesOf ps ns) noLiterals (past h))
+  where
+    past : (length ps ≤ i) ⊎ (length ns ≤ i) → length (clausesOf ps ns) ≤ i
+    past (inl h) = le-trans (clauses-le ps ns) h
+    past (inr h) = le-trans (le-of-eq (length-clauses ps ns)) (le-trans (min-le-right (length ps) (length ns)) h)
+
+-- the two sets of a clause stand in the two slices
+pub clause-sets : (ps ns : List ℕ) (c : Clause) → c ∈ clausesOf ps ns → (c .positive ∈ ps) × (c .negative ∈ ns)
+unfolding clausesOf
+clause-sets [] ns c m = absurd (List·Memᴰ·not-nil m)
+clause-sets (p ∷ ps) [] c m = absurd (List·Memᴰ·not-nil m)
+clause-sets (p ∷ ps) (n ∷ ns) c (List·Memᴰ·head e) = (List·Memᴰ·head (ap (λ (c : Clause). c .positive) e), List·Memᴰ·head (ap (λ (c : Clause). c .negative) e))
+clause-sets (p ∷ ps) (n ∷ ns) c (List·Memᴰ·tail m) = let w = clause-sets ps ns c m in (List·Memᴰ·tail (w .0), List·Memᴰ·tail (w .1))
+
+-- the number of the first clause that the point falsifies, of those from index i on
+unfoldable pub falsifiedFrom : List Clause → ℕ → ℕ → ℕ
+unfolding numberedFrom firstFalsified numberOf
+falsifiedFrom cs x i = numberOf (firstFalsified (numberedFrom (suc i) (drop i cs)) x)
+
+module _ (cs : List Clause) (x : ℕ) where
+  next : (i : ℕ) → i < length cs → drop i cs ≡ getD cs i noLiterals ∷ drop (i + 1) cs
+  next i h = drop-cons cs i noLiterals h ∙ ap (λ j. getD cs i noLiterals ∷ drop j cs) (sym (add-one i))
+
+  pub falsified-ends : (i : ℕ) → length cs ≤ i → falsifiedFrom cs x i ≡ 0
+  unfolding falsifiedFrom
+  falsified-ends i h = ap (λ l. numberOf (firstFalsified (numberedFrom (suc i) l) x)) (drop-of-length-le cs h)
+
+  pub falsified-stops : (i : ℕ) → i < length cs → satisfies (getD cs i noLiterals) x ≡ false → falsifiedFrom cs x i ≡ i + 1
+  unfolding falsifiedFrom
+  falsified-stops i h e = ap (λ l. numberOf (firstFalsified (numberedFrom (suc i) l) x)) (next i h) ∙ rw e (sym (add-one i))
+
+  pub falsified-goes-on : (i : ℕ) → i < length cs → satisfies (getD cs i noLiterals) x ≡ true → falsifiedFrom cs x i ≡ falsifiedFrom cs x (i + 1)
+  unfolding falsifiedFrom
+  falsified-goes-on i h e =
+      ap (λ l. numberOf (firstFalsified (numberedFrom (suc i) l) x)) (next i h)
+      ∙ rw e (ap (λ k. numberOf (firstFalsified (numberedFrom (suc k) (drop (i + 1) cs)) x)) (sym (add-one i)))
+
+-- the number is 0, or that of a clause of the list
+pub falsified-le : (cs : List Clause) (x k : ℕ) → numberOf (firstFalsified (numberedFrom (suc k) cs) x) ≤ k + length cs
+unfolding numberedFrom firstFalsified numberOf
+falsified-le [] x k = zero-le
+falsified-le (c ∷ cs) x k = by (satisfies c x) (falsified-le cs x (suc k))
+  where
+    by : (b : Bool) → numberOf (firstFalsified (numberedFrom (suc (suc k)) cs) x) ≤ suc k + length cs
+        → numberOf (cond b (firstFalsified (numberedFrom (suc (suc k)) cs) x) (some (record { number = suc k; clause = c }))) ≤ k + suc (length cs)
+    by true ih = omega arith
+    by false ih = omega arith

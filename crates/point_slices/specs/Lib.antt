@@ -1,0 +1,3 @@
+-- Points and clauses in lent slices.
+pub mod Slices
+pub mod Laws

@@ -1,0 +1,102 @@
+// Points, clauses and numbers in lent slices. A slice of points has one word a point, and the clauses lie in two
+// parallel slices.
+use points::Clause;
+use points::Point;
+ghost use mathlib.Core.Path.{_≡_};
+ghost use Prim.Native.Nat.{min};
+ghost use lib.ListN.{length, getD, set};
+ghost use Rattle.points.specs.Laws.Contracts.{clauseOf};
+ghost use Rattle.points.specs.Points.{firstFalsified, numbered, numberOf};
+ghost use Rattle.point_slices.specs.Slices.{pointsOf, clausesOf, noLiterals};
+
+// How many points a slice holds.
+pub fn point_count(points: &[u64]) -> usize
+    ensures { λ r. ⌜ r ≡ length (pointsOf (now (points .entry))) ⌝ }
+{
+    points.len()
+}
+
+// The point at index i, 0 past the end.
+pub fn point_at(points: &[u64], i: usize) -> Point
+    ensures { λ r. ⌜ r ≡ getD (pointsOf (now (points .entry))) i 0 ⌝ }
+{
+    if i < points.len() { points[i] } else { 0 }
+}
+
+// Stores a point at index i; past the end nothing is stored.
+pub fn put_point(points: &mut [u64], i: usize, x: Point)
+    ensures { λ _. ⌜ pointsOf (now (points .exit)) ≡ set (pointsOf (now (points .entry))) i x ⌝ }
+{
+    if i < points.len() {
+        points[i] = x;
+    }
+}
+
+// The number at index i, 0 past the end.
+pub fn number_at(numbers: &[u32], i: usize) -> u32
+    ensures { λ r. ⌜ r ≡ getD (now (numbers .entry)) i 0 ⌝ }
+{
+    if i < numbers.len() { numbers[i] } else { 0 }
+}
+
+// Stores a number at index i; past the end nothing is stored.
+pub fn put_number(numbers: &mut [u32], i: usize, value: u32)
+    ensures { λ _. ⌜ now (numbers .exit) ≡ set (now (numbers .entry)) i value ⌝ }
+{
+    if i < numbers.len() {
+        numbers[i] = value;
+    }
+}
+
+// The smaller of two counts.
+pub fn least(a: usize, b: usize) -> usize
+    ensures { λ r. ⌜ r ≡ min a b ⌝ }
+{
+    if a < b { a } else { b }
+}
+
+// How many clauses two parallel slices hold.
+pub fn clause_count(positive: &[u64], negative: &[u64]) -> usize
+    ensures { λ r. ⌜ r ≡ length (clausesOf (now (positive .entry)) (now (negative .entry))) ⌝ }
+{
+    least(positive.len(), negative.len())
+}
+
+// The clause at index i, the one without literals past the end.
+pub fn clause_at(positive: &[u64], negative: &[u64], i: usize) -> Clause
+    ensures { λ r. ⌜ clauseOf r ≡ getD (clausesOf (now (positive .entry)) (now (negative .entry))) i noLiterals ⌝ }
+{
+    if positive.len() <= i {
+        return Clause {
+            positive: 0,
+            negative: 0,
+        };
+    }
+    if negative.len() <= i {
+        return Clause {
+            positive: 0,
+            negative: 0,
+        };
+    }
+    Clause {
+        positive: positive[i],
+        negative: negative[i],
+    }
+}
+
+// The number, from 1, of the first clause that the point falsifies; 0 where it satisfies all. One step a clause.
+pub fn first_falsified(positive: &[u64], negative: &[u64], x: Point) -> usize
+    ensures { λ r. ⌜ r ≡ numberOf (firstFalsified (numbered (clausesOf (now (positive .entry)) (now (negative .entry)))) x) ⌝ }
+{
+    let end = clause_count(positive, negative);
+    let mut i = 0;
+    while i < end {
+        let c = clause_at(positive, negative, i);
+        let met = points::satisfies(c, x);
+        if !met {
+            return i + 1;
+        }
+        i += 1;
+    }
+    0
+}

@@ -1,0 +1,42 @@
+-- `program::search_sheet` meets its contract: 4,096 slots are lent. Assumes nothing.
+use mathlib.Core.Path.{subst}
+use Prim.Native.Nat.{ℕ}
+use lib.ListN.{take}
+use borrow.Author.Needs.{needs}
+use Rattle.search.specs.Search.{searchReply}
+use Rattle.program_text.specs.Report.{reportOf, Printed}
+use Rattle.program.specs.Laws.ProgramLaws.{slots-lent}
+use Rattle.program.proofs.search_sheet.Statement.{statement}
+use Rattle.program.proofs.search_sheet.Tie as tie
+
+slice-aggregate-search-with : tie.Need-slice-aggregate-search-with
+slice-aggregate-search-with c = search needs
+
+slice-aggregate-search-with-2 : tie.Need-slice-aggregate-search-with-2
+slice-aggregate-search-with-2 c = search needs
+
+slice-aggregate-search-with-3 : tie.Need-slice-aggregate-search-with-3
+slice-aggregate-search-with-3 c = search needs
+
+search-with-requires : tie.Need-search-with-requires
+search-with-requires c κs = search needs
+
+same-length : tie.Need-same-length
+same-length c = search needs
+
+returns : tie.Need-returns
+returns c =
+    let called = c .before .before .before .before .before .search-with in
+    let a = c .before .before .before .before .before .before .before .before .before .before .before .before .before .args in
+    subst (λ (k : ℕ). Printed (reportOf (a .f .variables) (searchReply (a .f) (take (a .f .clauses) (a .positive .now)) (take (a .f .clauses) (a .negative .now)) k)) (a .out .now) (called .result) (called .last .1 .1 .1 .1 .1 .1 .0)) slots-lent (called .ensures)
+
+pub search-sheet-spec : {M : Type 1} → statement M
+search-sheet-spec =
+    tie.close
+    (tie.spec
+    slice-aggregate-search-with
+    slice-aggregate-search-with-2
+    slice-aggregate-search-with-3
+    search-with-requires
+    same-length
+    returns)

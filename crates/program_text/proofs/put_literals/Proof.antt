@@ -1,0 +1,74 @@
+-- `program_text::put_literals` meets its contract: with `left` names to come, the others are put. Assumes nothing.
+use mathlib.Core.List.{_++_}
+use mathlib.Core.Path.{_≡_, refl, sym, ap, _∙_, subst}
+use Prim.Native.Nat.{ℕ, _-_, _≤_}
+use native.Mathlib.Omega.{arith}
+use lib.ListN.{length}
+use borrow.Author.Needs.{needs}
+use Rattle.program_text.specs.Laws.Putting.{Put, put-none, put-both}
+use Rattle.program_text.specs.Report.{literal, literals}
+use Rattle.program_text.specs.Laws.ReportLaws.{literals-next, literals-length, literal-room}
+use Rattle.program_text.proofs.put_literals.Statement.{statement}
+use Rattle.program_text.proofs.put_literals.Tie as tie
+
+abbrev Inv-loop : tie.InvT-loop
+Inv-loop out₀ at x n place₀ left₀ out place left = (left ≤ n) × (length out ≡ length out₀) × Put at (literals x (n - left)) out₀ place out
+
+abbrev μ-loop : tie.MeasureT-loop
+μ-loop out₀ at x n place₀ left₀ out place left = left
+
+loop-holds : tie.Need-loop-holds Inv-loop μ-loop
+unfolding literals
+loop-holds c =
+    let a = c .before .args in
+    (omega arith, refl, subst (λ (k : ℕ). Put (a .at) (literals (a .x) k) (a .out .now) (a .at) (a .out .now)) (let z : 0 ≡ a .n - a .n = omega arith in z) (put-none (a .at) (a .out .now)))
+
+sub-i : tie.Need-sub-i Inv-loop μ-loop
+sub-i c = search needs
+
+put-literal-requires : tie.Need-put-literal-requires Inv-loop μ-loop
+put-literal-requires c κs =
+    let l = c .before .before .loop in
+    let s = c .before .before .before .before in
+    (omega (arith, s .pre .0), omega (arith, literals-length (s .args .x) (s .args .n - l .left) (omega (arith, s .pre .0)), l .inv .2 .behind, s .pre .1))
+
+sub-left : tie.Need-sub-left Inv-loop μ-loop
+sub-left c = search needs
+
+loop-less : tie.Need-loop-less Inv-loop μ-loop
+loop-less c = search needs
+
+loop-again : tie.Need-loop-again Inv-loop μ-loop
+loop-again c =
+    let put = c .before .before in
+    let l = put .before .before .before .loop in
+    let s = put .before .before .before .before .before in
+    let i = s .args .n - l .left in
+    let both = put-both (s .args .at) (literals (s .args .x) i) (literal (s .args .x) i) (s .args .out .now) (literal-room _ (s .args .x) i (s .args .n) (s .args .out .now) (s .pre .0) (s .pre .1) (omega arith)) _ _ (l .inv .2) _ _ (put .put-literal .ensures) in
+    let next : literals (s .args .x) i ++ literal (s .args .x) i ≡ literals (s .args .x) (s .args .n - (l .left - 1)) =
+    sym (literals-next (s .args .x) i) ∙ ap (literals (s .args .x)) (omega arith) in
+    (omega arith, put .put-literal .kept .0 ∙ l .inv .1, subst (λ t. Put (s .args .at) t (s .args .out .now) (put .put-literal .result) (put .put-literal .last .0)) next both)
+
+same-length : tie.Need-same-length Inv-loop μ-loop
+same-length c = search needs
+
+returns : tie.Need-returns Inv-loop μ-loop
+returns c =
+    let a = c .before .before .before .args in
+    let l = c .before .loop in
+    subst (λ (k : ℕ). Put (a .at) (literals (a .x) k) (a .out .now) (l .place) (l .out)) (let z : a .n - l .left ≡ a .n = omega arith in z) (l .inv .2)
+
+pub put-literals-spec : {M : Type 1} → statement M
+put-literals-spec =
+    tie.close
+    (tie.spec
+    Inv-loop
+    μ-loop
+    loop-holds
+    sub-i
+    put-literal-requires
+    sub-left
+    loop-less
+    loop-again
+    same-length
+    returns)

@@ -1,0 +1,82 @@
+-- Laws of the printed text: its names one by one, and how long it is at most. Assumes nothing.
+use mathlib.Core.Bool.{Bool, true, false}
+use mathlib.Core.List.{List, _++_}
+use mathlib.Core.Path.{_≡_, ap, _∙_}
+use Prim.Native.Nat.{ℕ, zero, suc, _+_, _*_, _^_, _≤_, _<_}
+use native.Mathlib.Numerals.{add-one}
+use native.Mathlib.Omega.{arith}
+use lib.ListN.{length, drop, length-append}
+use Rattle.math.specs.Bits.{bit}
+use Rattle.math.specs.Lists.{over}
+use Rattle.math.specs.Laws.SpliceLaws.{spliced-front}
+use Rattle.program_text.specs.Decimal.{numeral, lineEnd, field, line}
+use Rattle.program_text.specs.Laws.DecimalLaws.{numeral-length, line-length}
+use Rattle.program_text.specs.Laws.Putting.{Put}
+use Rattle.program_text.specs.Report.{sign, literal, literals, satisfiableHead, valuesEnd, changesHead, slotsBetween, unsatisfiableHead, unknownHead, refusedHead, space, satisfiableText, unsatisfiableText, unknownText, refusedText, Printed}
+
+-- put at the front of the output
+pub put-front : (text out₀ : List ℕ) (r : ℕ) (out₁ : List ℕ) → Put 0 text out₀ r out₁ → Printed text out₀ r out₁
+put-front text out₀ r out₁ p = record { counted = omega (arith, p .behind); output = p .stored ∙ spliced-front text out₀ }
+
+-- what was put lies within the output
+pub put-within : (text out₀ : List ℕ) (r : ℕ) (out₁ : List ℕ) → Printed text out₀ r out₁ → r ≤ length out₁
+unfolding over
+put-within text out₀ r out₁ p = omega (arith, p .counted, ap length (p .output), length-append text (drop (length text) out₀))
+
+-- ---- names
+
+-- one name more
+pub literals-next : (x i : ℕ) → literals x (i + 1) ≡ literals x i ++ literal x i
+unfolding literals
+literals-next x i = ap (literals x) (add-one i)
+
+sign-length : (b : Bool) → length (sign b) ≤ 2
+unfolding sign
+sign-length true = omega arith
+sign-length false = omega arith
+
+-- of at most 64 names each takes four bytes at most
+pub literals-length : (x n : ℕ) → n ≤ 64 → length (literals x n) ≤ 4 * n
+unfolding literals
+literals-length x zero le = omega arith
+literals-length x (suc n) le =
+    omega (
+      arith,
+      literals-length x n (omega arith),
+      length-append (literals x n) (literal x n),
+      length-append (sign (bit x n)) (numeral (n + 1)),
+      sign-length (bit x n),
+      numeral-length 1 (n + 1) (omega arith),
+    )
+
+-- there is room for the next one
+pub literal-room : (at x i n : ℕ) (out : List ℕ) → n ≤ 64 → at + 4 * n ≤ length out → i < n → at + length (literals x i ++ literal x i) ≤ length out
+literal-room at x i n out few room more = omega (arith, literals-length x (i + 1) (omega arith), ap length (literals-next x i))
+
+-- ---- no text is longer than 312 bytes where there are at most 64 names
+
+-- 15 in front of the names, four a name, 3 behind them, 38 in the last line
+pub satisfiable-length : (n x d k : ℕ) → n ≤ 64 → d < 10 ^ 10 → k < 10 ^ 10 → length (satisfiableText n x d k) ≤ 312
+unfolding satisfiableText
+satisfiable-length n x d k few p q =
+    omega (
+      arith,
+      length-append (satisfiableHead ++ literals x n ++ valuesEnd) (line changesHead d slotsBetween k),
+      length-append (satisfiableHead ++ literals x n) valuesEnd,
+      length-append satisfiableHead (literals x n),
+      literals-length x n few,
+      line-length changesHead slotsBetween 9 9 d k p q,
+    )
+
+pub unsatisfiable-length : (k : ℕ) → k < 10 ^ 10 → length (unsatisfiableText k) ≤ 312
+unfolding unsatisfiableText
+unsatisfiable-length k p =
+    omega (arith, length-append (field unsatisfiableHead k) lineEnd, length-append unsatisfiableHead (numeral k), numeral-length 9 k p)
+
+pub unknown-length : (b k : ℕ) → b < 10 ^ 10 → k < 10 ^ 10 → length (unknownText b k) ≤ 312
+unfolding unknownText
+unknown-length b k p q = omega (arith, line-length unknownHead space 9 9 b k p q)
+
+pub refused-length : (code place : ℕ) → code < 10 ^ 10 → place < 10 ^ 20 → length (refusedText code place) ≤ 312
+unfolding refusedText
+refused-length code place p q = omega (arith, line-length refusedHead space 9 19 code place p q)

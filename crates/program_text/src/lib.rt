@@ -1,0 +1,154 @@
+// The text that the program prints for a reply, put into lent bytes. Callers see to the room.
+use certificate_output::put_bytes;
+use points::Point;
+use points::member;
+use search::Outcome;
+ghost use mathlib.Core.List.{[], _∷_};
+ghost use Prim.Native.Nat.{_+_, _≤_, _<_, _*_};
+ghost use lib.ListN.{length};
+ghost use Rattle.program_text.specs.Decimal.{numeral, field, line};
+ghost use Rattle.program_text.specs.Laws.Putting.{Put};
+ghost use Rattle.search.specs.Contract.{replyOf};
+ghost use Rattle.program_text.specs.Report.{literal, literals, satisfiableText, unsatisfiableText, unknownText, refusedText, reportOf, Printed};
+
+// Puts one digit, and answers the place behind it.
+fn put_digit(out: &mut [u8], at: usize, d: u64) -> usize
+    requires { ⌜ (d < 10) × (at < length (now out)) ⌝ }
+    ensures { λ r. ⌜ Put at ((48 + d) ∷ []) (now (out .entry)) r (now (out .exit)) ⌝ }
+{
+    let byte = 48 + d as u8;
+    out[at] = byte;
+    at + 1
+}
+
+// Puts the decimal digits of a number, and answers the place behind them. One call a digit, so at most 20 deep.
+fn put_decimal(out: &mut [u8], at: usize, x: u64) -> usize
+    requires { ⌜ at + length (numeral x) ≤ length (now out) ⌝ }
+    ensures { λ r. ⌜ Put at (numeral x) (now (out .entry)) r (now (out .exit)) ⌝ }
+{
+    if x < 10 {
+        return put_digit(out, at, x);
+    }
+    let place = put_decimal(out, at, x / 10);
+    put_digit(out, place, x % 10)
+}
+
+// Puts a text, and answers the place behind it.
+pub fn put_text(out: &mut [u8], at: usize, text: &[u8]) -> usize
+    requires { ⌜ at + length (now text) ≤ length (now out) ⌝ }
+    ensures { λ r. ⌜ Put at (now (text .entry)) (now (out .entry)) r (now (out .exit)) ⌝ }
+{
+    let count = text.len();
+    put_bytes(out, at, text, count);
+    at + count
+}
+
+// Puts a text with a number behind it.
+pub fn put_field(out: &mut [u8], at: usize, head: &[u8], x: u64) -> usize
+    requires { ⌜ at + length (field (now head) x) ≤ length (now out) ⌝ }
+    ensures { λ r. ⌜ Put at (field (now (head .entry)) x) (now (out .entry)) r (now (out .exit)) ⌝ }
+{
+    let place = put_text(out, at, head);
+    put_decimal(out, place, x)
+}
+
+// Puts a line with two numbers: a text in front of each, and a line end.
+pub fn put_line(out: &mut [u8], at: usize, head: &[u8], a: u64, between: &[u8], b: u64) -> usize
+    requires { ⌜ at + length (line (now head) a (now between) b) ≤ length (now out) ⌝ }
+    ensures { λ r. ⌜ Put at (line (now (head .entry)) a (now (between .entry)) b) (now (out .entry)) r (now (out .exit)) ⌝ }
+{
+    let first = put_field(out, at, head, a);
+    let second = put_field(out, first, between, b);
+    put_text(out, second, b"\n")
+}
+
+// P3: puts the name of bit i of a point, with a minus where the bit is 0. That takes four bytes at most; `put_literals` sees to them.
+fn put_literal(out: &mut [u8], at: usize, x: Point, i: u32) -> usize
+    requires { ⌜ (i < 64) × (at + 4 ≤ length (now out)) ⌝ }
+    ensures { λ r. ⌜ Put at (literal x i) (now (out .entry)) r (now (out .exit)) ⌝ }
+{
+    let name = i as u64 + 1;
+    let wanted = member(x, i);
+    if wanted {
+        return put_field(out, at, b" ", name);
+    }
+    put_field(out, at, b" -", name)
+}
+
+// P3: puts the first n names of a point, ascending. One step a name. `put_satisfiable` sees to the room.
+fn put_literals(out: &mut [u8], at: usize, x: Point, n: u32) -> usize
+    requires { ⌜ (n ≤ 64) × (at + 4 * n ≤ length (now out)) ⌝ }
+    ensures { λ r. ⌜ Put at (literals x n) (now (out .entry)) r (now (out .exit)) ⌝ }
+{
+    let mut place = at;
+    let mut left = n;
+    while 0 < left {
+        let i = n - left;
+        place = put_literal(out, place, x, i);
+        left -= 1;
+    }
+    place
+}
+
+// Puts the three lines of a point that meets all clauses. Like the three functions after it, it leaves its requirement to `put_report`.
+fn put_satisfiable(out: &mut [u8], n: u32, x: Point, distance: u32, filled: u32) -> usize
+    requires { ⌜ (n ≤ 64) × (312 ≤ length (now out)) ⌝ }
+    ensures { λ r. ⌜ Printed (satisfiableText n x distance filled) (now (out .entry)) r (now (out .exit)) ⌝ }
+{
+    let changes = distance as u64;
+    let slots = filled as u64;
+    let first = put_text(out, 0, b"s SATISFIABLE\nv");
+    let second = put_literals(out, first, x, n);
+    let third = put_text(out, second, b" 0\n");
+    put_line(out, third, b"c changes ", changes, b" slots ", slots)
+}
+
+// Puts the two lines of a formula that no point meets.
+fn put_unsatisfiable(out: &mut [u8], filled: u32) -> usize
+    requires { ⌜ 312 ≤ length (now out) ⌝ }
+    ensures { λ r. ⌜ Printed (unsatisfiableText filled) (now (out .entry)) r (now (out .exit)) ⌝ }
+{
+    let place = put_field(out, 0, b"s UNSATISFIABLE\nc slots ", filled as u64);
+    put_text(out, place, b"\n")
+}
+
+// Puts the two lines of a search that had no room.
+fn put_unknown(out: &mut [u8], bound: u32, filled: u32) -> usize
+    requires { ⌜ 312 ≤ length (now out) ⌝ }
+    ensures { λ r. ⌜ Printed (unknownText bound filled) (now (out .entry)) r (now (out .exit)) ⌝ }
+{
+    put_line(
+        out,
+        0,
+        b"s UNKNOWN\nc room ",
+        bound as u64,
+        b" ",
+        filled as u64,
+    )
+}
+
+// Puts the line of a refusal. Callers see to the room.
+pub fn put_refused(out: &mut [u8], code: u32, place: usize) -> usize
+    requires { ⌜ 312 ≤ length (now out) ⌝ }
+    ensures { λ r. ⌜ Printed (refusedText code place) (now (out .entry)) r (now (out .exit)) ⌝ }
+{
+    put_line(out, 0, b"c refused ", code as u64, b" ", place as u64)
+}
+
+// Puts the text of a reply, for a formula of n variables, to the front of the output and answers its length. No text is longer than 312 bytes
+// where n is at most 64; `program::answer` sees to both.
+pub fn put_report(out: &mut [u8], n: u32, r: Outcome) -> usize
+    requires { ⌜ (n ≤ 64) × (312 ≤ length (now out)) ⌝ }
+    ensures { λ s. ⌜ Printed (reportOf n (replyOf r)) (now (out .entry)) s (now (out .exit)) ⌝ }
+{
+    match r {
+        Outcome::Satisfiable {
+            point,
+            distance,
+            filled,
+        } => put_satisfiable(out, n, point, distance, filled),
+        Outcome::Unsatisfiable { filled } => put_unsatisfiable(out, filled),
+        Outcome::Unknown { bound, filled } => put_unknown(out, bound, filled),
+        Outcome::Refused { code, place } => put_refused(out, code, place),
+    }
+}

@@ -1,2 +1,0 @@
--- Answers as words.
-pub mod Replies

@@ -1,0 +1,88 @@
+-- A formula that refusals 10 to 13 let pass is ready to be searched, and the builder's reply is then that of the search. Assumes nothing.
+use mathlib.Core.List.{List, [], _∷_}
+use mathlib.Core.Path.{_≡_, sym, _∙_, subst}
+use Prim.Native.Nat.{ℕ, zero, suc, _≤_, zero-le, suc-le-suc}
+use native.Mathlib.Omega.{arith}
+use Rattle.points.specs.Points.{numbered}
+use Rattle.point_slices.specs.Slices.{clausesOf}
+use Rattle.permutation_theory.specs.Permutations.{Permutation, permutationsIn}
+use Rattle.permutation_theory.specs.Laws.Symmetries.{symmetry-automorphism}
+use Rattle.formula.specs.declared.Formula.{Formula}
+use Rattle.formula.specs.Limits.{maxSlots, capacity}
+use Rattle.formula.specs.Problem.{problemOf}
+use Rattle.formula.specs.Laws.RefusalLaws.{fits-below, formula-passes, permutation-passes, symmetry-passes}
+use Rattle.formula.specs.Refusals.{formulaFault, permutationFault, symmetryFault}
+use Rattle.formula.specs.Reply.{Reply, refused, Fault, sound}
+use Rattle.formula.specs.Laws.ReplyLaws.{first-split, first-last, fault-not-sound, not-refused, unless-sound}
+use Rattle.search.specs.Laws.Answered.{Answered}
+use Rattle.search.specs.Search.{slotFault, searchFault, searchReply, searchSlots}
+use Rattle.search_theory.specs.Laws.Invariants.{Ready}
+use Rattle.search_theory.specs.Walk.{start, Walks, walked}
+use Rattle.search_theory.specs.Laws.WalkLaws.{walked-walks}
+
+lent-slot : (k : ℕ) → slotFault k ≡ sound → 1 ≤ k
+unfolding slotFault
+lent-slot zero e = absurd (fault-not-sound 13 0 e)
+lent-slot (suc k) e = suc-le-suc zero-le
+
+-- ---- "The number of slots P is the shortest length lent, at most 65,536 used."
+
+pub lent-few : (points numbers depths : ℕ) → capacity points numbers depths ≤ maxSlots
+unfolding capacity
+lent-few points numbers depths = omega arith
+
+pub lent-enough : (k points numbers depths : ℕ) → k ≤ maxSlots → k ≤ points → k ≤ numbers → k ≤ depths → k ≤ capacity points numbers depths
+unfolding capacity
+lent-enough k points numbers depths few a b c = omega arith
+
+-- ---- no refusal
+
+module _ (f : Formula) (positive negative : List ℕ) (lent : ℕ) where
+  abbrev perms : List Permutation
+  perms = permutationsIn (f .variables) (f .permutations) (f .images)
+
+  abbrev row11 : Fault
+  row11 = permutationFault (f .variables) perms
+
+  abbrev row12 : Fault
+  row12 = symmetryFault (numbered (clausesOf positive negative)) perms
+
+  pub rows : searchFault f positive negative lent ≡ sound
+      → (formulaFault f positive negative ≡ sound) × (row11 ≡ sound) × (row12 ≡ sound) × (slotFault lent ≡ sound)
+  unfolding searchFault
+  rows h =
+      let a = first-split (formulaFault f positive negative) (row11 ∷ row12 ∷ slotFault lent ∷ []) h in
+      let b = first-split row11 (row12 ∷ slotFault lent ∷ []) (a .1) in
+      let c = first-split row12 (slotFault lent ∷ []) (b .1) in
+      (a .0, b .0, c .0, sym (first-last (slotFault lent)) ∙ c .1)
+
+  -- "In the mission an accepted sheet is one that neither reader nor builder refuses"
+  pub ready-of-faults : searchFault f positive negative lent ≡ sound → Ready (problemOf f positive negative)
+  unfolding problemOf
+  ready-of-faults h =
+      let r = rows h in
+      let g = formula-passes f positive negative (r .0) in
+      let below = fits-below (f .variables) (f .clauses) positive negative (g .0) in
+      record {
+        target-below = g .1;
+        clauses-below = below;
+        symmetric = λ e m. symmetry-automorphism (f .variables) e (numbered (clausesOf positive negative)) (permutation-passes (f .variables) perms (r .1) .1 e m)
+            (symmetry-passes (numbered (clausesOf positive negative)) perms (r .2) e m) below;
+      }
+
+  pub lent-of-faults : searchFault f positive negative lent ≡ sound → 1 ≤ lent
+  lent-of-faults h = lent-slot lent (rows h .3)
+
+  -- a reply that is no refusal is the search's
+  pub answered : (r : Reply) → searchReply f positive negative lent ≡ r → ((code place : ℕ) → r ≡ refused code place → ⊥) → Answered f positive negative lent r
+  unfolding searchReply searchSlots
+  answered r e ok =
+      let pb = problemOf f positive negative in
+      let s = not-refused (searchFault f positive negative lent) (walked pb lent .reply) r e ok in
+      let room = lent-of-faults s in
+      record {
+        ready = ready-of-faults s;
+        room = room;
+        walks = subst (λ r. Walks pb lent (start pb) r (walked pb lent .slots)) (sym (unless-sound (searchFault f positive negative lent) s (walked pb lent .reply)) ∙ e)
+            (walked-walks pb lent room);
+      }

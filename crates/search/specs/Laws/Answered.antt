@@ -1,0 +1,15 @@
+-- A reply that is no refusal is the search's. Definition alone; Accepted shows that it holds. Assumes nothing.
+use mathlib.Core.List.{List}
+use Prim.Native.Nat.{ℕ, _≤_}
+use Rattle.formula.specs.declared.Formula.{Formula}
+use Rattle.formula.specs.Problem.{problemOf}
+use Rattle.formula.specs.Reply.{Reply}
+use Rattle.search_theory.specs.Laws.Invariants.{Ready}
+use Rattle.search_theory.specs.Walk.{start, Walks}
+use Rattle.search.specs.Search.{searchSlots}
+
+-- the reply r for a formula by value is the search's, over a problem that is ready for it and with at least one slot
+pub record Answered (f : Formula) (positive negative : List ℕ) (lent : ℕ) (r : Reply) : Type 0 where
+  pub ready : Ready (problemOf f positive negative)
+  pub room : 1 ≤ lent
+  pub walks : Walks (problemOf f positive negative) lent (start (problemOf f positive negative)) r (searchSlots f positive negative lent)

@@ -1,0 +1,138 @@
+-- The sentences of demand 3 about the builder's result, in terms of what a call of `search` returns and leaves in the lent slices: each
+-- follows from the call's contract, the record `Searched`. Assumes nothing.
+use mathlib.Core.List.{List, map}
+use mathlib.Core.Path.{_≡_, refl, sym, ap, _∙_}
+use Prim.Native.Nat.{ℕ, _≤_, _^_}
+use lib.ListN.{length, take, drop, length-map}
+use Rattle.math.specs.Lists.{over}
+use Rattle.math.specs.Laws.PartLaws.{over-front, over-rest}
+use Rattle.point_slices.specs.Slices.{pointsOf}
+use Rattle.formula.specs.declared.Formula.{Formula}
+use Rattle.formula.specs.Limits.{maxSlots}
+use Rattle.formula.specs.Problem.{problemOf, Unsatisfiable as NoneSatisfies}
+use Rattle.formula.specs.Reply.{Reply, refused, satisfiable, unsatisfiable, unknown, parsed, written, opened, accepted, sound}
+use Rattle.formula.specs.Laws.ReplyLaws.{not-refused}
+use Rattle.search_theory.specs.Laws.Answers.{LowerBound, Nearest, HandedBack, ClosedSlots, reported}
+use Rattle.search_theory.specs.Walk.{Slot, walked}
+use Rattle.search.specs.Laws.Accepted.{answered}
+use Rattle.search.specs.Search.{lentBy, searchFault, searchReply, searchSlots, searchSlice}
+use Rattle.search.specs.Contract.{replyOf, Searched}
+use Rattle.search.specs.declared.Outcome.{Outcome}
+use Rattle.search.specs.declared.Outcome.the-variants.{Satisfiable, Unsatisfiable, Unknown, Refused}
+use Rattle.search.specs.Laws.Theorems.{slots-reported, search-nearest, search-slot, search-exactly, search-closed, search-bound, search-room-lent}
+
+-- ---- an outcome is known by its reply
+
+-- the outcome that a reply of the builder comes from
+abbrev outcomeOf : Reply → Outcome
+outcomeOf (refused code place) = Refused code place
+outcomeOf (satisfiable x d k) = Satisfiable x d k
+outcomeOf (unsatisfiable k) = Unsatisfiable k
+outcomeOf (unknown b k) = Unknown b k
+outcomeOf parsed = Unsatisfiable 0
+outcomeOf (written size) = Unsatisfiable 0
+outcomeOf opened = Unsatisfiable 0
+outcomeOf accepted = Unsatisfiable 0
+
+outcome-back : (r : Outcome) → outcomeOf (replyOf r) ≡ r
+outcome-back (Satisfiable x d k) = refl
+outcome-back (Unsatisfiable k) = refl
+outcome-back (Unknown b k) = refl
+outcome-back (Refused code place) = refl
+
+same-outcome : (r q : Outcome) → replyOf r ≡ replyOf q → r ≡ q
+same-outcome r q e = sym (outcome-back r) ∙ ap outcomeOf e ∙ outcome-back q
+
+-- ---- the slices as the search leaves them
+
+-- the slots l stand in front, k of them, one of their parts in each slice; "Slots beyond those filled are unchanged."
+pub record Left (part : Slot → ℕ) (l : List Slot) (k : ℕ) (old new : List ℕ) : Type 0 where
+  pub front : take k new ≡ map part l
+  pub behind : drop k new ≡ drop k old
+
+left-of : (part : Slot → ℕ) (l : List Slot) (k : ℕ) (old new : List ℕ) → k ≡ length l → new ≡ over (map part l) old → Left part l k old new
+left-of part l k old new e h =
+    let n : length (map part l) ≡ k = length-map l part ∙ sym e in
+    record { front = ap (take k) h ∙ over-front k (map part l) old n; behind = ap (drop k) h ∙ over-rest k (map part l) old n }
+
+kept-slice : (part : Slot → ℕ) (f : Formula) (positive negative : List ℕ) (lent : ℕ) (old : List ℕ) → searchFault f positive negative lent ≡ sound
+    → searchSlice part f positive negative lent old ≡ over (map part (searchSlots f positive negative lent)) old
+unfolding searchSlice
+kept-slice part f positive negative lent old h = rw h
+
+module _ (f : Formula) (positive negative points₀ falsified₀ depths₀ : List ℕ) (r : Outcome) (points₁ falsified₁ depths₁ : List ℕ)
+    (call : Searched f positive negative points₀ falsified₀ depths₀ r points₁ falsified₁ depths₁) where
+  -- the number of slots lent, and the slots that the search fills
+  abbrev pub lent : ℕ
+  lent = lentBy points₀ falsified₀ depths₀
+
+  abbrev pub slotsOf : List Slot
+  slotsOf = searchSlots f positive negative lent
+
+  -- the reply of the definition is what the outcome says
+  replied : (q : Outcome) → r ≡ q → searchReply f positive negative lent ≡ replyOf q
+  replied q e = sym (call .reply) ∙ ap replyOf e
+
+  -- it is no refusal
+  abbrev pub NotRefused : Type 0
+  NotRefused = (code place : ℕ) → r ≡ Refused code place → ⊥
+
+  module _ (ok : NotRefused) where
+    not-refusal : (code place : ℕ) → replyOf r ≡ refused code place → ⊥
+    not-refusal code place e = ok code place (same-outcome r (Refused code place) e)
+
+    clean : searchFault f positive negative lent ≡ sound
+    unfolding searchReply
+    clean =
+        not-refused (searchFault f positive negative lent) (walked (problemOf f positive negative) lent .reply) (replyOf r)
+        (sym (call .reply)) not-refusal
+
+    -- the number reported is that of the slots filled
+    pub outcome-reported : reported (replyOf r) ≡ length slotsOf
+    outcome-reported =
+        let a = answered f positive negative lent (replyOf r) (sym (call .reply)) not-refusal in
+        slots-reported (problemOf f positive negative) lent (a .ready) (a .room) (a .walks)
+
+    left : (part : Slot → ℕ) (old new : List ℕ) → new ≡ searchSlice part f positive negative lent old → Left part slotsOf (reported (replyOf r)) old new
+    left part old new e = left-of part slotsOf (reported (replyOf r)) old new outcome-reported (e ∙ kept-slice part f positive negative lent old clean)
+
+    -- and each slice holds its part of them
+    pub points-left : Left (λ (s : Slot). s .point) slotsOf (reported (replyOf r)) (pointsOf points₀) (pointsOf points₁)
+    points-left = left (λ (s : Slot). s .point) (pointsOf points₀) (pointsOf points₁) (call .points)
+
+    pub falsified-left : Left (λ (s : Slot). s .falsified) slotsOf (reported (replyOf r)) falsified₀ falsified₁
+    falsified-left = left (λ (s : Slot). s .falsified) falsified₀ falsified₁ (call .falsified)
+
+    pub depths-left : Left (λ (s : Slot). s .depth) slotsOf (reported (replyOf r)) depths₀ depths₁
+    depths-left = left (λ (s : Slot). s .depth) depths₀ depths₁ (call .depths)
+
+    -- D3.3: "Unless 'no room' is said, 'cannot be met' is said exactly when none of the 2^n choices meets the rules."
+    pub outcome-exactly : ((b k : ℕ) → r ≡ Unknown b k → ⊥)
+        → ((k : ℕ) → r ≡ Unsatisfiable k → NoneSatisfies (problemOf f positive negative)) × (NoneSatisfies (problemOf f positive negative) → r ≡ Unsatisfiable (length slotsOf))
+    outcome-exactly known =
+        let w = search-exactly f positive negative lent (replyOf r) (sym (call .reply)) not-refusal
+        (λ b k e. known b k (same-outcome r (Unknown b k) e)) in
+        (λ k e. w .0 k (ap replyOf e), λ none. same-outcome r (Unsatisfiable (length slotsOf)) (w .1 none))
+
+  -- D3.1: "A choice handed back meets the rules, and every other choice that meets them differs from the client's wish in at least as many
+  -- names." D3.2: "The reported changes are the number of names in which the one handed back differs."
+  pub outcome-nearest : (x d k : ℕ) → r ≡ Satisfiable x d k → Nearest (problemOf f positive negative) x d
+  outcome-nearest x d k e = search-nearest f positive negative lent x d k (replied (Satisfiable x d k) e)
+
+  -- its slot, with 0 for its clause and its distance for its depth
+  pub outcome-slot : (x d k : ℕ) → r ≡ Satisfiable x d k → HandedBack slotsOf x d
+  outcome-slot x d k e = search-slot f positive negative lent x d k (replied (Satisfiable x d k) e)
+
+  -- the slots of an unsatisfiable formula are a stable set, as many as reported
+  pub outcome-closed : (k : ℕ) → r ≡ Unsatisfiable k → ClosedSlots (problemOf f positive negative) slotsOf × (k ≡ length slotsOf)
+  outcome-closed k e = search-closed f positive negative lent k (replied (Unsatisfiable k) e)
+
+  -- D3.7: "'No room' carries a number d, and every choice that meets the rules differs from the wish in at least d names."
+  pub outcome-bound : (b k : ℕ) → r ≡ Unknown b k → LowerBound (problemOf f positive negative) b
+  outcome-bound b k e = search-bound f positive negative lent b k (replied (Unknown b k) e)
+
+  -- D3.8: "Where 2^n is at most 65,536 and at least 2^n slots are lent, it is never said."
+  pub outcome-room : 2 ^ f .variables ≤ maxSlots → 2 ^ f .variables ≤ length (pointsOf points₀) → 2 ^ f .variables ≤ length falsified₀ → 2 ^ f .variables ≤ length depths₀
+      → (b k : ℕ) → r ≡ Unknown b k → ⊥
+  unfolding problemOf
+  outcome-room few p n d b k e = search-room-lent f positive negative points₀ falsified₀ depths₀ few p n d b k (replied (Unknown b k) e)

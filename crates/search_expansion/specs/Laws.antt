@@ -1,0 +1,6 @@
+-- Laws, and what functions inside the library promise each other: no contract of an entry point cites any of it.
+pub mod Memory
+pub mod Filling
+pub mod FillingLaws
+pub mod Trying
+pub mod TryingLaws

@@ -1,0 +1,44 @@
+-- `search_stages::explore_with` meets its contract: the links become an index of the filled points, and exploring goes on with it. Assumes nothing.
+use Rattle.search_stages.specs.Laws.StageLaws.{stage-outgrown, stage-indexable, stage-linked}
+use borrow.Author.Needs.{needs}
+use Rattle.search_stages.proofs.explore_with.Statement.{statement}
+use Rattle.search_stages.proofs.explore_with.Tie as tie
+
+returns : tie.Need-returns
+returns c = stage-outgrown _ _ _ _ (c .before .before .before .before .before .before .before .before .pre .0) _ _ _ _ (c .before .before .before .before .before .before .before .before .pre .2) (c .if1 .taken)
+
+index-points-requires : tie.Need-index-points-requires
+index-points-requires c κs = stage-indexable _ _ _ _ (c .before .before .before .before .before .before .before .before .before .before .pre .0) (c .before .before .before .before .before .before .before .before .before .before .pre .2) (c .before .before .before .before .before .before .before .before .before .before .pre .1) (c .before .before .before .before .before .before .before .before .before .before .pre .3) (c .before .before .if1 .left)
+
+explore-requires : tie.Need-explore-requires
+explore-requires c κs =
+    let pre = c .before .before .before .before .before .before .before .before .before .before .before .before .before .before .before .before .before .pre in
+    (pre .0, pre .1, pre .2, stage-linked _ _ _ _ (pre .0) (pre .2) (pre .1) (pre .3) (c .before .before .before .before .before .before .before .before .before .if1 .left) (c .before .before .before .before .before .before .index-points .ensures) (c .before .before .before .before .before .before .index-points .kept .0))
+
+same-length : tie.Need-same-length
+same-length c = search needs
+
+same-length-2 : tie.Need-same-length-2
+same-length-2 c = search needs
+
+same-length-3 : tie.Need-same-length-3
+same-length-3 c = search needs
+
+same-length-4 : tie.Need-same-length-4
+same-length-4 c = search needs
+
+returns-2 : tie.Need-returns-2
+returns-2 c = search needs
+
+pub explore-with-spec : {M : Type 1} → statement M
+explore-with-spec =
+    tie.close
+    (tie.spec
+    returns
+    index-points-requires
+    explore-requires
+    same-length
+    same-length-2
+    same-length-3
+    same-length-4
+    returns-2)

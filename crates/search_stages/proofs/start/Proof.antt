@@ -1,0 +1,94 @@
+-- `search_stages::start` meets its contract: the first slot holds the target, in front of what was there, and the stages answer from it. Assumes nothing.
+use mathlib.Core.List.{[], _∷_}
+use mathlib.Core.Path.{refl}
+use Rattle.search_expansion.specs.Laws.FillingLaws.{lends-still, lends-fewer, lengths-trans, held-first}
+use Rattle.search_expansion.specs.Laws.Memory.{memory, Holds, SameLengths}
+use Rattle.search_theory.specs.Walk.{slot}
+use Rattle.check_distinct.specs.Laws.IndexingLaws.{zeros-links}
+use Rattle.search_stages.specs.Laws.StageLaws.{stage-answered, stage-midway, stage-followed, begun-midway, begun-ends}
+use borrow.Author.Needs.{needs}
+use Rattle.search_stages.proofs.start.Statement.{statement}
+use Rattle.search_stages.proofs.start.Tie as tie
+
+fill-requires : tie.Need-fill-requires
+fill-requires c κs = search needs
+
+-- the target is stored, and the slices are as long as they were
+stored : (c : tie.After-fill)
+    → let a = c .before .before .before .before .before .before .before .before .before .before .args in
+    Holds (memory (a .points .now) (a .falsified .now) (a .depths .now)) (slot (a .g .target) 0 0 ∷ []) (memory (c .fill .last .0) (c .fill .last .1 .0) (c .fill .last .1 .1 .0))
+    × SameLengths (memory (a .points .now) (a .falsified .now) (a .depths .now)) (memory (c .fill .last .0) (c .fill .last .1 .0) (c .fill .last .1 .1 .0))
+stored c =
+    (held-first (lends-fewer (c .before .before .before .before .before .before .before .before .before .before .pre .0 .some) (c .before .before .before .before .before .before .before .before .before .before .pre .1)) (c .fill .ensures), record { points-length = c .fill .kept .0; falsified-length = c .fill .kept .1 .0; depths-length = c .fill .kept .1 .1 .0 })
+
+slice-aggregate-explore-with : tie.Need-slice-aggregate-explore-with
+slice-aggregate-explore-with c = search needs
+
+explore-with-requires : tie.Need-explore-with-requires
+explore-with-requires c κs =
+    let pre = c .before .before .before .before .before .before .before .before .before .before .before .before .before .before .before .before .before .before .before .before .pre in
+    let first = stored (c .before .before .before .before .before .before .before .before .before .before) in
+    (pre .0, lends-still (pre .1) (first .1), begun-midway _ _ _ _ (pre .0) (first .0), zeros-links 512 1536 refl)
+
+enum-known-stage : tie.Need-enum-known-stage
+enum-known-stage c = search needs
+
+enum-known-stage-2 : tie.Need-enum-known-stage-2
+enum-known-stage-2 c = search needs
+
+resume-requires : tie.Need-resume-requires
+resume-requires c κs =
+    let pre = c .before .before .before .before .before .before .before .before .before .before .before .before .before .before .before .before .before .before .before .before .before .before .before .before .before .before .before .before .before .before .before .before .before .before .pre in
+    let first = stored (c .before .before .before .before .before .before .before .before .before .before .before .before .before .before .before .before .before .before .before .before .before .before .before .before) in
+    let kept = c .before .before .before .before .before .before .before .before .before .before .before .before .before .explore-with .kept .1 .1 .1 .1 in (
+      pre .0,
+      lends-still (pre .1) (lengths-trans (first .1) (record { points-length = kept .0; falsified-length = kept .1 .0; depths-length = kept .1 .1 .0 })),
+      stage-midway _ _ _ _ (pre .0) _ _ _ _ _ _ (c .before .before .before .before .before .before .before .before .before .before .before .before .before .explore-with .ensures) _ _ (c .before .before .before .before .stage2 .given .1) (begun-midway _ _ _ _ (pre .0) (first .0)),
+    )
+
+same-length : tie.Need-same-length
+same-length c = search needs
+
+same-length-2 : tie.Need-same-length-2
+same-length-2 c = search needs
+
+same-length-3 : tie.Need-same-length-3
+same-length-3 c = search needs
+
+returns : tie.Need-returns
+returns c =
+    let first = stored (c .before .before .before .before .before .before .before .before .before .before .before .before .before .before .before .before .before .before .before .before .before) in
+    begun-ends _ _ _ _ (c .before .before .before .before .before .before .before .before .before .before .before .before .before .before .before .before .before .before .before .before .before .before .before .before .before .before .before .before .before .before .before .pre .0) (first .0) (stage-answered _ _ _ _ (c .before .before .before .before .before .before .before .before .before .before .before .before .before .before .before .before .before .before .before .before .before .before .before .before .before .before .before .before .before .before .before .pre .0) _ _ _ _ _ _ (c .before .before .before .before .before .before .before .before .before .before .explore-with .ensures) _ (c .before .stage .given .1))
+
+same-length-4 : tie.Need-same-length-4
+same-length-4 c = search needs
+
+same-length-5 : tie.Need-same-length-5
+same-length-5 c = search needs
+
+same-length-6 : tie.Need-same-length-6
+same-length-6 c = search needs
+
+returns-2 : tie.Need-returns-2
+returns-2 c =
+    let first = stored (c .before .before .before .before .before .before .before .before .before .before .before .before .before .before .before .before .before .before .before .before .before .before .before .before .before .before .before .before .before .before .before) in
+    begun-ends _ _ _ _ (c .before .before .before .before .before .before .before .before .before .before .before .before .before .before .before .before .before .before .before .before .before .before .before .before .before .before .before .before .before .before .before .before .before .before .before .before .before .before .before .before .before .pre .0) (first .0) (stage-followed _ _ _ _ (c .before .before .before .before .before .before .before .before .before .before .before .before .before .before .before .before .before .before .before .before .before .before .before .before .before .before .before .before .before .before .before .before .before .before .before .before .before .before .before .before .before .pre .0) _ _ _ _ _ _ (c .before .before .before .before .before .before .before .before .before .before .before .before .before .before .before .before .before .before .before .before .explore-with .ensures) _ _ (c .before .before .before .before .before .before .before .before .before .before .before .stage2 .given .1) (c .before .before .before .before .before .before .resume .ensures))
+
+pub start-spec : {M : Type 1} → statement M
+start-spec =
+    tie.close
+    (tie.spec
+    fill-requires
+    slice-aggregate-explore-with
+    explore-with-requires
+    enum-known-stage
+    enum-known-stage-2
+    resume-requires
+    same-length
+    same-length-2
+    same-length-3
+    returns
+    same-length-4
+    same-length-5
+    same-length-6
+    returns-2)

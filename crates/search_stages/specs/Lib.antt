@@ -1,0 +1,2 @@
+-- The laws of a search in stages.
+pub mod Laws

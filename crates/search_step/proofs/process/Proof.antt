@@ -1,0 +1,144 @@
+-- `search_step::process` meets its contract: a law of SteppingLaws for each of its three answers. Assumes nothing.
+use mathlib.Core.Path.{refl}
+use native.Mathlib.Omega.{arith}
+use lib.ListN.{getD, length-set}
+use Rattle.points.specs.Laws.Contracts.{clauseOf}
+use Rattle.point_slices.specs.Laws.SliceLaws.{falsified-le}
+use Rattle.point_slices.specs.Slices.{clausesOf}
+use Rattle.search_expansion.specs.Laws.Memory.{memory}
+use Rattle.search_step.specs.Laws.SteppingLaws.{Read, step-met, read-fillable, read-below, read-room, read-goes, read-stuck}
+use borrow.Author.Needs.{needs}
+use Rattle.search_step.proofs.process.Statement.{statement}
+use Rattle.search_step.proofs.process.Tie as tie
+
+point-at-requires : tie.Need-point-at-requires
+point-at-requires c κs = search needs
+
+mul-d : tie.Need-mul-d
+mul-d c = search needs
+
+slice-read-d : tie.Need-slice-read-d
+slice-read-d c = search needs
+
+first-falsified-requires : tie.Need-first-falsified-requires
+first-falsified-requires c κs = search needs
+
+distance-requires : tie.Need-distance-requires
+distance-requires c κs = search needs
+
+cast-slots : tie.Need-cast-slots
+cast-slots c = search needs
+
+same-length : tie.Need-same-length
+same-length c = search needs
+
+returns : tie.Need-returns
+returns c = (λ old p w st. step-met _ _ _ _ (c .before .before .before .before .before .before .before .before .before .before .before .before .before .before .pre .0) _ _ (c .before .before .before .before .point-at .ensures) (c .before .before .first-falsified .ensures) (c .before .before .before .before .before .before .before .before .before .before .before .before .before .before .pre .2) w _ (c .before .if1 .taken) (c .distance .ensures) st, tt)
+
+cast-stored : tie.Need-cast-stored
+cast-stored c =
+    let a = c .before .before .before .before .before .before .before .before .before .before .before .before .before .args in
+    omega (arith, c .before .first-falsified .ensures, falsified-le (clausesOf (a .positive .now) (a .negative .now)) (c .before .before .before .point-at .result) 0, c .before .before .before .before .before .before .before .before .before .before .before .before .before .pre .0 .clauses)
+
+mul-falsified : tie.Need-mul-falsified
+mul-falsified c = search needs
+
+slice-write-falsified : tie.Need-slice-write-falsified
+slice-write-falsified c = search needs
+
+sub-clause-at : tie.Need-sub-clause-at
+sub-clause-at c = search needs
+
+clause-at-requires : tie.Need-clause-at-requires
+clause-at-requires c κs = search needs
+
+listed-requires : tie.Need-listed-requires
+listed-requires c κs = search needs
+
+-- what is known when the flips are tried
+read : (c : tie.After-listed)
+    → let a = c .before .before .before .before .before .before .before .before .before .before .before .before .before .before .before .args in
+    Read (a .g) (a .images .now) (a .positive .now) (a .negative .now) (c .before .before .before .before .before .before .before .before .before .before .before .before .before .before .before .pre .0) (a .at) (c .before .before .before .before .before .point-at .result) (getD (a .depths .now) (a .at) 0)
+    (c .before .before .before .first-falsified .result) (c .listed .result) (clauseOf (c .before .clause-at .result)) (memory (a .points .now) (a .falsified .now) (a .depths .now))
+read c =
+    record {
+      point-read = c .before .before .before .before .before .point-at .ensures;
+      depth-read = refl;
+      number-read = c .before .before .before .first-falsified .ensures;
+      unsatisfied = c .before .before .if1 .left;
+      clause-read = c .before .clause-at .ensures;
+      listed-read = c .listed .ensures;
+    }
+
+expand-requires : tie.Need-expand-requires
+expand-requires c κs =
+    let pre = c .before .before .before .before .before .before .before .before .before .before .before .before .before .before .before .before .before .before .before .pre in
+    let a = read (c .before .before .before .before) in
+    (read-fillable _ _ _ _ (pre .0) (pre .2) a (pre .3) (pre .4) (pre .1) (pre .6), pre .5, read-below _ _ _ _ (pre .0) (pre .2) a (pre .3))
+
+same-length-2 : tie.Need-same-length-2
+same-length-2 c = search needs
+
+same-length-3 : tie.Need-same-length-3
+same-length-3 c = simp length-set at (c .before .before .before .before .before .before .before .before .before .expand .kept .1 .1 .1 .1 .0)
+
+same-length-4 : tie.Need-same-length-4
+same-length-4 c = search needs
+
+same-length-5 : tie.Need-same-length-5
+same-length-5 c = search needs
+
+returns-2 : tie.Need-returns-2
+returns-2 c =
+    let flips = c .before .before .before .before .before .before .before .before .before .expand .ensures in
+    (read-goes _ _ _ _ (c .before .before .before .before .before .before .before .before .before .before .before .before .before .before .before .before .before .before .before .before .before .before .before .before .before .before .before .before .before .pre .0) (c .before .before .before .before .before .before .before .before .before .before .before .before .before .before .before .before .before .before .before .before .before .before .before .before .before .before .before .before .before .pre .2) (read (c .before .before .before .before .before .before .before .before .before .before .before .before .before .before)) (flips .0) (c .if2 .taken), flips .1)
+
+cast-total : tie.Need-cast-total
+cast-total c =
+    omega (arith, read-room _ _ _ _ (c .before .before .before .before .before .before .before .before .before .before .before .before .before .before .before .before .before .before .before .before .before .before .before .before .before .before .before .before .before .pre .0) (c .before .before .before .before .before .before .before .before .before .before .before .before .before .before .before .before .before .before .before .before .before .before .before .before .before .before .before .before .before .pre .2) (read (c .before .before .before .before .before .before .before .before .before .before .before .before .before .before)) (c .before .before .before .before .before .before .before .before .before .expand .ensures .0) (c .before .before .before .before .before .before .before .before .before .before .before .before .before .before .before .before .before .before .before .before .before .before .before .before .before .before .before .before .before .pre .3), c .before .before .before .before .before .before .before .before .before .before .before .before .before .before .before .before .before .before .before .before .before .before .before .before .before .before .before .before .before .pre .0 .most)
+
+same-length-6 : tie.Need-same-length-6
+same-length-6 c = search needs
+
+same-length-7 : tie.Need-same-length-7
+same-length-7 c = simp length-set at (c .before .before .before .before .before .before .before .before .before .expand .kept .1 .1 .1 .1 .0)
+
+same-length-8 : tie.Need-same-length-8
+same-length-8 c = search needs
+
+same-length-9 : tie.Need-same-length-9
+same-length-9 c = search needs
+
+returns-3 : tie.Need-returns-3
+returns-3 c = (read-stuck _ _ _ _ (c .before .before .before .before .before .before .before .before .before .before .before .before .before .before .before .before .before .before .before .before .before .before .before .before .before .before .before .before .before .pre .0) (c .before .before .before .before .before .before .before .before .before .before .before .before .before .before .before .before .before .before .before .before .before .before .before .before .before .before .before .before .before .pre .2) (read (c .before .before .before .before .before .before .before .before .before .before .before .before .before .before)) (c .before .before .before .before .before .before .before .before .before .expand .ensures .0) (c .if2 .left), tt)
+
+pub process-spec : {M : Type 1} → statement M
+process-spec =
+    tie.close
+    (tie.spec
+    point-at-requires
+    mul-d
+    slice-read-d
+    first-falsified-requires
+    distance-requires
+    cast-slots
+    same-length
+    returns
+    cast-stored
+    mul-falsified
+    slice-write-falsified
+    sub-clause-at
+    clause-at-requires
+    listed-requires
+    expand-requires
+    same-length-2
+    same-length-3
+    same-length-4
+    same-length-5
+    returns-2
+    cast-total
+    same-length-6
+    same-length-7
+    same-length-8
+    same-length-9
+    returns-3)

@@ -1,0 +1,3 @@
+-- The search: its definition as a sentence and computed, and its theory.
+pub mod Walk
+pub mod Laws

@@ -1,3 +1,0 @@
--- Points and clauses in lent slices.
-pub mod Slices
-pub mod SliceLaws

@@ -1,0 +1,70 @@
+-- `slot_prefixes::search_front` meets its contract: the lent parts have k places, and what the search leaves in them stands in front. Assumes nothing.
+use mathlib.Core.Path.{sym, _∙_}
+use lib.ListN.{take, drop}
+use lib.Seq.{length-take-le}
+use borrow.Author.Needs.{needs}
+use Rattle.slot_prefixes.specs.Laws.FrontLaws.{searched-fronts}
+use Rattle.slot_prefixes.proofs.search_front.Statement.{statement}
+use Rattle.slot_prefixes.proofs.search_front.Tie as tie
+use Rattle.slot_prefixes.proofs.search_front.Reads as reads
+use Rattle.slot_prefixes.proofs.search_front.Lts as lts
+use Rattle.search.proofs.search.Reads as search-reads
+
+slice-relend-prefix-search : tie.Need-slice-relend-prefix-search
+slice-relend-prefix-search c = search needs
+
+slice-aggregate-search : tie.Need-slice-aggregate-search
+slice-aggregate-search c = sym (length-take-le (c .before .before .before .before .before .before .args .k) (c .before .before .before .before .before .before .args .points .now) (c .before .before .before .before .before .before .pre .inPoints))
+
+slice-relend-prefix-search-2 : tie.Need-slice-relend-prefix-search-2
+slice-relend-prefix-search-2 c = search needs
+
+slice-aggregate-search-2 : tie.Need-slice-aggregate-search-2
+slice-aggregate-search-2 c = sym (length-take-le (c .before .before .before .before .before .before .before .args .k) (c .before .before .before .before .before .before .before .args .falsified .now) (c .before .before .before .before .before .before .before .pre .inFalsified))
+
+slice-relend-prefix-search-3 : tie.Need-slice-relend-prefix-search-3
+slice-relend-prefix-search-3 c = search needs
+
+slice-aggregate-search-3 : tie.Need-slice-aggregate-search-3
+slice-aggregate-search-3 c = sym (length-take-le (c .before .before .before .before .before .before .before .before .args .k) (c .before .before .before .before .before .before .before .before .args .depths .now) (c .before .before .before .before .before .before .before .before .pre .inDepths))
+
+search-requires : tie.Need-search-requires
+search-requires c κs = search needs
+
+same-length : tie.Need-same-length
+same-length c = search needs
+
+same-length-2 : tie.Need-same-length-2
+same-length-2 c = search needs
+
+same-length-3 : tie.Need-same-length-3
+same-length-3 c = search needs
+
+returns : tie.Need-returns
+returns c =
+    let start = c .before .before .before .before .before .before .before .before .before .before .before .before .before .before .before in
+    let called = c .before .before .before .before .before .before .search in
+    let k = start .args .k in
+    let points = start .args .points .now in
+    let falsified = start .args .falsified .now in
+    let depths = start .args .depths .now in
+    searched-fronts k (start .args .f) (start .args .positive .now) (start .args .negative .now) (take k points) (take k falsified) (take k depths) (called .result)
+    (called .last .1 .1 .1 .0) (called .last .1 .1 .1 .1 .0) (called .last .1 .1 .1 .1 .1 .0) (drop k points) (drop k falsified) (drop k depths)
+    (called .kept .1 .1 .1 .0 ∙ length-take-le k points (start .pre .inPoints)) (called .kept .1 .1 .1 .1 .0 ∙ length-take-le k falsified (start .pre .inFalsified))
+    (called .kept .1 .1 .1 .1 .1 .0 ∙ length-take-le k depths (start .pre .inDepths)) (called .ensures)
+
+pub search-front-spec : {M : Type 1} → statement M
+search-front-spec =
+    tie.close
+    (tie.spec
+    slice-relend-prefix-search
+    slice-aggregate-search
+    slice-relend-prefix-search-2
+    slice-aggregate-search-2
+    slice-relend-prefix-search-3
+    slice-aggregate-search-3
+    search-requires
+    same-length
+    same-length-2
+    same-length-3
+    returns)

@@ -1,0 +1,63 @@
+// The search and the writer on the first places of three slices, which functions over a slice of slots call on their
+// copies.
+use certificate_writer::Written;
+use certificate_writer::write;
+use formula::Formula;
+use search::Outcome;
+use search::search;
+ghost use lib.ListN.{length, take};
+ghost use Rattle.certificate_writer.specs.Contract.{Wrote};
+ghost use Rattle.slot_columns.specs.Slots.{Within};
+ghost use Rattle.search.specs.Contract.{Searched};
+
+// The search on the first k places of three slices.
+pub fn search_front(
+    f: Formula,
+    positive: &[u64],
+    negative: &[u64],
+    points: &mut [u64],
+    falsified: &mut [u32],
+    depths: &mut [u32],
+    k: usize,
+) -> Outcome
+    requires { ⌜ Within k k (length (now points)) (length (now falsified)) (length (now depths)) ⌝ }
+    ensures { λ r. ⌜ Searched f (now (positive .entry)) (now (negative .entry)) (take k (now (points .entry))) (take k (now (falsified .entry))) (take k (now (depths .entry))) r
+        (take k (now (points .exit))) (take k (now (falsified .exit))) (take k (now (depths .exit))) ⌝ }
+{
+    search(
+        f,
+        positive,
+        negative,
+        &mut points[..k],
+        &mut falsified[..k],
+        &mut depths[..k],
+    )
+}
+
+// The writer on the first k places of three slices.
+pub fn write_front(
+    f: Formula,
+    positive: &[u64],
+    negative: &[u64],
+    points: &[u64],
+    falsified: &[u32],
+    depths: &[u32],
+    k: usize,
+    count: u32,
+    out: &mut [u8],
+) -> Written
+    requires { ⌜ Within k k (length (now points)) (length (now falsified)) (length (now depths)) ⌝ }
+    ensures { λ r. ⌜ Wrote f (now (positive .entry)) (now (negative .entry)) (take k (now (points .entry))) (take k (now (falsified .entry))) (take k (now (depths .entry))) count
+        (now (out .entry)) r (now (out .exit)) ⌝ }
+{
+    write(
+        f,
+        positive,
+        negative,
+        &points[..k],
+        &falsified[..k],
+        &depths[..k],
+        count,
+        out,
+    )
+}

@@ -1,0 +1,51 @@
+-- The places of the local arrays that hold copies of slots: how many are used, and the arrays once the slots are copied out. Assumes nothing.
+use mathlib.Core.Path.{_≡_, _∙_}
+use Prim.Native.Nat.{ℕ, _<_, _≤_, _^_, min}
+use native.Mathlib.Nat.{lt-of-le-of-lt, le-refl}
+use native.Mathlib.Omega.{arith}
+use mathlib.Core.List.{List}
+use lib.Dec.{lit<}
+use lib.ListN.{length}
+use Rattle.slot_columns.specs.declared.Slot.{Slot}
+use Rattle.slot_columns.specs.Slots.{pointsIn, falsifiedIn, depthsIn, front, Within}
+use Rattle.slot_columns.specs.Laws.SlotLaws.{front-length, column-long}
+
+module _ (ys : List Slot) where
+  -- the slots that are used
+  abbrev pub k : ℕ
+  k = min 65536 (length ys)
+
+  pub gk : k < 2 ^ 64
+  gk = lt-of-le-of-lt (let z : k ≤ 65536 = omega arith in z) (lit< tt)
+
+  pub used : k ≤ length ys
+  used = omega arith
+
+  -- the arrays once the slots are copied out
+  abbrev pub P : List ℕ → List ℕ
+  P ps = front k (pointsIn ys) ps
+
+  abbrev pub N : List ℕ → List ℕ
+  N fs = front k (falsifiedIn ys) fs
+
+  abbrev pub D : List ℕ → List ℕ
+  D ds = front k (depthsIn ys) ds
+
+  pub many : (xs : List ℕ) → length xs ≡ 65536 → k ≤ length xs
+  many xs e = omega (arith, e)
+
+  pub long₁ : (ps : List ℕ) → length ps ≡ 65536 → length (P ps) ≡ 65536
+  long₁ ps e = front-length k (pointsIn ys) ps (column-long (λ (s : Slot). s .point) k ys used) (many ps e) ∙ e
+
+  pub long₂ : (fs : List ℕ) → length fs ≡ 65536 → length (N fs) ≡ 65536
+  long₂ fs e = front-length k (falsifiedIn ys) fs (column-long (λ (s : Slot). s .falsified) k ys used) (many fs e) ∙ e
+
+  pub long₃ : (ds : List ℕ) → length ds ≡ 65536 → length (D ds) ≡ 65536
+  long₃ ds e = front-length k (depthsIn ys) ds (column-long (λ (s : Slot). s .depth) k ys used) (many ds e) ∙ e
+
+  -- what the calls require
+  pub fits-in : (ps fs ds : List ℕ) → length ps ≡ 65536 → length fs ≡ 65536 → length ds ≡ 65536 → Within k (length ys) (length ps) (length fs) (length ds)
+  fits-in ps fs ds e₁ e₂ e₃ = record { inSlots = used; inPoints = many ps e₁; inFalsified = many fs e₂; inDepths = many ds e₃ }
+
+  pub fronts-in : (ps fs ds : List ℕ) → length ps ≡ 65536 → length fs ≡ 65536 → length ds ≡ 65536 → Within k k (length ps) (length fs) (length ds)
+  fronts-in ps fs ds e₁ e₂ e₃ = record { inSlots = le-refl k; inPoints = many ps e₁; inFalsified = many fs e₂; inDepths = many ds e₃ }

@@ -1,2 +1,0 @@
--- The laws of a search in stages.
-pub mod StageLaws

@@ -1,7 +1,0 @@
--- The theory of stable sets: what is asked of a formula and of a map, and why a closed set of points means that nothing satisfies.
-pub mod Notions
-pub mod Distance
-pub mod Closer
-pub mod Maps
-pub mod Approach
-pub mod Refutes

@@ -1,2 +1,0 @@
--- What the loop of row 17 goes by.
-pub mod TransportLaws

@@ -1,3 +1,0 @@
--- What the functions on bytes and words promise, and the laws that their proofs use.
-pub mod Scans
-pub mod ScanLaws

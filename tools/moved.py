@@ -1,0 +1,190 @@
+#!/usr/bin/env python3
+"""What moved since a commit: `tools/moved.py COMMIT [--renamed FILE] [--times BEFORE AFTER]`.
+
+Prints, by crate and in all, the lines added and removed of definitions (specs/*.antt), contracts (`requires` and `ensures` in .rt), laws (specs/Laws),
+proofs, code, comments (in .rt and .antt), tests (tests, must-fail edits, examples, benches), tools and documents; then by name the definitions and the
+contracts that changed, are new or are gone. Lines are compared as a bag, white space folded: one that only moved counts in neither column of 'in all'.
+Imports and blank lines do not count.
+
+FILE has one renaming a line: `path OLD NEW`, a file or a folder, and `name OLD NEW [UNDER ..]`, an identifier, where folders are given only in files below
+them (as they are called now). What differs after these, white space aside, has changed. With two logs of the gate, told by `bash -c 'time .ci/run'`,
+it also prints what each crate's check took before and after."""
+import argparse
+import collections
+import os
+import re
+import subprocess
+import sys
+import tempfile
+
+import tree
+
+KINDS = ["definitions", "contracts", "laws", "proofs", "code", "comments", "tests", "tools", "documents"]
+
+
+class Renamings:
+    def __init__(self, path):
+        self.paths, self.names = [], []
+        for line in open(path) if path else []:
+            words = line.split("#")[0].split()
+            if words[:1] == ["path"]:
+                self.paths.append((words[1], words[2]))
+            elif words[:1] == ["name"]:
+                self.names.append((words[1], words[2], words[3:]))
+        self.paths.sort(key=lambda pair: -len(pair[0]))
+        self.crates = {old.split("/")[1]: new.split("/")[1] for old, new in self.paths if re.fullmatch(r"crates/\w+/?", old)}
+
+    def path(self, path):
+        for old, new in self.paths:
+            if path == old or path.startswith(old.rstrip("/") + "/"):
+                return new + path[len(old):]
+        return path
+
+    def text(self, path, text):
+        """The text of the file that is now called path, with the names of now."""
+        named = {old: new for old, new, under in self.names if not under or any(path.startswith(folder) for folder in under)}
+        if named:
+            text = re.sub(r"[\w·′₀-₉-]+", lambda m: named.get(m.group(0), m.group(0)), text)
+        if self.crates:
+            text = re.sub(r"(?<![\w:])(\w+)(?=::)", lambda m: self.crates.get(m.group(0), m.group(0)), text)
+        return text
+
+
+def kind_of(path):
+    if path.startswith("crates/"):
+        if "/must-fail/" in path or path.endswith(("/stdin", "/stdout")):
+            return "tests"
+        if "/proofs/" in path:
+            return "proofs"
+        if "/specs/" in path:
+            return "laws" if "/specs/Laws" in path else "definitions"
+        return "code"
+    if path.startswith(("tests/", "examples/", "benches/")):
+        return "tests"
+    return "documents" if path.endswith(".md") or path.startswith("docs/") else "tools"
+
+
+def spans(text):
+    """The places of a file's contracts."""
+    for _, signature, contract, body in tree.functions(text):
+        if contract:
+            yield body - len(contract), body
+
+
+def counted(path, text):
+    """(kind, line) of each line that counts."""
+    kind, at = kind_of(path), 0
+    contracts = list(spans(text)) if path.endswith(".rt") else []
+    for line in text.split("\n"):
+        folded = " ".join(line.split())
+        if not folded or path.endswith((".rt", ".antt")) and re.match(r"(ghost use|use|pub mod|mod)\b", folded):
+            pass
+        elif path.endswith((".rt", ".antt")) and folded.startswith(("//", "--")):
+            yield "comments", folded
+        elif any(start <= at < end for start, end in contracts):
+            yield "contracts", folded
+        else:
+            yield kind, folded
+        at += len(line) + 1
+
+
+def read(folder, paths):
+    for path in paths:
+        try:
+            yield path, open(os.path.join(folder, path), encoding="utf-8").read()
+        except (UnicodeDecodeError, IsADirectoryError, FileNotFoundError):
+            pass
+
+
+class Tree:
+    """The files of one state of the repository, told with the paths and names of now."""
+
+    def __init__(self, files, renamed):
+        self.lines, self.definitions, self.believed, self.contracts = collections.Counter(), collections.Counter(), set(), collections.Counter()
+        for old, text in files:
+            path = renamed.path(old)
+            text = renamed.text(path, text)
+            crate = path.split("/")[1] if path.startswith("crates/") else "-"
+            for kind, line in counted(path, text):
+                self.lines[crate, kind, line] += 1
+            if "/specs/" in path and path.endswith(".antt"):
+                for name, defined, said in tree.items(text):
+                    if defined:
+                        self.definitions[name, said] += 1
+                        if kind_of(path) == "definitions":
+                            self.believed.add((name, said))
+            if path.endswith(".rt"):
+                for name, _, contract, _ in tree.functions(text):
+                    self.contracts[name, tree.clauses(contract)[1]] += 1
+
+
+def sums(less, more, key):
+    """By what key gives, how many lines of one bag the other does not have."""
+    bags = [collections.defaultdict(collections.Counter), collections.defaultdict(collections.Counter)]
+    for bag, lines in zip(bags, (less, more)):
+        for (crate, kind, line), n in lines.items():
+            bag[key(crate), kind][line] += n
+    return {at: sum((bags[1][at] - bags[0][at]).values()) for at in set(bags[0]) | set(bags[1])}
+
+
+def table(before, after, key, names):
+    added, removed = sums(before.lines, after.lines, key), sums(after.lines, before.lines, key)
+    for name in names:
+        cells = ["+%d −%d" % (added.get((name, kind), 0), removed.get((name, kind), 0)) for kind in KINDS]
+        cells = ["" if cell == "+0 −0" else cell for cell in cells]
+        if any(cells):
+            print("| %s | %s |" % (name, " | ".join(cells)))
+
+
+def told(title, changed):
+    print(f"{title}: " + ("none" if not changed else ", ".join(sorted(changed))))
+
+
+def compared(what, before, after, all_before, all_after):
+    """By name, what of two sets of (name, text) the other side does not have anywhere."""
+    gone = {name for name, said in before if (name, said) not in all_after}
+    new = {name for name, said in after if (name, said) not in all_before}
+    told(f"{what} that changed", gone & new)
+    told(f"{what} that are new", new - gone)
+    told(f"{what} that are gone", gone - new)
+
+
+def seconds(log, renamed):
+    """Crate by crate the seconds of its check in a log of the gate, by the names of now, and the time of the whole."""
+    text = open(log).read()
+    took = collections.Counter()
+    for crate, n in dict(re.findall(r"^rt: (\w+) proved \((\d+) s\)", text, re.M)).items():
+        took[renamed.crates.get(crate, crate)] += int(n)
+    whole = re.search(r"^real\s+(\d+)m([\d.]+)s", text, re.M)
+    passed = re.findall(r"^(\d+ passed, \d+ failed)$", text, re.M)
+    return took, ("%s min %d s" % (whole.group(1), float(whole.group(2))) if whole else "not told") + (f" ('{passed[-1]}')" if passed else "")
+
+
+arguments = argparse.ArgumentParser(description=__doc__, formatter_class=argparse.RawDescriptionHelpFormatter)
+arguments.add_argument("commit")
+arguments.add_argument("--renamed", metavar="FILE")
+arguments.add_argument("--times", nargs=2, metavar=("BEFORE", "AFTER"))
+asked = arguments.parse_args()
+logs = [os.path.abspath(log) for log in asked.times or []]
+renamed, same = Renamings(asked.renamed), Renamings(None)
+os.chdir(tree.TOP)
+with tempfile.TemporaryDirectory() as folder:
+    archive = subprocess.run(["git", "archive", asked.commit], stdout=subprocess.PIPE, check=True).stdout
+    subprocess.run(["tar", "-x", "-C", folder], input=archive, check=True)
+    old = subprocess.run(["git", "ls-tree", "-r", "--name-only", asked.commit], stdout=subprocess.PIPE, check=True, text=True).stdout.split("\n")
+    before = Tree(read(folder, old), renamed)
+now = subprocess.run(["git", "ls-files", "-co", "--exclude-standard"], stdout=subprocess.PIPE, check=True, text=True).stdout.split("\n")
+after = Tree(read(".", now), same)
+
+print("| crate | " + " | ".join(KINDS) + " |\n|" + "---|" * (len(KINDS) + 1))
+table(before, after, lambda crate: crate, tree.crates() + ["-"])
+table(before, after, lambda crate: "in all", ["in all"])
+compared("definitions", before.believed, after.believed, before.definitions, after.definitions)
+inner = [{said for said in state.definitions if said not in state.believed} for state in (before, after)]
+compared("definitions inside (specs/Laws)", *inner, before.definitions, after.definitions)
+compared("contracts", before.contracts, after.contracts, before.contracts, after.contracts)
+if logs:
+    (was, whole_was), (took, whole) = seconds(logs[0], renamed), seconds(logs[1], same)
+    print(f"\nThe gate: {whole_was} before, {whole} after.\n\n| crate | before, s | after, s |\n|---|---|---|")
+    for crate in tree.crates():
+        print(f"| `{crate}` | {was.get(crate, '')} | {took.get(crate, '')} |")

@@ -1,0 +1,104 @@
+#!/usr/bin/env python3
+"""What somebody has to read in order to believe the promises: the modules that the contracts of the entry points and the claim cite, and all that
+these import. Prints the list with line counts. Exit status 1 if the list reaches a law (a module below specs/Laws), if an entry point has a
+`requires`, if a module of definitions stands in specs/ though nothing reads it, or if README tells another figure.
+
+The entry points are those of README's table, and every exported function (`#[no_mangle]`)."""
+import glob
+import os
+import re
+import sys
+
+import tree
+
+CLAIM = ("claims", "Claim")
+# sentences that promised theorems are about, and that no contract cites
+BESIDE = {
+    ("claims", "Cases"): "document 01's worked cases, which CasesHold shows",
+    ("dimacs_format", "Accepted"): "which texts are accepted, without a fold; the reader accepts just these (ReaderLaws)",
+    ("check_theory", "Published"): "stable sets as published, which those of document 01 are (StableLaws)",
+}
+
+
+def entry_points():
+    """(crate, function) of README's table."""
+    section = open("README.md").read().split("\n## Entry points\n")[1].split("\n## ")[0]
+    for row in re.findall(r"^\| (`[^|]*)\|", section, re.M):
+        for crate, name in re.findall(r"`(\w+)(?:::\w+)*::(\w+)`", row):
+            yield crate, name
+
+
+def exported():
+    for path in sorted(glob.glob("crates/*/src/*.rt")):
+        for name in re.findall(r"#\[no_mangle\]\npub extern \"C\" fn (\w+)\(", open(path).read()):
+            yield path.split("/")[1], name
+
+
+def cited(crate, name):
+    """The modules that the contract of a function cites; no contract or a `requires` is wrong."""
+    for path in sorted(glob.glob(f"crates/{crate}/src/*.rt")):
+        text = open(path).read()
+        for found, _, contract, _ in tree.functions(text):
+            if found == name:
+                required, told = tree.clauses(contract)
+                if required or not told:
+                    wrong.append(f"{crate}::{name} has {'a `requires`' if required else 'no contract'}")
+                words = set(re.findall(r"[^\s(){}⌜⌝,]+", told))
+                return [module for module, names in tree.imports(text) if words & set(names)]
+    wrong.append(f"{crate}::{name} is not there")
+    return []
+
+
+def closure(roots):
+    """The modules that roots import, with what imports each, and the types of the code that they speak of."""
+    by, types, waiting = dict(roots), set(), list(roots)
+    while waiting:
+        module = waiting.pop()
+        for other, _ in tree.imports(open(tree.module_path(module)).read()):
+            if other[1].startswith("declared."):
+                types.add((other[0], other[1].split(".")[1]))
+            elif other not in by:
+                by[other] = "%s/%s" % module
+                waiting.append(other)
+    return by, types
+
+
+def lines(module):
+    """How many lines of a module are definitions or comments: not blank, no import."""
+    return sum(1 for line in open(tree.module_path(module)) if line.strip() and not line.startswith("use "))
+
+
+def listed(title, modules):
+    total = sum(map(lines, modules))
+    print(f"{title}: {len(modules)} modules, {total} lines")
+    order = tree.crates()
+    for module in sorted(modules, key=lambda m: (order.index(m[0]), m[1])):
+        print("  %4d  %s" % (lines(module), tree.module_path(module)[len("crates/"):]))
+    return f"{len(modules)} modules, {total} lines"
+
+
+os.chdir(tree.TOP)
+wrong = []
+roots = {CLAIM: "the claim"}
+for crate, name in entry_points():
+    roots.update({module: f"{crate}::{name}" for module in cited(crate, name)})
+core, types = closure(roots)
+outer = dict(roots)
+for crate, name in exported():
+    outer.update({module: f"{crate}::{name}" for module in cited(crate, name)})
+whole, more_types = closure(outer)
+for module, by in sorted({**core, **whole}.items()):
+    if tree.is_law(module):
+        wrong.append(f"{by} reaches the law {tree.module_path(module)}")
+for crate in tree.crates():
+    for module in tree.believed(crate):
+        if module not in whole and module not in BESIDE:
+            wrong.append(f"{tree.module_path(module)} stands among the definitions, and no contract and not the claim reads it")
+figure = listed("entry points and the claim", list(core))
+listed("exported functions and the program's text, beside these", [module for module in whole if module not in core])
+listed("sentences of promised theorems, beside these", list(BESIDE))
+print("types of the code that they speak of: " + ", ".join("%s::%s" % kind for kind in sorted(types | more_types)))
+if f"**{figure}**" not in open("README.md").read():
+    wrong.append(f"README does not say **{figure}**")
+print("\n".join(wrong) if wrong else "reading: no law is reached")
+sys.exit(1 if wrong else 0)

@@ -1,0 +1,118 @@
+"""What the tools of this folder know of the repository: its parts and crates, the modules of specs, what a module holds, and the contracts of functions."""
+import glob
+import os
+import re
+
+TOP = os.path.join(os.path.dirname(os.path.abspath(__file__)), "..")
+
+
+def parts():
+    """The parts of the repository as crates.txt has them: (title, [crate ..]), lowest first."""
+    found = []
+    for line in open("crates.txt"):
+        title = re.match(r"# -- (.*)", line)
+        if title:
+            found.append((title.group(1).strip(), []))
+        elif line.strip() and not line.startswith("#"):
+            found[-1][1].append(line.split(":")[0].strip())
+    return found
+
+
+def crates():
+    return [crate for _, names in parts() for crate in names]
+
+
+def source(crate):
+    """The root of a crate's code."""
+    for name in ("lib", "main"):
+        path = f"crates/{crate}/src/{name}.rt"
+        if os.path.exists(path):
+            return path
+    return None
+
+
+def head(path):
+    """The comment that a file begins with, as one line of text."""
+    words = []
+    for line in open(path):
+        comment = re.match(r"(?:--|//) (.*)", line)
+        if not comment:
+            break
+        words.append(comment.group(1).strip())
+    return " ".join(words)
+
+
+def sentence(text):
+    """The first sentence of a text: to the first full stop that a blank and a capital letter, or the end, follow."""
+    return re.match(r".*?\.(?=\s+[A-Z`]|$)", text + ("" if text.endswith(".") else "."), re.S).group(0)
+
+
+# ---- modules of specs: a pair of a crate and a path below its specs/, dots for folders
+
+def module_path(module):
+    return "crates/%s/specs/%s.antt" % (module[0], module[1].replace(".", "/"))
+
+
+def is_law(module):
+    return module[1].split(".")[0] == "Laws"
+
+
+def believed(crate):
+    """The modules of definitions that stand directly in a crate's specs/."""
+    paths = sorted(glob.glob(f"crates/{crate}/specs/*.antt"))
+    names = [os.path.basename(path)[:-5] for path in paths]
+    return [(crate, name) for name in names if name not in ("Lib", "Laws")]
+
+
+IMPORT = re.compile(r"^(?:ghost )?use Rattle·(\w+?)(?:·specs)?(?:\.specs)\.([\w.]*\w)\.\{([^}]*)\};?$", re.M)
+
+
+def imports(text):
+    """(module, [name ..]) for each import of specs, the types of the code (`declared`) among them."""
+    for crate, module, names in IMPORT.findall(text):
+        yield (crate, module), [re.sub(r".* as ", "", name).strip() for name in names.split(",")]
+
+
+# ---- what a module holds
+
+DECLARED = re.compile(r"^ *(abbrev |unfoldable )?(?:pub )?(record |data )?([^\s:({]+)[^\n]*?(?: :|$)")
+
+
+def items(text):
+    """The declarations of a module: (name, whether it is a definition, its text without comments and `pub`, white space folded)."""
+    found, lines = [], [re.sub(r"(^|\s)-- .*$", "", line).rstrip() for line in text.split("\n")]
+    block = []
+    for line in lines + [""]:
+        if line.strip():
+            block.append(line)
+            continue
+        while block and re.match(r"\s*(use|pub mod|infix|module)\b", block[0]):
+            block = block[1:]
+        if block:
+            named = DECLARED.match(block[0])
+            name = named.group(3) if named else block[0].split()[0]
+            found.append((name, bool(named and (named.group(1) or named.group(2))), " ".join(" ".join(block).replace("pub ", "").split())))
+        block = []
+    return found
+
+
+# ---- functions and their contracts
+
+FUNCTION = re.compile(r"^(?: *)(?:pub )?(?:extern \"C\" )?fn (\w+)\(", re.M)
+
+
+def functions(text):
+    """(name, signature, contract, body) of each function of a file; the contract is what stands between the signature and the body."""
+    for found in FUNCTION.finditer(text):
+        opened = re.compile(r"^ *\{$", re.M).search(text, found.end())
+        inline = text.find(" {\n", found.end())
+        contract = re.compile(r"^ *(?:requires|ensures)\b", re.M).search(text, found.end())
+        if contract and opened and contract.start() < opened.start() and not re.search(r"^\}", text[found.end():contract.start()], re.M):
+            yield found.group(1), text[found.start():contract.start()], text[contract.start():opened.start()], opened.start()
+        else:
+            yield found.group(1), text[found.start():inline], "", inline
+
+
+def clauses(contract):
+    """Whether a contract has a `requires`, and its text with white space folded."""
+    return bool(re.search(r"\brequires\b", contract)), " ".join(contract.split())
