@@ -13,15 +13,6 @@ use Rattle.certificate.specs.Contract.{contentsIn}
 use Rattle.certificate.proofs.in_order.Statement.{statement}
 use Rattle.certificate.proofs.in_order.Tie as tie
 
-cast-first : tie.Need-cast-first
-cast-first c = search needs
-
-cast-second : tie.Need-cast-second
-cast-second c = search needs
-
-cast-third : tie.Need-cast-third
-cast-third c = search needs
-
 returns : tie.Need-returns
 unfolding contentsIn
 returns c =
@@ -35,15 +26,6 @@ returns-2 c =
     let a = c .before .before .before .before .before .before .args in
     sym (not-fitting (contentsIn (a .c)) (a .size) (λ (f : Fitting (contentsIn (a .c)) (a .size)).
     omega (arith, f .permutationsFirst, f .pointsNext, f .numbersLast, f .countsAgree, f .lengthExact, c .if2 .taken)))
-
-sub-left : tie.Need-sub-left
-sub-left c = search needs
-
-cast-images : tie.Need-cast-images
-cast-images c = search needs
-
-cast-images-2 : tie.Need-cast-images-2
-cast-images-2 c = search needs
 
 mul-images : tie.Need-mul-images
 mul-images c =
@@ -60,21 +42,12 @@ returns-3 c =
     sym (not-fitting (contentsIn (a .c)) (a .size) (λ (f : Fitting (contentsIn (a .c)) (a .size)).
     omega (arith, f .permutationsFirst, f .pointsNext, f .numbersLast, f .countsAgree, f .lengthExact, c .if3 .taken)))
 
-add-if4 : tie.Need-add-if4
-add-if4 c = search needs
-
 returns-4 : tie.Need-returns-4
 unfolding contentsIn
 returns-4 c =
     let a = c .before .before .before .before .before .before .before .before .before .before .args in
     sym (not-fitting (contentsIn (a .c)) (a .size) (λ (f : Fitting (contentsIn (a .c)) (a .size)).
     omega (arith, f .permutationsFirst, f .pointsNext, f .numbersLast, f .countsAgree, f .lengthExact, c .if4 .taken)))
-
-cast-points : tie.Need-cast-points
-cast-points c = search needs
-
-mul-points : tie.Need-mul-points
-mul-points c = search needs
 
 returns-5 : tie.Need-returns-5
 unfolding contentsIn
@@ -83,21 +56,12 @@ returns-5 c =
     sym (not-fitting (contentsIn (a .c)) (a .size) (λ (f : Fitting (contentsIn (a .c)) (a .size)).
     omega (arith, f .permutationsFirst, f .pointsNext, f .numbersLast, f .countsAgree, f .lengthExact, c .before .before .if4 .left, c .if5 .taken)))
 
-add-if6 : tie.Need-add-if6
-add-if6 c = search needs
-
 returns-6 : tie.Need-returns-6
 unfolding contentsIn
 returns-6 c =
     let a = c .before .before .before .before .before .before .before .before .before .before .before .before .before .args in
     sym (not-fitting (contentsIn (a .c)) (a .size) (λ (f : Fitting (contentsIn (a .c)) (a .size)).
     omega (arith, f .permutationsFirst, f .pointsNext, f .numbersLast, f .countsAgree, f .lengthExact, c .if6 .taken)))
-
-cast-numbers : tie.Need-cast-numbers
-cast-numbers c = search needs
-
-mul-numbers : tie.Need-mul-numbers
-mul-numbers c = search needs
 
 returns-7 : tie.Need-returns-7
 unfolding contentsIn
@@ -126,23 +90,23 @@ pub in-order-spec : {M : Type 1} → statement M
 in-order-spec =
     tie.close
     (tie.spec
-    cast-first
-    cast-second
-    cast-third
+    (λ c. search needs)
+    (λ c. search needs)
+    (λ c. search needs)
     returns
     returns-2
-    sub-left
-    cast-images
-    cast-images-2
+    (λ c. search needs)
+    (λ c. search needs)
+    (λ c. search needs)
     mul-images
     returns-3
-    add-if4
+    (λ c. search needs)
     returns-4
-    cast-points
-    mul-points
+    (λ c. search needs)
+    (λ c. search needs)
     returns-5
-    add-if6
+    (λ c. search needs)
     returns-6
-    cast-numbers
-    mul-numbers
+    (λ c. search needs)
+    (λ c. search needs)
     returns-7)

@@ -18,20 +18,11 @@ abbrev μ-loop : tie.MeasureT-loop
 loop-holds : tie.Need-loop-holds Inv-loop μ-loop
 loop-holds c = (zero-le, refl, sym (spliced-none _ _))
 
-add-place : tie.Need-add-place Inv-loop μ-loop
-add-place c = search needs
-
 shared-slice-read-out : tie.Need-shared-slice-read-out Inv-loop μ-loop
 shared-slice-read-out c = omega arith
 
 slice-write-out : tie.Need-slice-write-out Inv-loop μ-loop
 slice-write-out c = omega arith
-
-add-i : tie.Need-add-i Inv-loop μ-loop
-add-i c = search needs
-
-loop-less : tie.Need-loop-less Inv-loop μ-loop
-loop-less c = search needs
 
 loop-again : tie.Need-loop-again Inv-loop μ-loop
 loop-again c =
@@ -42,9 +33,6 @@ loop-again c =
       length-set (l .out) (a .at + l .i) x ∙ l .inv .1,
       ap (λ xs. set xs (a .at + l .i) x) (l .inv .2) ∙ spliced-take-next (a .at) (l .i) (a .bytes .now) (a .out .now) 0 (omega arith) (omega arith),
     )
-
-same-length : tie.Need-same-length Inv-loop μ-loop
-same-length c = search needs
 
 returns : tie.Need-returns Inv-loop μ-loop
 returns c =
@@ -58,11 +46,11 @@ put-bytes-spec =
     Inv-loop
     μ-loop
     loop-holds
-    add-place
+    (λ c. search needs)
     shared-slice-read-out
     slice-write-out
-    add-i
-    loop-less
+    (λ c. search needs)
+    (λ c. search needs)
     loop-again
-    same-length
+    (λ c. search needs)
     returns)

@@ -10,9 +10,6 @@ put-fields-requires c κs = search needs
 put-fields-requires-2 : tie.Need-put-fields-requires-2
 put-fields-requires-2 c κs = search needs
 
-same-length : tie.Need-same-length
-same-length c = search needs
-
 returns : tie.Need-returns
 returns c =
     let whole = c .before .before in
@@ -22,4 +19,4 @@ returns c =
 
 pub put-contents-spec : {M : Type 1} → statement M
 put-contents-spec =
-    tie.close (tie.spec put-fields-requires put-fields-requires-2 same-length returns)
+    tie.close (tie.spec put-fields-requires put-fields-requires-2 (λ c. search needs) returns)

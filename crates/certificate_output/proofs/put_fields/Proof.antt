@@ -5,15 +5,6 @@ use Rattle.certificate_output.specs.Laws.OutputLaws.{four-stored}
 use Rattle.certificate_output.proofs.put_fields.Statement.{statement}
 use Rattle.certificate_output.proofs.put_fields.Tie as tie
 
-add-second : tie.Need-add-second
-add-second c = search needs
-
-add-third : tie.Need-add-third
-add-third c = search needs
-
-add-fourth : tie.Need-add-fourth
-add-fourth c = search needs
-
 put-number-requires : tie.Need-put-number-requires
 put-number-requires c κs = search needs
 
@@ -25,9 +16,6 @@ put-number-requires-3 c κs = search needs
 
 put-number-requires-4 : tie.Need-put-number-requires-4
 put-number-requires-4 c κs = search needs
-
-same-length : tie.Need-same-length
-same-length c = search needs
 
 returns : tie.Need-returns
 returns c =
@@ -41,12 +29,12 @@ pub put-fields-spec : {M : Type 1} → statement M
 put-fields-spec =
     tie.close
     (tie.spec
-    add-second
-    add-third
-    add-fourth
+    (λ c. search needs)
+    (λ c. search needs)
+    (λ c. search needs)
     put-number-requires
     put-number-requires-2
     put-number-requires-3
     put-number-requires-4
-    same-length
+    (λ c. search needs)
     returns)

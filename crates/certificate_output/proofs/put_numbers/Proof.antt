@@ -22,23 +22,8 @@ loop-holds c = (zero-le, refl, none-stored numberWidth _ _ (omega arith))
 number-at-requires : tie.Need-number-at-requires Inv-loop μ-loop
 number-at-requires c κs = search needs
 
-mul-place : tie.Need-mul-place Inv-loop μ-loop
-mul-place c = search needs
-
-add-place : tie.Need-add-place Inv-loop μ-loop
-add-place c = search needs
-
-cast-put-number : tie.Need-cast-put-number Inv-loop μ-loop
-cast-put-number c = search needs
-
 put-number-requires : tie.Need-put-number-requires Inv-loop μ-loop
 put-number-requires c κs = omega arith
-
-add-next : tie.Need-add-next Inv-loop μ-loop
-add-next c = search needs
-
-loop-less : tie.Need-loop-less Inv-loop μ-loop
-loop-less c = search needs
 
 loop-again : tie.Need-loop-again Inv-loop μ-loop
 loop-again c =
@@ -46,9 +31,6 @@ loop-again c =
     let l = stored .before .before .before .before .loop in
     let a = stored .before .before .before .before .before .before .before .args in
     (omega arith, stored .put-number .kept .0 ∙ l .inv .1, next-stored numberWidth (a .at) (a .out .now) (omega arith) (l .next) (a .numbers .now) (l .out) _ (omega arith) (l .inv .2) (stored .put-number .ensures ∙ ap (λ (x : ℕ). spliced (a .at + l .next * numberWidth) (bytesOf numberWidth x) (l .out)) (stored .before .before .number-at .ensures)))
-
-same-length : tie.Need-same-length Inv-loop μ-loop
-same-length c = search needs
 
 returns : tie.Need-returns Inv-loop μ-loop
 returns c =
@@ -63,12 +45,12 @@ put-numbers-spec =
     μ-loop
     loop-holds
     number-at-requires
-    mul-place
-    add-place
-    cast-put-number
+    (λ c. search needs)
+    (λ c. search needs)
+    (λ c. search needs)
     put-number-requires
-    add-next
-    loop-less
+    (λ c. search needs)
+    (λ c. search needs)
     loop-again
-    same-length
+    (λ c. search needs)
     returns)

@@ -22,20 +22,8 @@ loop-holds c = (zero-le, refl, none-stored pointWidth _ _ (omega arith))
 point-at-requires : tie.Need-point-at-requires Inv-loop μ-loop
 point-at-requires c κs = search needs
 
-mul-place : tie.Need-mul-place Inv-loop μ-loop
-mul-place c = search needs
-
-add-place : tie.Need-add-place Inv-loop μ-loop
-add-place c = search needs
-
 put-number-requires : tie.Need-put-number-requires Inv-loop μ-loop
 put-number-requires c κs = omega arith
-
-add-i : tie.Need-add-i Inv-loop μ-loop
-add-i c = search needs
-
-loop-less : tie.Need-loop-less Inv-loop μ-loop
-loop-less c = search needs
 
 loop-again : tie.Need-loop-again Inv-loop μ-loop
 loop-again c =
@@ -43,9 +31,6 @@ loop-again c =
     let l = stored .before .before .before .before .loop in
     let a = stored .before .before .before .before .before .before .before .args in
     (omega arith, stored .put-number .kept .0 ∙ l .inv .1, next-stored pointWidth (a .at) (a .out .now) (omega arith) (l .i) (a .points .now) (l .out) _ (omega arith) (l .inv .2) (stored .put-number .ensures ∙ ap (λ (x : ℕ). spliced (a .at + l .i * pointWidth) (bytesOf pointWidth x) (l .out)) (stored .before .before .point-at .ensures)))
-
-same-length : tie.Need-same-length Inv-loop μ-loop
-same-length c = search needs
 
 returns : tie.Need-returns Inv-loop μ-loop
 returns c =
@@ -60,11 +45,11 @@ put-points-spec =
     μ-loop
     loop-holds
     point-at-requires
-    mul-place
-    add-place
+    (λ c. search needs)
+    (λ c. search needs)
     put-number-requires
-    add-i
-    loop-less
+    (λ c. search needs)
+    (λ c. search needs)
     loop-again
-    same-length
+    (λ c. search needs)
     returns)

@@ -18,14 +18,8 @@ mul-area c = omega (arith, area c)
 add-result : tie.Need-add-result
 add-result c = omega (arith, area c)
 
-mul-result : tie.Need-mul-result
-mul-result c = search needs
-
 add-result-2 : tie.Need-add-result-2
 add-result-2 c = omega (arith, area c)
-
-mul-result-2 : tie.Need-mul-result-2
-mul-result-2 c = search needs
 
 add-result-3 : tie.Need-add-result-3
 add-result-3 c = omega (arith, area c)
@@ -37,4 +31,4 @@ returns c = refl
 pub length-needed-spec : {M : Type 1} → statement M
 length-needed-spec =
     tie.close
-    (tie.spec mul-area add-result mul-result add-result-2 mul-result-2 add-result-3 returns)
+    (tie.spec mul-area add-result (λ c. search needs) add-result-2 (λ c. search needs) add-result-3 returns)

@@ -14,18 +14,6 @@ room : (c : tie.Start) → 32 + c .args .permutations * c .args .n + c .args .co
 unfolding certificateLength
 room c = c .pre .room
 
-mul-area : tie.Need-mul-area
-mul-area c = search needs
-
-add-points-at : tie.Need-add-points-at
-add-points-at c = search needs
-
-mul-numbers-at : tie.Need-mul-numbers-at
-mul-numbers-at c = search needs
-
-add-numbers-at : tie.Need-add-numbers-at
-add-numbers-at c = search needs
-
 put-contents-requires : tie.Need-put-contents-requires
 put-contents-requires c κs = (omega (arith, room (c .before .before .before .before .before)), refl, refl)
 
@@ -50,9 +38,6 @@ put-numbers-requires c κs =
     let start = one .before .before .before .before .before .before in
     (omega (arith, room start, one .put-contents .kept .0, two .put-bytes .kept .0, three .put-points .kept .0), start .pre .numbersHeld)
 
-same-length : tie.Need-same-length
-same-length c = search needs
-
 returns : tie.Need-returns
 returns c =
     let four = c .before .before in
@@ -66,13 +51,13 @@ pub put-certificate-spec : {M : Type 1} → statement M
 put-certificate-spec =
     tie.close
     (tie.spec
-    mul-area
-    add-points-at
-    mul-numbers-at
-    add-numbers-at
+    (λ c. search needs)
+    (λ c. search needs)
+    (λ c. search needs)
+    (λ c. search needs)
     put-contents-requires
     put-bytes-requires
     put-points-requires
     put-numbers-requires
-    same-length
+    (λ c. search needs)
     returns)

@@ -7,23 +7,11 @@ use Rattle.certificate_writer.specs.Laws.PartsLaws.{stops-earlier, stops
 use Rattle.certificate_writer.proofs.slots_refusal.Statement.{statement}
 use Rattle.certificate_writer.proofs.slots_refusal.Tie as tie
 
-enum-told : tie.Need-enum-told
-enum-told c = search needs
-
-enum-told-2 : tie.Need-enum-told-2
-enum-told-2 c = search needs
-
 returns : tie.Need-returns
 returns c = stops-earlier _ _ _ _ _ _ _ (subst IsFault (sym (ap faultOf (c .enum-told2 .given .1))) tt)
 
 local-refusal-requires : tie.Need-local-refusal-requires
 local-refusal-requires c κs = c .before .before .before .before .before .before .pre (ap faultOf (c .enum-told .given .1))
-
-enum-told-3 : tie.Need-enum-told-3
-enum-told-3 c = search needs
-
-enum-told-4 : tie.Need-enum-told-4
-enum-told-4 c = search needs
 
 returns-2 : tie.Need-returns-2
 returns-2 c =
@@ -43,12 +31,12 @@ pub slots-refusal-spec : {M : Type 1} → statement M
 slots-refusal-spec =
     tie.close
     (tie.spec
-    enum-told
-    enum-told-2
+    (λ c. search needs)
+    (λ c. search needs)
     returns
     local-refusal-requires
-    enum-told-3
-    enum-told-4
+    (λ c. search needs)
+    (λ c. search needs)
     returns-2
     numbers-refusal-requires
     returns-3)

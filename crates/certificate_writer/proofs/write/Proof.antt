@@ -15,12 +15,6 @@ room-requires c κs = tt
 slots-refusal-requires : tie.Need-slots-refusal-requires
 slots-refusal-requires c κs = slots-counted _ _ _ _ (c .before .problem-refusal .ensures) _ _ _ _ (c .room .ensures)
 
-enum-told : tie.Need-enum-told
-enum-told c = search needs
-
-enum-known-told : tie.Need-enum-known-told
-enum-known-told c = search needs
-
 returns : tie.Need-returns
 returns c =
     let slots = c .before .before .before in
@@ -79,8 +73,8 @@ write-spec =
     problem-refusal-requires
     room-requires
     slots-refusal-requires
-    enum-told
-    enum-known-told
+    (λ c. search needs)
+    (λ c. search needs)
     returns
     length-needed-requires
     returns-2

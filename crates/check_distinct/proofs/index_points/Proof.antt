@@ -22,18 +22,12 @@ loop-holds c = (refl, sifting-begins (c .before .before .pre))
 point-enters-requires : tie.Need-point-enters-requires Inv-loop μ-loop
 point-enters-requires c κs = sifting-growable (c .before .before .before .before .before .pre) (c .before .before .loop .inv .1) (c .before .loop-test .taken)
 
-add-result : tie.Need-add-result Inv-loop μ-loop
-add-result c = search needs
-
 same-length : tie.Need-same-length Inv-loop μ-loop
 same-length c = c .before .before .before .point-enters .kept .0 ∙ c .before .before .before .before .before .before .loop .inv .0
 
 returns : tie.Need-returns Inv-loop μ-loop
 returns c =
     sifting-stops (c .before .before .before .before .before .before .before .before .before .pre) (c .before .before .before .before .before .before .loop .inv .1) (c .before .before .before .before .before .loop-test .taken) _ _ (c .before .before .before .point-enters .ensures) (not-true _ (c .if1 .taken))
-
-add-i : tie.Need-add-i Inv-loop μ-loop
-add-i c = search needs
 
 loop-less : tie.Need-loop-less Inv-loop μ-loop
 loop-less c = omega (arith, c .before .before .before .before .before .loop-test .taken)
@@ -59,10 +53,10 @@ index-points-spec =
     μ-loop
     loop-holds
     point-enters-requires
-    add-result
+    (λ c. search needs)
     same-length
     returns
-    add-i
+    (λ c. search needs)
     loop-less
     loop-again
     same-length-2

@@ -13,12 +13,6 @@ few-refusal-requires c κs = search needs
 many-refusal-requires : tie.Need-many-refusal-requires
 many-refusal-requires c κs = search needs
 
-returns-2 : tie.Need-returns-2
-returns-2 c = search needs
-
-returns-3 : tie.Need-returns-3
-returns-3 c = search needs
-
 pub local-refusal-spec : {M : Type 1} → statement M
 local-refusal-spec =
-    tie.close (tie.spec returns few-refusal-requires many-refusal-requires returns-2 returns-3)
+    tie.close (tie.spec returns few-refusal-requires many-refusal-requires (λ c. search needs) (λ c. search needs))

@@ -15,9 +15,6 @@ add-requires c κs =
     let b = c .before .before in
     grow-addable (b .before .before .before .before .pre) _ (b .before .point-at .ensures) _ (b .below .ensures) (c .before .if1 .taken)
 
-same-length : tie.Need-same-length
-same-length c = search needs
-
 returns : tie.Need-returns
 returns c =
     let b = c .before .before .before .before .before in
@@ -31,4 +28,4 @@ returns-2 c =
 pub point-enters-spec : {M : Type 1} → statement M
 point-enters-spec =
     tie.close
-    (tie.spec point-at-requires below-requires add-requires same-length returns returns-2)
+    (tie.spec point-at-requires below-requires add-requires (λ c. search needs) returns returns-2)

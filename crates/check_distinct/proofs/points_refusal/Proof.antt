@@ -16,15 +16,9 @@ returns-2 c = refuses-many _ (c .if2 .taken)
 index-points-requires : tie.Need-index-points-requires
 index-points-requires c κs = search needs
 
-same-length : tie.Need-same-length
-same-length c = search needs
-
 returns-3 : tie.Need-returns-3
 returns-3 c =
     refuses-first _ (c .before .before .before .before .before .before .if1 .left) (c .before .before .before .before .before .if2 .left) (c .before .before .before .index-points .ensures) _ (fault-zero 16 _ (c .if3 .taken))
-
-same-length-2 : tie.Need-same-length-2
-same-length-2 c = search needs
 
 returns-4 : tie.Need-returns-4
 returns-4 c =
@@ -37,7 +31,7 @@ points-refusal-spec =
     returns
     returns-2
     index-points-requires
-    same-length
+    (λ c. search needs)
     returns-3
-    same-length-2
+    (λ c. search needs)
     returns-4)

@@ -19,15 +19,6 @@ numbers-into-requires c κs = search needs
 lists-refusal-requires : tie.Need-lists-refusal-requires
 lists-refusal-requires c κs = let pre = c .before .before .before .before .before .before .before .before .before .before .before .before .before .before .before .before .before .before .before .pre in lent-ready (pre .0) (pre .1) _ (c .before .before .before .before .before .before .before .before .before .points-into .kept .0)
 
-same-length : tie.Need-same-length
-same-length c = search needs
-
-same-length-2 : tie.Need-same-length-2
-same-length-2 c = search needs
-
-same-length-3 : tie.Need-same-length-3
-same-length-3 c = search needs
-
 returns : tie.Need-returns
 returns c =
     let a = c .before .before .before .before .before .before .before .before .before .before .before .before .before .before .before .before .before .before .before .before .before .before .args in
@@ -42,7 +33,7 @@ copied-refusal-spec =
     points-into-requires
     numbers-into-requires
     lists-refusal-requires
-    same-length
-    same-length-2
-    same-length-3
+    (λ c. search needs)
+    (λ c. search needs)
+    (λ c. search needs)
     returns)

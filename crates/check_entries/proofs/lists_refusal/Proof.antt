@@ -12,20 +12,8 @@ use Rattle.check_entries.specs.Laws.EntryLaws.{stops-16, stops-17, ends-
 use Rattle.check_entries.proofs.lists_refusal.Statement.{statement}
 use Rattle.check_entries.proofs.lists_refusal.Tie as tie
 
-cast-most : tie.Need-cast-most
-cast-most c = search needs
-
 points-refusal-requires : tie.Need-points-refusal-requires
 points-refusal-requires c κs = search needs
-
-enum-told : tie.Need-enum-told
-enum-told c = search needs
-
-enum-told-2 : tie.Need-enum-told-2
-enum-told-2 c = search needs
-
-same-length : tie.Need-same-length
-same-length c = search needs
 
 returns : tie.Need-returns
 returns c =
@@ -34,15 +22,6 @@ returns c =
 
 numbers-refusal-requires : tie.Need-numbers-refusal-requires
 numbers-refusal-requires c κs = search needs
-
-enum-told-3 : tie.Need-enum-told-3
-enum-told-3 c = search needs
-
-enum-told-4 : tie.Need-enum-told-4
-enum-told-4 c = search needs
-
-same-length-2 : tie.Need-same-length-2
-same-length-2 c = search needs
 
 -- the second test is reached where refusal 16 found nothing
 passed : (c : tie.After-enum-told) → faultOf (c .before .before .before .before .points-refusal .result) ≡ sound
@@ -59,9 +38,6 @@ returns-2 c =
 flips-refusal-requires : tie.Need-flips-refusal-requires
 flips-refusal-requires c κs = ready-testable (c .before .before .before .before .before .before .before .before .before .before .before .before .before .before .before .before .pre) (c .before .before .before .before .before .before .before .before .points-refusal .ensures) (passed (c .before .before .before .before))
 
-same-length-3 : tie.Need-same-length-3
-same-length-3 c = search needs
-
 -- and the third where refusal 17 did not either
 seventeen : (c : tie.After-enum-told3)
     → numbersFault (numbered (clausesOf (c .before .before .before .before .before .before .before .before .before .before .before .before .before .before .before .args .positive .now) (c .before .before .before .before .before .before .before .before .before .before .before .before .before .before .before .args .negative .now))) (c .before .before .before .before .before .before .before .before .before .before .before .before .before .before .before .args .count) (c .before .before .before .before .before .before .before .before .before .before .before .before .before .before .before .args .points .now) (c .before .before .before .before .before .before .before .before .before .before .before .before .before .before .before .args .numbers .now) ≡ sound
@@ -75,17 +51,17 @@ pub lists-refusal-spec : {M : Type 1} → statement M
 lists-refusal-spec =
     tie.close
     (tie.spec
-    cast-most
+    (λ c. search needs)
     points-refusal-requires
-    enum-told
-    enum-told-2
-    same-length
+    (λ c. search needs)
+    (λ c. search needs)
+    (λ c. search needs)
     returns
     numbers-refusal-requires
-    enum-told-3
-    enum-told-4
-    same-length-2
+    (λ c. search needs)
+    (λ c. search needs)
+    (λ c. search needs)
     returns-2
     flips-refusal-requires
-    same-length-3
+    (λ c. search needs)
     returns-3)

@@ -13,9 +13,6 @@ use Rattle.check_falsified.proofs.falsifies.Tie as tie
 returns : tie.Need-returns
 returns c = falsifies-none _ _ _ (c .if1 .taken)
 
-sub-place : tie.Need-sub-place
-sub-place c = search needs
-
 clause-count-requires : tie.Need-clause-count-requires
 clause-count-requires c κs = search needs
 
@@ -42,7 +39,7 @@ falsifies-spec =
     tie.close
     (tie.spec
     returns
-    sub-place
+    (λ c. search needs)
     clause-count-requires
     returns-2
     clause-at-requires

@@ -25,19 +25,10 @@ loop-holds c = failing-begins _ _ 0
 number-passes-requires : tie.Need-number-passes-requires Inv-loop μ-loop
 number-passes-requires c κs = search needs
 
-add-result : tie.Need-add-result Inv-loop μ-loop
-add-result c = search needs
-
 returns : tie.Need-returns Inv-loop μ-loop
 returns c =
     let l = c .before .before .before .loop in
     sym (l .inv ∙ below-stops _ _ (l .i) (c .before .before .loop-test .taken) (sym (c .before .number-passes .ensures) ∙ not-true _ (c .if1 .taken)))
-
-add-i : tie.Need-add-i Inv-loop μ-loop
-add-i c = search needs
-
-loop-less : tie.Need-loop-less Inv-loop μ-loop
-loop-less c = search needs
 
 loop-again : tie.Need-loop-again Inv-loop μ-loop
 loop-again c =
@@ -57,9 +48,9 @@ first-bad-number-spec =
     μ-loop
     loop-holds
     number-passes-requires
-    add-result
+    (λ c. search needs)
     returns
-    add-i
-    loop-less
+    (λ c. search needs)
+    (λ c. search needs)
     loop-again
     returns-2)

@@ -48,19 +48,10 @@ flips-pass-requires c κs =
     let a = c .before .before .before .before .before .before .before .before .before .before .before .before .before .args in
     (c .before .before .before .before .before .before .before .before .before .before .before .before .before .pre, c .before .before .before .before .before .loop-test .taken, subst (λ (y : ℕ). Imaged (a .n) (a .permutations) (a .images .now) y (c .before .before .move-images .last .0)) (c .before .before .before .before .point-at .ensures) (c .before .before .move-images .ensures))
 
-add-result : tie.Need-add-result Inv-loop μ-loop
-add-result c = search needs
-
 returns : tie.Need-returns Inv-loop μ-loop
 returns c =
     let l = c .before .before .before .before .before .before .before .before .loop in
     sym (l .inv .0 ∙ below-stops _ _ (l .i) (c .before .before .before .before .before .before .before .loop-test .taken) (sym (c .before .flips-pass .ensures) ∙ not-true _ (c .if1 .taken)))
-
-add-i : tie.Need-add-i Inv-loop μ-loop
-add-i c = search needs
-
-loop-less : tie.Need-loop-less Inv-loop μ-loop
-loop-less c = search needs
 
 loop-again : tie.Need-loop-again Inv-loop μ-loop
 loop-again c =
@@ -85,9 +76,9 @@ first-uncovered-spec =
     move-images-requires
     slice-aggregate-flips-pass
     flips-pass-requires
-    add-result
+    (λ c. search needs)
     returns
-    add-i
-    loop-less
+    (λ c. search needs)
+    (λ c. search needs)
     loop-again
     returns-2)

@@ -12,9 +12,6 @@ use Rattle.check_flips.proofs.variables_of.Tie as tie
 returns : tie.Need-returns
 returns c = listed-none _ _ (c .if1 .taken)
 
-sub-place : tie.Need-sub-place
-sub-place c = search needs
-
 clause-count-requires : tie.Need-clause-count-requires
 clause-count-requires c κs = search needs
 
@@ -41,7 +38,7 @@ variables-of-spec =
     tie.close
     (tie.spec
     returns
-    sub-place
+    (λ c. search needs)
     clause-count-requires
     returns-2
     clause-at-requires

@@ -8,12 +8,6 @@ use Rattle.checker.specs.Contract.{replyOf}
 use Rattle.checker.proofs.as_verdict.Statement.{statement}
 use Rattle.checker.proofs.as_verdict.Tie as tie
 
-enum-told : tie.Need-enum-told
-enum-told c = search needs
-
-enum-known-checked : tie.Need-enum-known-checked
-enum-known-checked c = search needs
-
 -- of equal tests the replies are equal
 told : {r s : Checked} → r ≡ s → unless (faultOf r) accepted ≡ unless (faultOf s) accepted
 told e = ap (λ (r : Checked). unless (faultOf r) accepted) e
@@ -27,4 +21,4 @@ unfolding replyOf unless
 returns-2 c = sym (told (c .before .checked .given .1))
 
 pub as-verdict-spec : {M : Type 1} → statement M
-as-verdict-spec = tie.close (tie.spec enum-told enum-known-checked returns returns-2)
+as-verdict-spec = tie.close (tie.spec (λ c. search needs) (λ c. search needs) returns returns-2)

@@ -14,15 +14,6 @@ use Rattle.checker.specs.Laws.PartLaws.{Laid, laid, images-listed, image
 use Rattle.checker.proofs.bodies_refusal.Statement.{statement}
 use Rattle.checker.proofs.bodies_refusal.Tie as tie
 
-cast-first : tie.Need-cast-first
-cast-first c = search needs
-
-cast-second : tie.Need-cast-second
-cast-second c = search needs
-
-cast-third : tie.Need-cast-third
-cast-third c = search needs
-
 -- where the parts lie
 lies : (s : tie.Start) → Laid (s .args .c) (s .args .positive .now) (s .args .negative .now) (s .args .file .now) (s .pre)
 lies s = laid (s .args .c) (s .args .positive .now) (s .args .negative .now) (s .args .file .now) (s .pre)
@@ -39,12 +30,6 @@ part-images-end c = let l = lies (c .before .before .before .before .before .bef
 permutations-refusal-requires : tie.Need-permutations-refusal-requires
 permutations-refusal-requires c κs = (c .before .before .before .before .before .before .before .pre .fitting .few-variables, λ _. lies (c .before .before .before .before .before .before .before) .images-long)
 
-enum-told : tie.Need-enum-told
-enum-told c = search needs
-
-enum-told-2 : tie.Need-enum-told-2
-enum-told-2 c = search needs
-
 returns : tie.Need-returns
 returns c =
     let s = c .before .before .before .before .before .before .before .before .before .before in
@@ -59,12 +44,6 @@ symmetry-refusal-requires : tie.Need-symmetry-refusal-requires
 symmetry-refusal-requires c κs =
     let s = c .before .before .before .before .before .before .before .before .before .before in
     images-listed (s .args .c) (s .args .positive .now) (s .args .negative .now) (s .args .file .now) (s .pre) (eleven c)
-
-enum-told-3 : tie.Need-enum-told-3
-enum-told-3 c = search needs
-
-enum-told-4 : tie.Need-enum-told-4
-enum-told-4 c = search needs
 
 returns-2 : tie.Need-returns-2
 returns-2 c =
@@ -82,9 +61,6 @@ returns-3 c =
     let s = c .before .before .before .before .before .before .before .before .before .before .before .before .before .before .before in
     too-many-points (s .args .c) (s .args .positive .now) (s .args .negative .now) (s .args .file .now) (s .pre) (eleven (c .before .before .before .before .before)) (twelve (c .before .before)) (c .if1 .taken)
 
-cast-count : tie.Need-cast-count
-cast-count c = search needs
-
 sub-points : tie.Need-sub-points
 sub-points c = lies (c .before .before .before .before .before .before .before .before .before .before .before .before .before .before .before .before) .second-third
 
@@ -99,9 +75,6 @@ sub-numbers c = lies (c .before .before .before .before .before .before .before 
 
 part-numbers-start : tie.Need-part-numbers-start
 part-numbers-start c = lies (c .before .before .before .before .before .before .before .before .before .before .before .before .before .before .before .before .before) .third-end
-
-part-numbers-end : tie.Need-part-numbers-end
-part-numbers-end c = search needs
 
 decoded-refusal-requires : tie.Need-decoded-refusal-requires
 decoded-refusal-requires c κs =
@@ -123,27 +96,27 @@ pub bodies-refusal-spec : {M : Type 1} → statement M
 bodies-refusal-spec =
     tie.close
     (tie.spec
-    cast-first
-    cast-second
-    cast-third
+    (λ c. search needs)
+    (λ c. search needs)
+    (λ c. search needs)
     sub-images
     part-images-start
     part-images-end
     permutations-refusal-requires
-    enum-told
-    enum-told-2
+    (λ c. search needs)
+    (λ c. search needs)
     returns
     symmetry-refusal-requires
-    enum-told-3
-    enum-told-4
+    (λ c. search needs)
+    (λ c. search needs)
     returns-2
     returns-3
-    cast-count
+    (λ c. search needs)
     sub-points
     part-points-start
     part-points-end
     sub-numbers
     part-numbers-start
-    part-numbers-end
+    (λ c. search needs)
     decoded-refusal-requires
     returns-4)

@@ -11,12 +11,6 @@ use Rattle.checker.proofs.check.Tie as tie
 clauses-refusal-requires : tie.Need-clauses-refusal-requires
 clauses-refusal-requires c κs = search needs
 
-enum-told : tie.Need-enum-told
-enum-told c = search needs
-
-enum-told-2 : tie.Need-enum-told-2
-enum-told-2 c = search needs
-
 as-verdict-requires : tie.Need-as-verdict-requires
 as-verdict-requires c κs = search needs
 
@@ -46,8 +40,8 @@ check-spec =
     tie.close
     (tie.spec
     clauses-refusal-requires
-    enum-told
-    enum-told-2
+    (λ c. search needs)
+    (λ c. search needs)
     as-verdict-requires
     returns
     file-refusal-requires

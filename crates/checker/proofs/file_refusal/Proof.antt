@@ -12,12 +12,6 @@ use Rattle.checker.proofs.file_refusal.Tie as tie
 read-requires : tie.Need-read-requires
 read-requires c κs = search needs
 
-enum-known-opened : tie.Need-enum-known-opened
-enum-known-opened c = search needs
-
-enum-known-opened-2 : tie.Need-enum-known-opened-2
-enum-known-opened-2 c = search needs
-
 -- a file whose contents are in order, and those contents
 read-file : (c : tie.After-opened2)
     → (wellFormed (c .before .before .before .before .before .before .args .file .now) ≡ true) × (contentsIn (c .opened2 .given .0 .0) ≡ contentsOf (c .before .before .before .before .before .before .args .file .now))
@@ -53,8 +47,8 @@ file-refusal-spec =
     tie.close
     (tie.spec
     read-requires
-    enum-known-opened
-    enum-known-opened-2
+    (λ c. search needs)
+    (λ c. search needs)
     returns
     returns-2
     bodies-refusal-requires

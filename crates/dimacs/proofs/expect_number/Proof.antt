@@ -12,23 +12,8 @@ run-end-requires c κs = search needs
 run-end-requires-2 : tie.Need-run-end-requires-2
 run-end-requires-2 c κs = search needs
 
-sub-read-number : tie.Need-sub-read-number
-sub-read-number c = search needs
-
-part-read-number-start : tie.Need-part-read-number-start
-part-read-number-start c = search needs
-
-part-read-number-end : tie.Need-part-read-number-end
-part-read-number-end c = search needs
-
 read-number-requires : tie.Need-read-number-requires
 read-number-requires c κs = search needs
-
-enum-known-number : tie.Need-enum-known-number
-enum-known-number c = search needs
-
-enum-told : tie.Need-enum-told
-enum-told c = search needs
 
 returns : tie.Need-returns
 returns c = number-other (c .before .before .before .before .before .before .before .args .line .now) _ _ _ (c .before .before .before .before .before .run-end .ensures) (c .before .before .before .before .run-end2 .ensures) (sym (c .before .before .read-number .ensures) ∙ ap numberOf (c .enum-told .given .1))
@@ -42,11 +27,11 @@ expect-number-spec =
     (tie.spec
     run-end-requires
     run-end-requires-2
-    sub-read-number
-    part-read-number-start
-    part-read-number-end
+    (λ c. search needs)
+    (λ c. search needs)
+    (λ c. search needs)
     read-number-requires
-    enum-known-number
-    enum-told
+    (λ c. search needs)
+    (λ c. search needs)
     returns
     returns-2)

@@ -12,15 +12,6 @@ run-end-requires c κs = search needs
 run-end-requires-2 : tie.Need-run-end-requires-2
 run-end-requires-2 c κs = search needs
 
-sub-same-bytes : tie.Need-sub-same-bytes
-sub-same-bytes c = search needs
-
-part-same-bytes-start : tie.Need-part-same-bytes-start
-part-same-bytes-start c = search needs
-
-part-same-bytes-end : tie.Need-part-same-bytes-end
-part-same-bytes-end c = search needs
-
 same-bytes-requires : tie.Need-same-bytes-requires
 same-bytes-requires c κs = search needs
 
@@ -36,9 +27,9 @@ expect-word-spec =
     (tie.spec
     run-end-requires
     run-end-requires-2
-    sub-same-bytes
-    part-same-bytes-start
-    part-same-bytes-end
+    (λ c. search needs)
+    (λ c. search needs)
+    (λ c. search needs)
     same-bytes-requires
     returns
     returns-2)

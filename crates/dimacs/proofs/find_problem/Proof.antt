@@ -25,15 +25,6 @@ loop-holds c = (zero-le, refl)
 run-end-requires : tie.Need-run-end-requires Inv-loop μ-loop
 run-end-requires c κs = c .loop .inv .0
 
-sub-is-skipped : tie.Need-sub-is-skipped Inv-loop μ-loop
-sub-is-skipped c = search needs
-
-part-is-skipped-start : tie.Need-part-is-skipped-start Inv-loop μ-loop
-part-is-skipped-start c = search needs
-
-part-is-skipped-end : tie.Need-part-is-skipped-end Inv-loop μ-loop
-part-is-skipped-end c = search needs
-
 is-skipped-requires : tie.Need-is-skipped-requires Inv-loop μ-loop
 is-skipped-requires c κs = search needs
 
@@ -47,9 +38,6 @@ passed c e = c .before .before .before .loop .inv .1 ∙ preamble-skips (c .befo
 
 returns-2 : tie.Need-returns-2 Inv-loop μ-loop
 returns-2 c = passed (c .before .before) (c .before .if1 .left) ∙ preamble-ends (c .before .before .before .before .before .before .before .args .text .now) _ (c .if2 .taken)
-
-add-start : tie.Need-add-start Inv-loop μ-loop
-add-start c = search needs
 
 loop-less : tie.Need-loop-less Inv-loop μ-loop
 loop-less c = let o = c .before .before .before .before .run-end .ensures .ordered in omega (arith, c .if2 .left)
@@ -65,12 +53,12 @@ find-problem-spec =
     μ-loop
     loop-holds
     run-end-requires
-    sub-is-skipped
-    part-is-skipped-start
-    part-is-skipped-end
+    (λ c. search needs)
+    (λ c. search needs)
+    (λ c. search needs)
     is-skipped-requires
     returns
     returns-2
-    add-start
+    (λ c. search needs)
     loop-less
     loop-again)

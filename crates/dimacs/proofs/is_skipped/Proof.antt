@@ -6,9 +6,6 @@ use Rattle.dimacs_format.specs.Text.{isComment}
 use Rattle.dimacs.proofs.is_skipped.Statement.{statement}
 use Rattle.dimacs.proofs.is_skipped.Tie as tie
 
-slice-aggregate-begins : tie.Need-slice-aggregate-begins
-slice-aggregate-begins c = search needs
-
 begins-requires : tie.Need-begins-requires
 begins-requires c κs = search needs
 
@@ -25,4 +22,4 @@ returns-2 c = skipped-blank (c .before .before .before .before .before .args .li
 
 pub is-skipped-spec : {M : Type 1} → statement M
 is-skipped-spec =
-    tie.close (tie.spec slice-aggregate-begins begins-requires returns run-end-requires returns-2)
+    tie.close (tie.spec (λ c. search needs) begins-requires returns run-end-requires returns-2)

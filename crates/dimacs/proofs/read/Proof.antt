@@ -19,12 +19,6 @@ returns c = let s = c .before .before .before .before .before in answers-read (s
 find-problem-requires : tie.Need-find-problem-requires
 find-problem-requires c κs = search needs
 
-enum-known-found : tie.Need-enum-known-found
-enum-known-found c = search needs
-
-enum-told : tie.Need-enum-told
-enum-told c = search needs
-
 refused-requires-2 : tie.Need-refused-requires-2
 refused-requires-2 c κs = search needs
 
@@ -47,12 +41,6 @@ part-read-problem-end c = placed (c .before) .within
 read-problem-requires : tie.Need-read-problem-requires
 read-problem-requires c κs = search needs
 
-enum-known-sizing : tie.Need-enum-known-sizing
-enum-known-sizing c = search needs
-
-enum-told-2 : tie.Need-enum-told-2
-enum-told-2 c = search needs
-
 refused-requires-3 : tie.Need-refused-requires-3
 refused-requires-3 c κs = search needs
 
@@ -68,12 +56,6 @@ read-sized-requires c κs =
     let w = placed (c .before .before .before .before .before .before .before .before) .within in
     (c .before .before .before .before .before .before .before .before .before .before .before .if1 .left, omega arith)
 
-same-length : tie.Need-same-length
-same-length c = search needs
-
-same-length-2 : tie.Need-same-length-2
-same-length-2 c = search needs
-
 returns-4 : tie.Need-returns-4
 returns-4 c =
     let s = c .before .before .before .before .before .before .before .before .before .before .before .before .before .before .before .before .before .before .before .before in
@@ -88,19 +70,19 @@ read-spec =
     refused-requires
     returns
     find-problem-requires
-    enum-known-found
-    enum-told
+    (λ c. search needs)
+    (λ c. search needs)
     refused-requires-2
     returns-2
     sub-read-problem
     part-read-problem-start
     part-read-problem-end
     read-problem-requires
-    enum-known-sizing
-    enum-told-2
+    (λ c. search needs)
+    (λ c. search needs)
     refused-requires-3
     returns-3
     read-sized-requires
-    same-length
-    same-length-2
+    (λ c. search needs)
+    (λ c. search needs)
     returns-4)

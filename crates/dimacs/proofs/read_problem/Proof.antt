@@ -11,26 +11,14 @@ use Rattle.dimacs_format.specs.Text.{begins, problemWord, formatWord}
 use Rattle.dimacs.proofs.read_problem.Statement.{statement}
 use Rattle.dimacs.proofs.read_problem.Tie as tie
 
-slice-aggregate-begins : tie.Need-slice-aggregate-begins
-slice-aggregate-begins c = search needs
-
 begins-requires : tie.Need-begins-requires
 begins-requires c κs = search needs
 
 returns : tie.Need-returns
 returns c = problem-other (c .before .before .before .before .args .line .now) (sym (c .before .begins .ensures) ∙ not-true _ (c .if1 .taken))
 
-slice-aggregate-expect-word : tie.Need-slice-aggregate-expect-word
-slice-aggregate-expect-word c = search needs
-
 expect-word-requires : tie.Need-expect-word-requires
 expect-word-requires c κs = search needs
-
-enum-known-one : tie.Need-enum-known-one
-enum-known-one c = search needs
-
-enum-told : tie.Need-enum-told
-enum-told c = search needs
 
 -- the line begins with its byte
 begun : (c : tie.Else1) → begins problemWord (c .before .before .before .before .args .line .now) ≡ true
@@ -39,21 +27,12 @@ begun c = sym (c .before .begins .ensures) ∙ not-false _ (c .if1 .left)
 returns-2 : tie.Need-returns-2
 returns-2 c = problem-first (c .before .before .before .before .before .before .before .before .args .line .now) (begun (c .before .before .before .before)) (subst (WordMatched (c .before .before .before .before .before .before .before .before .args .line .now) 0 problemWord) (c .enum-told .given .1) (c .before .before .expect-word .ensures))
 
-slice-aggregate-expect-word-2 : tie.Need-slice-aggregate-expect-word-2
-slice-aggregate-expect-word-2 c = search needs
-
 -- the first word
 one-word : (c : tie.After-one) → WordMatched (c .before .before .before .before .before .before .before .before .args .line .now) 0 problemWord (Behind (c .one .given .0 .0))
 one-word c = subst (WordMatched (c .before .before .before .before .before .before .before .before .args .line .now) 0 problemWord) (c .one .given .1) (c .before .before .expect-word .ensures)
 
 expect-word-requires-2 : tie.Need-expect-word-requires-2
 expect-word-requires-2 c κs = (one-word (c .before .before) .0, search needs)
-
-enum-known-two : tie.Need-enum-known-two
-enum-known-two c = search needs
-
-enum-told-2 : tie.Need-enum-told-2
-enum-told-2 c = search needs
 
 returns-3 : tie.Need-returns-3
 returns-3 c = problem-second (c .before .before .before .before .before .before .before .before .before .before .before .before .before .args .line .now) (begun (c .before .before .before .before .before .before .before .before .before)) _ (one-word (c .before .before .before .before .before)) (subst (WordMatched (c .before .before .before .before .before .before .before .before .before .before .before .before .before .args .line .now) _ formatWord) (c .enum-told2 .given .1) (c .before .before .expect-word2 .ensures))
@@ -65,12 +44,6 @@ two-word c = subst (WordMatched (c .before .before .before .before .before .befo
 expect-number-requires : tie.Need-expect-number-requires
 expect-number-requires c κs = two-word (c .before) .0
 
-enum-known-variables : tie.Need-enum-known-variables
-enum-known-variables c = search needs
-
-enum-told-3 : tie.Need-enum-told-3
-enum-told-3 c = search needs
-
 returns-4 : tie.Need-returns-4
 returns-4 c = problem-third (c .before .before .before .before .before .before .before .before .before .before .before .before .before .before .before .before .before .args .line .now) (begun (c .before .before .before .before .before .before .before .before .before .before .before .before .before)) _ (one-word (c .before .before .before .before .before .before .before .before .before)) _ (two-word (c .before .before .before .before)) (subst (NumberMatched (c .before .before .before .before .before .before .before .before .before .before .before .before .before .before .before .before .before .args .line .now) _) (c .enum-told3 .given .1) (c .before .before .expect-number .ensures))
 
@@ -80,12 +53,6 @@ three-word c = subst (NumberMatched (c .before .before .before .before .before .
 
 expect-number-requires-2 : tie.Need-expect-number-requires-2
 expect-number-requires-2 c κs = three-word (c .before) .0
-
-enum-known-total : tie.Need-enum-known-total
-enum-known-total c = search needs
-
-enum-told-4 : tie.Need-enum-told-4
-enum-told-4 c = search needs
 
 returns-5 : tie.Need-returns-5
 returns-5 c = problem-fourth (c .before .before .before .before .before .before .before .before .before .before .before .before .before .before .before .before .before .before .before .before .before .args .line .now) (begun (c .before .before .before .before .before .before .before .before .before .before .before .before .before .before .before .before .before)) _ (one-word (c .before .before .before .before .before .before .before .before .before .before .before .before .before)) _ (two-word (c .before .before .before .before .before .before .before .before)) _ _ (three-word (c .before .before .before .before)) (subst (NumberMatched (c .before .before .before .before .before .before .before .before .before .before .before .before .before .before .before .before .before .before .before .before .before .args .line .now) _) (c .enum-told4 .given .1) (c .before .before .expect-number2 .ensures))
@@ -107,26 +74,26 @@ pub read-problem-spec : {M : Type 1} → statement M
 read-problem-spec =
     tie.close
     (tie.spec
-    slice-aggregate-begins
+    (λ c. search needs)
     begins-requires
     returns
-    slice-aggregate-expect-word
+    (λ c. search needs)
     expect-word-requires
-    enum-known-one
-    enum-told
+    (λ c. search needs)
+    (λ c. search needs)
     returns-2
-    slice-aggregate-expect-word-2
+    (λ c. search needs)
     expect-word-requires-2
-    enum-known-two
-    enum-told-2
+    (λ c. search needs)
+    (λ c. search needs)
     returns-3
     expect-number-requires
-    enum-known-variables
-    enum-told-3
+    (λ c. search needs)
+    (λ c. search needs)
     returns-4
     expect-number-requires-2
-    enum-known-total
-    enum-told-4
+    (λ c. search needs)
+    (λ c. search needs)
     returns-5
     run-end-requires
     returns-6

@@ -31,9 +31,6 @@ point-count-requires c κs = search needs
 refused-requires-4 : tie.Need-refused-requires-4
 refused-requires-4 c κs = search needs
 
-same-length : tie.Need-same-length
-same-length c = search needs
-
 returns-4 : tie.Need-returns-4
 returns-4 c = answers-refused _ _ _ _ _ _ (room-first _ _ _ _ _ _ (c .before .before .before .before .before .before .if1 .left) (c .before .before .before .before .before .if2 .left) (c .before .before .before .before .if3 .left) (lt-of-le-of-lt (le-of-eq (sym (c .before .before .point-count .ensures))) (c .before .if4 .taken))) (c .refused4 .ensures)
 
@@ -43,23 +40,11 @@ point-count-requires-2 c κs = search needs
 refused-requires-5 : tie.Need-refused-requires-5
 refused-requires-5 c κs = search needs
 
-same-length-2 : tie.Need-same-length-2
-same-length-2 c = search needs
-
-same-length-3 : tie.Need-same-length-3
-same-length-3 c = search needs
-
 returns-5 : tie.Need-returns-5
 returns-5 c = answers-refused _ _ _ _ _ _ (room-second _ _ _ _ _ _ (c .before .before .before .before .before .before .before .before .before .if1 .left) (c .before .before .before .before .before .before .before .before .if2 .left) (c .before .before .before .before .before .before .before .if3 .left) (le-trans (c .before .before .before .before .if4 .left) (le-of-eq (c .before .before .before .before .before .point-count .ensures))) (lt-of-le-of-lt (le-of-eq (sym (c .before .before .point-count2 .ensures))) (c .before .if5 .taken))) (c .refused5 .ensures)
 
 read-clauses-requires : tie.Need-read-clauses-requires
 read-clauses-requires c κs = search needs
-
-same-length-4 : tie.Need-same-length-4
-same-length-4 c = search needs
-
-same-length-5 : tie.Need-same-length-5
-same-length-5 c = search needs
 
 returns-6 : tie.Need-returns-6
 returns-6 c =
@@ -78,14 +63,14 @@ read-sized-spec =
     returns-3
     point-count-requires
     refused-requires-4
-    same-length
+    (λ c. search needs)
     returns-4
     point-count-requires-2
     refused-requires-5
-    same-length-2
-    same-length-3
+    (λ c. search needs)
+    (λ c. search needs)
     returns-5
     read-clauses-requires
-    same-length-4
-    same-length-5
+    (λ c. search needs)
+    (λ c. search needs)
     returns-6)

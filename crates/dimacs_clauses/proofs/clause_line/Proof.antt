@@ -22,9 +22,6 @@ loop-holds c = along-begins _ _ _ _ _ _ (c .before .before .before .pre .0) (c .
 clause-word-requires : tie.Need-clause-word-requires Inv-loop μ-loop
 clause-word-requires c κs = let a = c .before .before .loop .inv in (a .ready, a .inside, a .within)
 
-enum-told : tie.Need-enum-told Inv-loop μ-loop
-enum-told c = search needs
-
 same-length : tie.Need-same-length Inv-loop μ-loop
 same-length c = c .before .before .before .before .before .before .clause-word .kept .1 .1 .1 .1 .1 .1 .0 ∙ c .before .before .before .before .before .before .before .before .before .loop .inv .size-positive
 
@@ -34,9 +31,6 @@ same-length-2 c = c .before .before .before .before .before .before .clause-word
 returns : tie.Need-returns Inv-loop μ-loop
 returns c = along-ends _ _ _ _ _ _ _ _ _ _ (c .before .before .before .before .before .before .before .before .before .loop .inv) _ _ (c .before .before .before .before .before .before .clause-word .result) (c .before .before .before .before .before .before .clause-word .ensures) (c .enum-told .given .1)
 
-enum-known-step : tie.Need-enum-known-step Inv-loop μ-loop
-enum-known-step c = search needs
-
 same-length-3 : tie.Need-same-length-3 Inv-loop μ-loop
 same-length-3 c = c .before .before .before .before .before .before .before .clause-word .kept .1 .1 .1 .1 .1 .1 .0 ∙ c .before .before .before .before .before .before .before .before .before .before .loop .inv .size-positive
 
@@ -45,9 +39,6 @@ same-length-4 c = c .before .before .before .before .before .before .before .cla
 
 returns-2 : tie.Need-returns-2 Inv-loop μ-loop
 returns-2 c = along-stops _ _ _ _ _ _ _ _ _ _ (c .before .before .before .before .before .before .before .before .before .before .loop .inv) _ _ (c .before .before .before .before .before .before .before .clause-word .result) (c .before .before .before .before .before .before .before .clause-word .ensures) _ _ (c .before .step .given .1)
-
-enum-known-step-2 : tie.Need-enum-known-step-2 Inv-loop μ-loop
-enum-known-step-2 c = search needs
 
 -- the turn leads on, to a later place
 further : (c : tie.After-known-told2 Inv-loop μ-loop)
@@ -70,4 +61,4 @@ loop-again c = further c .0
 pub clause-line-spec : {M : Type 1} → statement M
 clause-line-spec =
     tie.close
-    (tie.spec Inv-loop μ-loop loop-holds clause-word-requires enum-told same-length same-length-2 returns enum-known-step same-length-3 same-length-4 returns-2 enum-known-step-2 loop-less loop-again)
+    (tie.spec Inv-loop μ-loop loop-holds clause-word-requires (λ c. search needs) same-length same-length-2 returns (λ c. search needs) same-length-3 same-length-4 returns-2 (λ c. search needs) loop-less loop-again)

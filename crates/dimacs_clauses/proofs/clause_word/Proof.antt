@@ -27,12 +27,6 @@ returns-2 c =
     let s = c .before .before .before .before .before .before .before .before in
     line-over _ (s .args .start) (s .args .line .now) _ _ _ _ (s .args .begun) (c .before .before .before .before .run-end .ensures) (s .pre .0) (c .before .before .read-word .result) (c .before .before .read-word .ensures) (c .if2 .taken)
 
-enum-known-word : tie.Need-enum-known-word
-enum-known-word c = search needs
-
-enum-told : tie.Need-enum-told
-enum-told c = search needs
-
 returns-3 : tie.Need-returns-3
 returns-3 c =
     let s = c .before .before .before .before .before .before .before .before .before .before in
@@ -41,30 +35,12 @@ returns-3 c =
 take-number-requires : tie.Need-take-number-requires
 take-number-requires c κs = search needs
 
-enum-known-taken : tie.Need-enum-known-taken
-enum-known-taken c = search needs
-
-enum-known-taken-2 : tie.Need-enum-known-taken-2
-enum-known-taken-2 c = search needs
-
-same-length : tie.Need-same-length
-same-length c = search needs
-
-same-length-2 : tie.Need-same-length-2
-same-length-2 c = search needs
-
 returns-4 : tie.Need-returns-4
 returns-4 c =
     let s = c .before .before .before .before .before .before .before .before .before .before .before .before .before .before .before .before .before .before .before .before .before in
     line-goes-on _ (s .args .start) (s .args .line .now) _ _ _ _ (s .args .begun) (c .before .before .before .before .before .before .before .before .before .before .before .before .before .before .before .before .before .run-end .ensures) (s .pre .0) _ (c .before .before .before .before .before .before .before .before .before .before .before .before .before .before .before .read-word .ensures)
     _ _ _ (c .before .before .before .before .before .before .before .before .before .before .before .word .given .1) (c .before .before .before .before .before .before .before .before .before .before .before .before .before .if2 .left) _ _ _ _ (c .before .before .before .before .before .before .before .take-number .ensures) (c .before .taken .given .1)
     (c .before .before .before .before .before .before .before .take-number .kept .1 .1 .1 .1 .1 .0) (c .before .before .before .before .before .before .before .take-number .kept .1 .1 .1 .1 .1 .1 .0)
-
-same-length-3 : tie.Need-same-length-3
-same-length-3 c = search needs
-
-same-length-4 : tie.Need-same-length-4
-same-length-4 c = search needs
 
 returns-5 : tie.Need-returns-5
 returns-5 c =
@@ -75,4 +51,4 @@ returns-5 c =
 pub clause-word-spec : {M : Type 1} → statement M
 clause-word-spec =
     tie.close
-    (tie.spec run-end-requires returns add-place read-word-requires returns-2 enum-known-word enum-told returns-3 take-number-requires enum-known-taken enum-known-taken-2 same-length same-length-2 returns-4 same-length-3 same-length-4 returns-5)
+    (tie.spec run-end-requires returns add-place read-word-requires returns-2 (λ c. search needs) (λ c. search needs) returns-3 take-number-requires (λ c. search needs) (λ c. search needs) (λ c. search needs) (λ c. search needs) returns-4 (λ c. search needs) (λ c. search needs) returns-5)

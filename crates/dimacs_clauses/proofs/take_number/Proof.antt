@@ -5,23 +5,11 @@ use Rattle.dimacs_clauses.specs.Laws.ClauseScanLaws.{number-closes, numb
 use Rattle.dimacs_clauses.proofs.take_number.Statement.{statement}
 use Rattle.dimacs_clauses.proofs.take_number.Tie as tie
 
-cast-at : tie.Need-cast-at
-cast-at c = search needs
-
 put-point-requires : tie.Need-put-point-requires
 put-point-requires c κs = search needs
 
 put-point-requires-2 : tie.Need-put-point-requires-2
 put-point-requires-2 c κs = search needs
-
-add-closed : tie.Need-add-closed
-add-closed c = search needs
-
-same-length : tie.Need-same-length
-same-length c = search needs
-
-same-length-2 : tie.Need-same-length-2
-same-length-2 c = search needs
 
 returns : tie.Need-returns
 returns c =
@@ -38,9 +26,6 @@ returns-2 : tie.Need-returns-2
 returns-2 c =
     let a = c .before .before .before .before .args in
     record { step = number-above (a .n) (a .place) (a .positive .now) (a .negative .now) (a .begun) (a .negated) (a .value) (c .before .if1 .left) (c .if2 .taken); few = search needs }
-
-sub-v : tie.Need-sub-v
-sub-v c = search needs
 
 with-variable-requires : tie.Need-with-variable-requires
 with-variable-requires c κs = search needs
@@ -69,4 +54,4 @@ returns-4 c =
 pub take-number-spec : {M : Type 1} → statement M
 take-number-spec =
     tie.close
-    (tie.spec cast-at put-point-requires put-point-requires-2 add-closed same-length same-length-2 returns returns-2 sub-v with-variable-requires returns-3 with-variable-requires-2 returns-4)
+    (tie.spec (λ c. search needs) put-point-requires put-point-requires-2 (λ c. search needs) (λ c. search needs) (λ c. search needs) returns returns-2 (λ c. search needs) with-variable-requires returns-3 with-variable-requires-2 returns-4)

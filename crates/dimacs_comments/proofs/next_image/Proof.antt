@@ -14,12 +14,6 @@ returns c = images-end (c .before .before .before .args .n) (c .before .before .
 read-word-requires : tie.Need-read-word-requires
 read-word-requires c κs = (c .if1 .left, blanks-stop (c .before .before .before .args .bytes .now) (c .before .run-end .ensures) (c .if1 .left))
 
-enum-known-word : tie.Need-enum-known-word
-enum-known-word c = search needs
-
-enum-told : tie.Need-enum-told
-enum-told c = search needs
-
 returns-2 : tie.Need-returns-2
 returns-2 c = image-bad (c .before .before .before .before .before .before .args .n) (c .before .before .before .before .before .before .args .bytes .now) _ _ (c .before .before .before .before .run-end .ensures) (c .before .before .read-word .result) (c .before .before .read-word .ensures) (c .enum-told .given .1)
 
@@ -37,4 +31,4 @@ returns-5 c =
 
 pub next-image-spec : {M : Type 1} → statement M
 next-image-spec =
-    tie.close (tie.spec run-end-requires returns read-word-requires enum-known-word enum-told returns-2 returns-3 returns-4 returns-5)
+    tie.close (tie.spec run-end-requires returns read-word-requires (λ c. search needs) (λ c. search needs) returns-2 returns-3 returns-4 returns-5)

@@ -19,32 +19,14 @@ room c = table-room (c .before .before .before .args .n) (c .before .before .bef
 mul-at : tie.Need-mul-at
 mul-at c = omega (arith, room c)
 
-sub-read-permutation : tie.Need-sub-read-permutation
-sub-read-permutation c = search needs
-
-part-read-permutation-start : tie.Need-part-read-permutation-start
-part-read-permutation-start c = search needs
-
-part-read-permutation-end : tie.Need-part-read-permutation-end
-part-read-permutation-end c = search needs
-
 cast-read-permutation : tie.Need-cast-read-permutation
 cast-read-permutation c = omega (arith, room (c .before .before))
 
 read-permutation-requires : tie.Need-read-permutation-requires
 read-permutation-requires c κs = (c .before .before .before .before .before .pre .0, le-trans (room (c .before .before)) (le-of-eq (sym (c .before .before .before .before .before .pre .2 .places))))
 
-same-length : tie.Need-same-length
-same-length c = search needs
-
 returns-2 : tie.Need-returns-2
 returns-2 c = permutation-bad _ _ (c .before .before .before .before .before .before .before .before .before .args .line .now) (c .before .before .before .before .before .before .before .before .before .args .state .permutations) (c .before .before .before .before .before .before .before .before .before .args .table .now) _ (c .before .before .before .read-permutation .result) (c .before .before .before .read-permutation .ensures) (c .before .before .before .before .before .before .if1 .left) (not-true _ (c .if2 .taken))
-
-add-permutations : tie.Need-add-permutations
-add-permutations c = search needs
-
-same-length-2 : tie.Need-same-length-2
-same-length-2 c = search needs
 
 returns-3 : tie.Need-returns-3
 returns-3 c =
@@ -59,13 +41,13 @@ permutation-line-spec =
     (tie.spec
     returns
     mul-at
-    sub-read-permutation
-    part-read-permutation-start
-    part-read-permutation-end
+    (λ c. search needs)
+    (λ c. search needs)
+    (λ c. search needs)
     cast-read-permutation
     read-permutation-requires
-    same-length
+    (λ c. search needs)
     returns-2
-    add-permutations
-    same-length-2
+    (λ c. search needs)
+    (λ c. search needs)
     returns-3)

@@ -12,32 +12,14 @@ use Rattle.dimacs_comments.proofs.read_permutation.Tie as tie
 returns : tie.Need-returns
 returns c = permutation-empty _ (c .before .before .before .args .bytes .now) (c .before .before .before .args .at) _ (c .if1 .taken)
 
-shared-slice-read-first : tie.Need-shared-slice-read-first
-shared-slice-read-first c = search needs
-
 is-blank-requires : tie.Need-is-blank-requires
 is-blank-requires c κs = search needs
 
 returns-2 : tie.Need-returns-2
 returns-2 c = permutation-blank _ (c .before .before .before .before .before .before .args .bytes .now) (c .before .before .before .before .before .before .args .at) _ (sym (c .before .is-blank .ensures) ∙ c .if2 .taken) (c .before .before .before .if1 .left)
 
-add-end : tie.Need-add-end
-add-end c = search needs
-
-sub-store-numbers : tie.Need-sub-store-numbers
-sub-store-numbers c = search needs
-
-part-store-numbers-start : tie.Need-part-store-numbers-start
-part-store-numbers-start c = search needs
-
-part-store-numbers-end : tie.Need-part-store-numbers-end
-part-store-numbers-end c = search needs
-
 store-numbers-requires : tie.Need-store-numbers-requires
 store-numbers-requires c κs = search needs
-
-same-length : tie.Need-same-length
-same-length c = search needs
 
 -- the part keeps its n bytes
 sized : (c : tie.After-store-numbers) → length (c .store-numbers .last .1 .1 .0) ≡ c .before .before .before .before .before .before .before .before .args .n
@@ -49,20 +31,8 @@ returns-3 c =
     permutation-unstored _ (s .args .bytes .now) (s .args .at) (s .args .table .now) _ _ (add-sub-cancel-left (s .args .at) (s .args .n)) (s .pre .1) (sized (c .before .before .before))
     (sym (c .before .before .before .before .before .before .is-blank .ensures) ∙ c .before .before .before .before .before .if2 .left) (c .before .before .before .before .before .before .before .before .if1 .left) (c .before .before .before .store-numbers .result) (c .before .before .before .store-numbers .ensures) (not-true _ (c .if3 .taken))
 
-sub-is-permutation : tie.Need-sub-is-permutation
-sub-is-permutation c = search needs
-
-part-is-permutation-start : tie.Need-part-is-permutation-start
-part-is-permutation-start c = search needs
-
-part-is-permutation-end : tie.Need-part-is-permutation-end
-part-is-permutation-end c = search needs
-
 is-permutation-requires : tie.Need-is-permutation-requires
 is-permutation-requires c κs = search needs
-
-same-length-2 : tie.Need-same-length-2
-same-length-2 c = search needs
 
 returns-4 : tie.Need-returns-4
 returns-4 c =
@@ -75,19 +45,19 @@ read-permutation-spec =
     tie.close
     (tie.spec
     returns
-    shared-slice-read-first
+    (λ c. search needs)
     is-blank-requires
     returns-2
-    add-end
-    sub-store-numbers
-    part-store-numbers-start
-    part-store-numbers-end
+    (λ c. search needs)
+    (λ c. search needs)
+    (λ c. search needs)
+    (λ c. search needs)
     store-numbers-requires
-    same-length
+    (λ c. search needs)
     returns-3
-    sub-is-permutation
-    part-is-permutation-start
-    part-is-permutation-end
+    (λ c. search needs)
+    (λ c. search needs)
+    (λ c. search needs)
     is-permutation-requires
-    same-length-2
+    (λ c. search needs)
     returns-4)

@@ -21,26 +21,17 @@ loop-holds c = collect-begins _ _ _ (c .before .before .pre .0) (c .before .befo
 next-image-requires : tie.Need-next-image-requires Inv-loop μ-loop
 next-image-requires c κs = c .loop .inv .within
 
-enum-told : tie.Need-enum-told Inv-loop μ-loop
-enum-told c = search needs
-
 same-length : tie.Need-same-length Inv-loop μ-loop
 same-length c = c .before .before .before .loop .inv .kept
 
 returns : tie.Need-returns Inv-loop μ-loop
 returns c = collect-ends _ _ _ _ _ _ (c .before .before .before .loop .inv) (c .before .before .next-image .result) (c .before .before .next-image .ensures) (c .enum-told .given .1) _ refl
 
-enum-told-2 : tie.Need-enum-told-2 Inv-loop μ-loop
-enum-told-2 c = search needs
-
 same-length-2 : tie.Need-same-length-2 Inv-loop μ-loop
 same-length-2 c = c .before .before .before .loop .inv .kept
 
 returns-2 : tie.Need-returns-2 Inv-loop μ-loop
 returns-2 c = collect-stops _ _ _ _ _ _ (c .before .before .before .loop .inv) (c .before .before .next-image .result) (c .before .before .next-image .ensures) (c .enum-told2 .given .1)
-
-enum-known-image : tie.Need-enum-known-image Inv-loop μ-loop
-enum-known-image c = search needs
 
 same-length-3 : tie.Need-same-length-3 Inv-loop μ-loop
 same-length-3 c = c .before .before .before .before .before .loop .inv .kept
@@ -52,12 +43,6 @@ returns-3 c =
 cast-byte : tie.Need-cast-byte Inv-loop μ-loop
 cast-byte c =
     omega (arith, image-small _ _ _ _ _ _ (c .before .before .before .before .before .loop .inv) (c .before .before .before .before .next-image .result) (c .before .before .before .before .next-image .ensures) (c .before .before .image .given .0 .0) _ (c .before .before .image .given .1))
-
-slice-write-part : tie.Need-slice-write-part Inv-loop μ-loop
-slice-write-part c = search needs
-
-add-j : tie.Need-add-j Inv-loop μ-loop
-add-j c = search needs
 
 loop-less : tie.Need-loop-less Inv-loop μ-loop
 loop-less c =
@@ -71,4 +56,4 @@ loop-again c =
 pub store-numbers-spec : {M : Type 1} → statement M
 store-numbers-spec =
     tie.close
-    (tie.spec Inv-loop μ-loop loop-holds next-image-requires enum-told same-length returns enum-told-2 same-length-2 returns-2 enum-known-image same-length-3 returns-3 cast-byte slice-write-part add-j loop-less loop-again)
+    (tie.spec Inv-loop μ-loop loop-holds next-image-requires (λ c. search needs) same-length returns (λ c. search needs) same-length-2 returns-2 (λ c. search needs) same-length-3 returns-3 cast-byte (λ c. search needs) (λ c. search needs) loop-less loop-again)

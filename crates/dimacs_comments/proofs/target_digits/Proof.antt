@@ -18,9 +18,6 @@ abbrev μ-loop : tie.MeasureT-loop
 loop-holds : tie.Need-loop-holds Inv-loop μ-loop
 loop-holds c = (c .before .pre .0, c .before .pre .1, search needs, binary-begins _ _)
 
-cast-at : tie.Need-cast-at Inv-loop μ-loop
-cast-at c = search needs
-
 shared-slice-read-b : tie.Need-shared-slice-read-b Inv-loop μ-loop
 shared-slice-read-b c = omega arith
 
@@ -34,17 +31,8 @@ returns-2 c =
     let l = c .before .before .before .before .loop in
     sym (l .inv .3 ∙ binary-stops _ _ (l .inv .1) (l .x) (l .i) (c .before .before .before .loop-test .taken) (binary-high _ (c .if2 .taken)))
 
-cast-digit : tie.Need-cast-digit Inv-loop μ-loop
-cast-digit c = search needs
-
 carry-requires : tie.Need-carry-requires Inv-loop μ-loop
 carry-requires c κs = omega (arith, c .before .before .before .loop-test .taken, c .before .before .before .before .loop .inv .0)
-
-add-i : tie.Need-add-i Inv-loop μ-loop
-add-i c = search needs
-
-loop-less : tie.Need-loop-less Inv-loop μ-loop
-loop-less c = search needs
 
 loop-again : tie.Need-loop-again Inv-loop μ-loop
 loop-again c =
@@ -66,4 +54,4 @@ returns-3 c =
 pub target-digits-spec : {M : Type 1} → statement M
 target-digits-spec =
     tie.close
-    (tie.spec Inv-loop μ-loop loop-holds cast-at shared-slice-read-b returns returns-2 cast-digit carry-requires add-i loop-less loop-again returns-3)
+    (tie.spec Inv-loop μ-loop loop-holds (λ c. search needs) shared-slice-read-b returns returns-2 (λ c. search needs) carry-requires (λ c. search needs) (λ c. search needs) loop-again returns-3)

@@ -9,23 +9,8 @@ use Rattle.dimacs_comments.proofs.target_line.Tie as tie
 returns : tie.Need-returns
 returns c = target-second _ _ (c .before .before .args .line .now) (c .before .before .args .state) (c .if1 .taken)
 
-sub-read-target : tie.Need-sub-read-target
-sub-read-target c = search needs
-
-part-read-target-start : tie.Need-part-read-target-start
-part-read-target-start c = search needs
-
-part-read-target-end : tie.Need-part-read-target-end
-part-read-target-end c = search needs
-
 read-target-requires : tie.Need-read-target-requires
 read-target-requires c κs = search needs
-
-enum-known-wanted : tie.Need-enum-known-wanted
-enum-known-wanted c = search needs
-
-enum-told : tie.Need-enum-told
-enum-told c = search needs
 
 returns-2 : tie.Need-returns-2
 returns-2 c = target-bad _ _ (c .before .before .before .before .before .before .args .line .now) (c .before .before .before .before .before .before .args .state) (c .before .before .before .before .if1 .left) (sym (c .before .before .read-target .ensures) ∙ ap wantedOf (c .enum-told .given .1))
@@ -38,11 +23,11 @@ target-line-spec =
     tie.close
     (tie.spec
     returns
-    sub-read-target
-    part-read-target-start
-    part-read-target-end
+    (λ c. search needs)
+    (λ c. search needs)
+    (λ c. search needs)
     read-target-requires
-    enum-known-wanted
-    enum-told
+    (λ c. search needs)
+    (λ c. search needs)
     returns-2
     returns-3)

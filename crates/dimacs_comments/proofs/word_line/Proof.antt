@@ -8,30 +8,12 @@ use Rattle.dimacs_comments.proofs.word_line.Tie as tie
 clause-line-requires : tie.Need-clause-line-requires
 clause-line-requires c κs = search needs
 
-enum-known-taken : tie.Need-enum-known-taken
-enum-known-taken c = search needs
-
-enum-known-taken-2 : tie.Need-enum-known-taken-2
-enum-known-taken-2 c = search needs
-
-same-length : tie.Need-same-length
-same-length c = search needs
-
-same-length-2 : tie.Need-same-length-2
-same-length-2 c = search needs
-
 returns : tie.Need-returns
 returns c =
     let s = c .before .before .before .before .before .before .before .before .before .before .before .before .before .before in
     let w = words-taken _ (s .args .start) (s .args .line .now) (s .args .state) _ _ (c .before .before .before .before .before .before .before .clause-line .result) _ _ (c .before .before .before .before .before .before .before .clause-line .ensures) _ (c .before .taken .given .1) (s .pre .0)
     (c .before .before .before .before .before .before .before .clause-line .kept .1 .1 .1 .1 .1 .0) (c .before .before .before .before .before .before .before .clause-line .kept .1 .1 .1 .1 .1 .1 .0) in
     (refl, refl, w .0, w .1)
-
-same-length-3 : tie.Need-same-length-3
-same-length-3 c = search needs
-
-same-length-4 : tie.Need-same-length-4
-same-length-4 c = search needs
 
 returns-2 : tie.Need-returns-2
 returns-2 c =
@@ -43,11 +25,11 @@ word-line-spec =
     tie.close
     (tie.spec
     clause-line-requires
-    enum-known-taken
-    enum-known-taken-2
-    same-length
-    same-length-2
+    (λ c. search needs)
+    (λ c. search needs)
+    (λ c. search needs)
+    (λ c. search needs)
     returns
-    same-length-3
-    same-length-4
+    (λ c. search needs)
+    (λ c. search needs)
     returns-2)

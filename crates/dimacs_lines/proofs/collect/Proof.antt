@@ -19,18 +19,6 @@ read-lines-requires c κs =
 finish-requires : tie.Need-finish-requires
 finish-requires c κs = search needs
 
-same-length : tie.Need-same-length
-same-length c = search needs
-
-same-length-2 : tie.Need-same-length-2
-same-length-2 c = search needs
-
-same-length-3 : tie.Need-same-length-3
-same-length-3 c = search needs
-
-same-length-4 : tie.Need-same-length-4
-same-length-4 c = search needs
-
 returns : tie.Need-returns
 returns c =
     let s = c .before .before .before .before .before .before .before .before .before .before .before .before .before .before .before .before .before .before .before .before .before .before .before in
@@ -39,4 +27,4 @@ returns c =
 pub collect-spec : {M : Type 1} → statement M
 collect-spec =
     tie.close
-    (tie.spec slice-aggregate-read-lines read-lines-requires finish-requires same-length same-length-2 same-length-3 same-length-4 returns)
+    (tie.spec slice-aggregate-read-lines read-lines-requires finish-requires (λ c. search needs) (λ c. search needs) (λ c. search needs) (λ c. search needs) returns)

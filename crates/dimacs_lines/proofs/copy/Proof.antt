@@ -22,9 +22,6 @@ point-at-requires c κs = search needs
 put-point-requires : tie.Need-put-point-requires Inv-loop μ-loop
 put-point-requires c κs = search needs
 
-add-i : tie.Need-add-i Inv-loop μ-loop
-add-i c = search needs
-
 loop-less : tie.Need-loop-less Inv-loop μ-loop
 loop-less c = omega (arith, c .before .before .before .before .before .loop-test .taken)
 
@@ -46,7 +43,7 @@ copy-spec =
     loop-holds
     point-at-requires
     put-point-requires
-    add-i
+    (λ c. search needs)
     loop-less
     loop-again
     same-length

@@ -6,25 +6,13 @@ use Rattle.dimacs_lines.specs.Laws.LineScans.{Stands}
 use Rattle.dimacs_lines.proofs.finish.Statement.{statement}
 use Rattle.dimacs_lines.proofs.finish.Tie as tie
 
-enum-known-done : tie.Need-enum-known-done
-enum-known-done c = search needs
-
 accept-requires : tie.Need-accept-requires
 accept-requires c κs =
     let s = c .before .before .before .before .before .before .before .before .before in
     (subst (λ d. Stands (record { variables = s .args .n; total = s .args .total }) d (s .args .p .now) (s .args .q .now) (s .args .table)) (c .before .before .before .done .given .1) (s .pre .0), s .pre .1)
 
-enum-known-done-2 : tie.Need-enum-known-done-2
-enum-known-done-2 c = search needs
-
 refused-requires : tie.Need-refused-requires
 refused-requires c κs = search needs
-
-same-length : tie.Need-same-length
-same-length c = search needs
-
-same-length-2 : tie.Need-same-length-2
-same-length-2 c = search needs
 
 returns : tie.Need-returns
 returns c = let s = c .before .before .before .before .before .before .before .before .before .before .before .before .before .before in finish-on _ _ (s .args .size) (s .args .p .now) (s .args .q .now) (s .args .table) (s .args .done) _ _ _ (c .before .before .before .before .before .before .before .before .done .given .1) _ _ _ (c .before .before .before .before .accept .ensures)
@@ -38,11 +26,11 @@ pub finish-spec : {M : Type 1} → statement M
 finish-spec =
     tie.close
     (tie.spec
-    enum-known-done
+    (λ c. search needs)
     accept-requires
-    enum-known-done-2
+    (λ c. search needs)
     refused-requires
-    same-length
-    same-length-2
+    (λ c. search needs)
+    (λ c. search needs)
     returns
     returns-2)

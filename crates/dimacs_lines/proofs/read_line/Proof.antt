@@ -7,29 +7,17 @@ use Rattle.dimacs_format.specs.Text.{isComment, targetHead, isTargetLine, permu
 use Rattle.dimacs_lines.proofs.read_line.Statement.{statement}
 use Rattle.dimacs_lines.proofs.read_line.Tie as tie
 
-slice-aggregate-begins : tie.Need-slice-aggregate-begins
-slice-aggregate-begins c = search needs
-
 begins-requires : tie.Need-begins-requires
 begins-requires c κs = search needs
 
 word-line-requires : tie.Need-word-line-requires
 word-line-requires c κs = (c .before .before .before .before .before .before .before .before .before .pre .0 .ready, c .before .before .before .before .before .before .before .before .before .pre .1)
 
-same-length : tie.Need-same-length
-same-length c = search needs
-
-same-length-2 : tie.Need-same-length-2
-same-length-2 c = search needs
-
 returns : tie.Need-returns
 unfolding isComment isTargetLine isPermutationLine
 returns c =
     let s = c .before .before .before .before .before .before .before .before .before .before .before .before .before .before in
     line-words _ (s .args .start) (s .args .line .now) (s .args .state) _ _ _ (s .pre .0) (c .before .before .before .before .word-line .result) _ _ (sym (c .before .before .before .before .before .before .before .before .begins .ensures) ∙ not-true _ (c .before .before .before .before .before .before .before .if1 .taken)) (c .before .before .before .before .word-line .ensures)
-
-slice-aggregate-begins-2 : tie.Need-slice-aggregate-begins-2
-slice-aggregate-begins-2 c = search needs
 
 begins-requires-2 : tie.Need-begins-requires-2
 begins-requires-2 c κs = search needs
@@ -44,17 +32,11 @@ returns-2 c =
     line-target _ (s .args .start) (s .args .line .now) (s .args .state) _ _ _ (s .pre .0) (c .target-line .result) (sym (c .before .before .before .before .before .begins .ensures) ∙ not-false _ (c .before .before .before .before .if1 .left))
     (sym (c .before .before .begins2 .ensures) ∙ c .before .if2 .taken) (c .target-line .ensures)
 
-slice-aggregate-begins-3 : tie.Need-slice-aggregate-begins-3
-slice-aggregate-begins-3 c = search needs
-
 begins-requires-3 : tie.Need-begins-requires-3
 begins-requires-3 c κs = search needs
 
 permutation-line-requires : tie.Need-permutation-line-requires
 permutation-line-requires c κs = (c .before .before .before .before .before .before .before .before .before .before .before .before .before .before .pre .0 .ready .variables, head-length permutationHead (c .before .before .before .before .before .before .before .before .before .before .before .before .before .before .args .line .now) (sym (c .before .before .begins3 .ensures) ∙ c .before .if3 .taken), c .before .before .before .before .before .before .before .before .before .before .before .before .before .before .pre .0 .images)
-
-same-length-3 : tie.Need-same-length-3
-same-length-3 c = search needs
 
 returns-3 : tie.Need-returns-3
 unfolding isComment isTargetLine isPermutationLine
@@ -74,19 +56,19 @@ pub read-line-spec : {M : Type 1} → statement M
 read-line-spec =
     tie.close
     (tie.spec
-    slice-aggregate-begins
+    (λ c. search needs)
     begins-requires
     word-line-requires
-    same-length
-    same-length-2
+    (λ c. search needs)
+    (λ c. search needs)
     returns
-    slice-aggregate-begins-2
+    (λ c. search needs)
     begins-requires-2
     target-line-requires
     returns-2
-    slice-aggregate-begins-3
+    (λ c. search needs)
     begins-requires-3
     permutation-line-requires
-    same-length-3
+    (λ c. search needs)
     returns-3
     returns-4)

@@ -7,20 +7,11 @@ use Rattle.dimacs_format.specs.Text.{endsLine}
 use Rattle.dimacs_words.proofs.belongs.Statement.{statement}
 use Rattle.dimacs_words.proofs.belongs.Tie as tie
 
-enum-told : tie.Need-enum-told
-enum-told c = search needs
-
 is-blank-requires : tie.Need-is-blank-requires
 is-blank-requires c κs = search needs
 
-enum-told-2 : tie.Need-enum-told-2
-enum-told-2 c = search needs
-
 is-blank-requires-2 : tie.Need-is-blank-requires-2
 is-blank-requires-2 c κs = search needs
-
-enum-told-3 : tie.Need-enum-told-3
-enum-told-3 c = search needs
 
 returns : tie.Need-returns
 unfolding belongs
@@ -38,11 +29,11 @@ pub belongs-spec : {M : Type 1} → statement M
 belongs-spec =
     tie.close
     (tie.spec
-    enum-told
+    (λ c. search needs)
     is-blank-requires
-    enum-told-2
+    (λ c. search needs)
     is-blank-requires-2
-    enum-told-3
+    (λ c. search needs)
     returns
     returns-2
     returns-3)

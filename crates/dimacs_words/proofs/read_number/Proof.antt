@@ -26,9 +26,6 @@ returns-2 c = number-long _ (c .if2 .taken)
 loop-holds : tie.Need-loop-holds Inv-loop μ-loop
 loop-holds c = (c .if2 .left, search needs, number-begins _ (c .before .if1 .left) (c .if2 .left))
 
-shared-slice-read-b : tie.Need-shared-slice-read-b Inv-loop μ-loop
-shared-slice-read-b c = search needs
-
 is-digit-requires : tie.Need-is-digit-requires Inv-loop μ-loop
 is-digit-requires c κs = search needs
 
@@ -57,12 +54,6 @@ cast-low c = omega (arith, digit-within _ (digit c) .1)
 add-v : tie.Need-add-v Inv-loop μ-loop
 add-v c = omega (arith, small c, digit-within _ (digit c) .1)
 
-add-i : tie.Need-add-i Inv-loop μ-loop
-add-i c = search needs
-
-loop-less : tie.Need-loop-less Inv-loop μ-loop
-loop-less c = search needs
-
 loop-again : tie.Need-loop-again Inv-loop μ-loop
 loop-again c =
     let l = c .before .before .before .before .loop in (
@@ -79,4 +70,4 @@ returns-4 c =
 pub read-number-spec : {M : Type 1} → statement M
 read-number-spec =
     tie.close
-    (tie.spec Inv-loop μ-loop returns returns-2 loop-holds shared-slice-read-b is-digit-requires returns-3 mul-shifted sub-d cast-low add-v add-i loop-less loop-again returns-4)
+    (tie.spec Inv-loop μ-loop returns returns-2 loop-holds (λ c. search needs) is-digit-requires returns-3 mul-shifted sub-d cast-low add-v (λ c. search needs) (λ c. search needs) loop-again returns-4)

@@ -12,26 +12,8 @@ use Rattle.dimacs_words.proofs.read_token.Tie as tie
 returns : tie.Need-returns
 returns c = token-empty _ (c .if1 .taken)
 
-shared-slice-read-if2 : tie.Need-shared-slice-read-if2
-shared-slice-read-if2 c = search needs
-
-sub-read-number : tie.Need-sub-read-number
-sub-read-number c = search needs
-
-part-read-number-start : tie.Need-part-read-number-start
-part-read-number-start c = search needs
-
-part-read-number-end : tie.Need-part-read-number-end
-part-read-number-end c = search needs
-
 read-number-requires : tie.Need-read-number-requires
 read-number-requires c κs = search needs
-
-enum-known-behind : tie.Need-enum-known-behind
-enum-known-behind c = search needs
-
-enum-told : tie.Need-enum-told
-enum-told c = search needs
 
 -- behind a minus
 minus : (c : tie.After-read-number)
@@ -56,12 +38,6 @@ returns-4 c =
 read-number-requires-2 : tie.Need-read-number-requires-2
 read-number-requires-2 c κs = search needs
 
-enum-known-whole : tie.Need-enum-known-whole
-enum-known-whole c = search needs
-
-enum-told-2 : tie.Need-enum-told-2
-enum-told-2 c = search needs
-
 -- without one
 plain : (c : tie.After-read-number2) → tokenIn (c .before .before .before .before .before .args .w .now) ≡ unsigned (numberIn (c .before .before .before .before .before .args .w .now))
 plain c = token-plain (c .before .before .before .before .before .args .w .now) (c .before .before .before .if1 .left) (c .before .if2 .left)
@@ -77,4 +53,4 @@ returns-6 c =
 pub read-token-spec : {M : Type 1} → statement M
 read-token-spec =
     tie.close
-    (tie.spec returns shared-slice-read-if2 sub-read-number part-read-number-start part-read-number-end read-number-requires enum-known-behind enum-told returns-2 returns-3 returns-4 read-number-requires-2 enum-known-whole enum-told-2 returns-5 returns-6)
+    (tie.spec returns (λ c. search needs) (λ c. search needs) (λ c. search needs) (λ c. search needs) read-number-requires (λ c. search needs) (λ c. search needs) returns-2 returns-3 returns-4 read-number-requires-2 (λ c. search needs) (λ c. search needs) returns-5 returns-6)

@@ -21,12 +21,6 @@ part-read-token-end c = c .run-end .ensures .within
 read-token-requires : tie.Need-read-token-requires
 read-token-requires c κs = search needs
 
-enum-known-read : tie.Need-enum-known-read
-enum-known-read c = search needs
-
-enum-told : tie.Need-enum-told
-enum-told c = search needs
-
 returns : tie.Need-returns
 returns c =
     let start = c .before .before .before .before .before .before in (
@@ -44,4 +38,4 @@ returns-2 c =
 pub read-word-spec : {M : Type 1} → statement M
 read-word-spec =
     tie.close
-    (tie.spec run-end-requires sub-read-token part-read-token-start part-read-token-end read-token-requires enum-known-read enum-told returns returns-2)
+    (tie.spec run-end-requires sub-read-token part-read-token-start part-read-token-end read-token-requires (λ c. search needs) (λ c. search needs) returns returns-2)

@@ -24,21 +24,12 @@ shared-slice-read-to c = omega arith
 slice-write-to : tie.Need-slice-write-to Inv-loop μ-loop
 slice-write-to c = omega arith
 
-add-i : tie.Need-add-i Inv-loop μ-loop
-add-i c = search needs
-
-loop-less : tie.Need-loop-less Inv-loop μ-loop
-loop-less c = search needs
-
 loop-again : tie.Need-loop-again Inv-loop μ-loop
 loop-again c =
     let l = c .before .before .loop in
     let a = c .before .before .before .args in
     let x = getD (a .from .now) (l .i) 0 in
     (omega arith, length-set (l .to) (l .i) x ∙ l .inv .1, ap (λ xs. set xs (l .i) x) (l .inv .2) ∙ over-take-next (l .i) (a .from .now) (a .to .now) 0 (omega arith) (omega arith))
-
-same-length : tie.Need-same-length Inv-loop μ-loop
-same-length c = search needs
 
 returns : tie.Need-returns Inv-loop μ-loop
 returns c =
@@ -54,8 +45,8 @@ copy-bytes-spec =
     loop-holds
     shared-slice-read-to
     slice-write-to
-    add-i
-    loop-less
+    (λ c. search needs)
+    (λ c. search needs)
     loop-again
-    same-length
+    (λ c. search needs)
     returns)

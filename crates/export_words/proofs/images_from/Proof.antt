@@ -22,9 +22,6 @@ whole bytes i e = by (decLt 1024 (length bytes))
 least-requires : tie.Need-least-requires
 least-requires c κs = search needs
 
-slice-aggregate-copy-bytes : tie.Need-slice-aggregate-copy-bytes
-slice-aggregate-copy-bytes c = search needs
-
 copy-bytes-requires : tie.Need-copy-bytes-requires
 copy-bytes-requires c κs = (omega arith, omega arith)
 
@@ -35,4 +32,4 @@ returns c =
     c .before .copy-bytes .ensures ∙ ap (λ l. over l (replicate 1024 0)) (whole bytes _ (c .before .before .before .least .ensures))
 
 pub images-from-spec : {M : Type 1} → statement M
-images-from-spec = tie.close (tie.spec least-requires slice-aggregate-copy-bytes copy-bytes-requires returns)
+images-from-spec = tie.close (tie.spec least-requires (λ c. search needs) copy-bytes-requires returns)

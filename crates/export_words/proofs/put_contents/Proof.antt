@@ -80,62 +80,35 @@ returns c =
     let s = c .before .before .before .before .before .before .before .before in
     all (s .args .to .now) (s .args .c) (s .pre)
 
-cast-to : tie.Need-cast-to
-cast-to c = search needs
-
-slice-write-to : tie.Need-slice-write-to
-slice-write-to c = search needs
-
-cast-to-2 : tie.Need-cast-to-2
-cast-to-2 c = search needs
-
 slice-write-to-2 : tie.Need-slice-write-to-2
 slice-write-to-2 c =
     let s = c .before .before in
     omega (arith, kept1 (s .args .to .now) (s .args .c), s .pre)
-
-cast-to-3 : tie.Need-cast-to-3
-cast-to-3 c = search needs
 
 slice-write-to-3 : tie.Need-slice-write-to-3
 slice-write-to-3 c =
     let s = c .before .before .before in
     omega (arith, kept2 (s .args .to .now) (s .args .c), s .pre)
 
-cast-to-4 : tie.Need-cast-to-4
-cast-to-4 c = search needs
-
 slice-write-to-4 : tie.Need-slice-write-to-4
 slice-write-to-4 c =
     let s = c .before .before .before .before in
     omega (arith, kept3 (s .args .to .now) (s .args .c), s .pre)
-
-cast-to-5 : tie.Need-cast-to-5
-cast-to-5 c = search needs
 
 slice-write-to-5 : tie.Need-slice-write-to-5
 slice-write-to-5 c =
     let s = c .before .before .before .before .before in
     omega (arith, kept4 (s .args .to .now) (s .args .c), s .pre)
 
-cast-to-6 : tie.Need-cast-to-6
-cast-to-6 c = search needs
-
 slice-write-to-6 : tie.Need-slice-write-to-6
 slice-write-to-6 c =
     let s = c .before .before .before .before .before .before in
     omega (arith, kept5 (s .args .to .now) (s .args .c), s .pre)
 
-cast-to-7 : tie.Need-cast-to-7
-cast-to-7 c = search needs
-
 slice-write-to-7 : tie.Need-slice-write-to-7
 slice-write-to-7 c =
     let s = c .before .before .before .before .before .before .before in
     omega (arith, kept6 (s .args .to .now) (s .args .c), s .pre)
-
-cast-to-8 : tie.Need-cast-to-8
-cast-to-8 c = search needs
 
 slice-write-to-8 : tie.Need-slice-write-to-8
 slice-write-to-8 c =
@@ -151,21 +124,21 @@ pub put-contents-spec : {M : Type 1} → statement M
 put-contents-spec =
     tie.close
     (tie.spec
-    cast-to
-    slice-write-to
-    cast-to-2
+    (λ c. search needs)
+    (λ c. search needs)
+    (λ c. search needs)
     slice-write-to-2
-    cast-to-3
+    (λ c. search needs)
     slice-write-to-3
-    cast-to-4
+    (λ c. search needs)
     slice-write-to-4
-    cast-to-5
+    (λ c. search needs)
     slice-write-to-5
-    cast-to-6
+    (λ c. search needs)
     slice-write-to-6
-    cast-to-7
+    (λ c. search needs)
     slice-write-to-7
-    cast-to-8
+    (λ c. search needs)
     slice-write-to-8
     same-length
     returns)

@@ -23,35 +23,11 @@ two a b (x ∷ y ∷ l) le = refl
 told : {r s : Entry} (reply : List ℕ) → r ≡ s → over (entryWords (valueOf r)) reply ≡ over (entryWords (valueOf s)) reply
 told reply e = ap (λ (r : Entry). over (entryWords (valueOf r)) reply) e
 
-enum-known-r : tie.Need-enum-known-r
-enum-known-r c = search needs
-
-slice-write-reply : tie.Need-slice-write-reply
-slice-write-reply c = search needs
-
-slice-write-reply-2 : tie.Need-slice-write-reply-2
-slice-write-reply-2 c = search needs
-
-enum-told : tie.Need-enum-told
-enum-told c = search needs
-
-slice-write-reply-3 : tie.Need-slice-write-reply-3
-slice-write-reply-3 c = search needs
-
-slice-write-reply-4 : tie.Need-slice-write-reply-4
-slice-write-reply-4 c = search needs
-
-same-length : tie.Need-same-length
-same-length c = search needs
-
 returns : tie.Need-returns
 unfolding entryWords valueOf
 returns c =
     let s = c .before .before .before in
     two 1 _ (s .args .reply .now) (s .pre) ∙ told _ (sym (c .before .r .given .1))
-
-same-length-2 : tie.Need-same-length-2
-same-length-2 c = search needs
 
 returns-2 : tie.Need-returns-2
 unfolding entryWords valueOf
@@ -63,13 +39,13 @@ pub put-entry-spec : {M : Type 1} → statement M
 put-entry-spec =
     tie.close
     (tie.spec
-    enum-known-r
-    slice-write-reply
-    slice-write-reply-2
-    enum-told
-    slice-write-reply-3
-    slice-write-reply-4
-    same-length
+    (λ c. search needs)
+    (λ c. search needs)
+    (λ c. search needs)
+    (λ c. search needs)
+    (λ c. search needs)
+    (λ c. search needs)
+    (λ c. search needs)
     returns
-    same-length-2
+    (λ c. search needs)
     returns-2)

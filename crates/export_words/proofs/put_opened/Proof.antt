@@ -20,29 +20,14 @@ told-by reply e = ap (λ (r : Opened). over (wordsOf (replyOf r)) reply) e
 handed : {r s : Opened} (to : List ℕ) → r ≡ s → over (contentsWords (handedOut r)) to ≡ over (contentsWords (handedOut s)) to
 handed to e = ap (λ (r : Opened). over (contentsWords (handedOut r)) to) e
 
-enum-known-r : tie.Need-enum-known-r
-enum-known-r c = search needs
-
 put-contents-requires : tie.Need-put-contents-requires
 put-contents-requires c κs = search needs
 
 put-words-requires : tie.Need-put-words-requires
 put-words-requires c κs = search needs
 
-enum-known-r-2 : tie.Need-enum-known-r-2
-enum-known-r-2 c = search needs
-
-cast-put-words : tie.Need-cast-put-words
-cast-put-words c = search needs
-
 put-words-requires-2 : tie.Need-put-words-requires-2
 put-words-requires-2 c κs = search needs
-
-same-length : tie.Need-same-length
-same-length c = search needs
-
-same-length-2 : tie.Need-same-length-2
-same-length-2 c = search needs
 
 returns : tie.Need-returns
 unfolding wordsOf replyOf handedOut
@@ -51,9 +36,6 @@ returns c =
     let kept = told .before .before .before .before in
     let b = kept .before .before .before in
     (kept .put-contents .ensures ∙ handed _ (sym (b .r .given .1)), told .put-words .ensures ∙ told-by _ (sym (b .r .given .1)))
-
-same-length-3 : tie.Need-same-length-3
-same-length-3 c = search needs
 
 returns-2 : tie.Need-returns-2
 unfolding wordsOf replyOf handedOut contentsWords
@@ -65,14 +47,14 @@ pub put-opened-spec : {M : Type 1} → statement M
 put-opened-spec =
     tie.close
     (tie.spec
-    enum-known-r
+    (λ c. search needs)
     put-contents-requires
     put-words-requires
-    enum-known-r-2
-    cast-put-words
+    (λ c. search needs)
+    (λ c. search needs)
     put-words-requires-2
-    same-length
-    same-length-2
+    (λ c. search needs)
+    (λ c. search needs)
     returns
-    same-length-3
+    (λ c. search needs)
     returns-2)

@@ -14,50 +14,17 @@ use Rattle.export_words.proofs.put_outcome.Tie as tie
 told : {r s : Outcome} (reply : List ℕ) → r ≡ s → over (wordsOf (replyOf r)) reply ≡ over (wordsOf (replyOf s)) reply
 told reply e = ap (λ (r : Outcome). over (wordsOf (replyOf r)) reply) e
 
-enum-known-r : tie.Need-enum-known-r
-enum-known-r c = search needs
-
-cast-put-words : tie.Need-cast-put-words
-cast-put-words c = search needs
-
 put-words-requires : tie.Need-put-words-requires
 put-words-requires c κs = search needs
-
-enum-known-r-2 : tie.Need-enum-known-r-2
-enum-known-r-2 c = search needs
-
-cast-put-words-2 : tie.Need-cast-put-words-2
-cast-put-words-2 c = search needs
-
-cast-put-words-3 : tie.Need-cast-put-words-3
-cast-put-words-3 c = search needs
 
 put-words-requires-2 : tie.Need-put-words-requires-2
 put-words-requires-2 c κs = search needs
 
-enum-known-r-3 : tie.Need-enum-known-r-3
-enum-known-r-3 c = search needs
-
-cast-put-words-4 : tie.Need-cast-put-words-4
-cast-put-words-4 c = search needs
-
 put-words-requires-3 : tie.Need-put-words-requires-3
 put-words-requires-3 c κs = search needs
 
-enum-known-r-4 : tie.Need-enum-known-r-4
-enum-known-r-4 c = search needs
-
-cast-put-words-5 : tie.Need-cast-put-words-5
-cast-put-words-5 c = search needs
-
-cast-put-words-6 : tie.Need-cast-put-words-6
-cast-put-words-6 c = search needs
-
 put-words-requires-4 : tie.Need-put-words-requires-4
 put-words-requires-4 c κs = search needs
-
-same-length : tie.Need-same-length
-same-length c = search needs
 
 returns : tie.Need-returns
 unfolding wordsOf
@@ -65,26 +32,17 @@ returns c =
     let b = c .before .before .before .before .before in
     c .before .before .put-words .ensures ∙ told _ (sym (b .r .given .1))
 
-same-length-2 : tie.Need-same-length-2
-same-length-2 c = search needs
-
 returns-2 : tie.Need-returns-2
 unfolding wordsOf
 returns-2 c =
     let b = c .before .before .before .before .before in
     c .before .before .put-words2 .ensures ∙ told _ (sym (b .r2 .given .1))
 
-same-length-3 : tie.Need-same-length-3
-same-length-3 c = search needs
-
 returns-3 : tie.Need-returns-3
 unfolding wordsOf
 returns-3 c =
     let b = c .before .before .before .before .before in
     c .before .before .put-words3 .ensures ∙ told _ (sym (b .r3 .given .1))
-
-same-length-4 : tie.Need-same-length-4
-same-length-4 c = search needs
 
 returns-4 : tie.Need-returns-4
 unfolding wordsOf
@@ -96,25 +54,25 @@ pub put-outcome-spec : {M : Type 1} → statement M
 put-outcome-spec =
     tie.close
     (tie.spec
-    enum-known-r
-    cast-put-words
+    (λ c. search needs)
+    (λ c. search needs)
     put-words-requires
-    enum-known-r-2
-    cast-put-words-2
-    cast-put-words-3
+    (λ c. search needs)
+    (λ c. search needs)
+    (λ c. search needs)
     put-words-requires-2
-    enum-known-r-3
-    cast-put-words-4
+    (λ c. search needs)
+    (λ c. search needs)
     put-words-requires-3
-    enum-known-r-4
-    cast-put-words-5
-    cast-put-words-6
+    (λ c. search needs)
+    (λ c. search needs)
+    (λ c. search needs)
     put-words-requires-4
-    same-length
+    (λ c. search needs)
     returns
-    same-length-2
+    (λ c. search needs)
     returns-2
-    same-length-3
+    (λ c. search needs)
     returns-3
-    same-length-4
+    (λ c. search needs)
     returns-4)

@@ -13,59 +13,20 @@ use Rattle.export_words.proofs.put_solution.Tie as tie
 told : {r s : Solution} (reply : List ℕ) → r ≡ s → over (solutionWords r) reply ≡ over (solutionWords s) reply
 told reply e = ap (λ (r : Solution). over (solutionWords r) reply) e
 
-enum-known-r : tie.Need-enum-known-r
-enum-known-r c = search needs
-
-cast-put-words : tie.Need-cast-put-words
-cast-put-words c = search needs
-
-cast-put-words-2 : tie.Need-cast-put-words-2
-cast-put-words-2 c = search needs
-
 put-words-requires : tie.Need-put-words-requires
 put-words-requires c κs = search needs
-
-enum-known-r-2 : tie.Need-enum-known-r-2
-enum-known-r-2 c = search needs
-
-cast-put-words-3 : tie.Need-cast-put-words-3
-cast-put-words-3 c = search needs
 
 put-words-requires-2 : tie.Need-put-words-requires-2
 put-words-requires-2 c κs = search needs
 
-enum-known-r-3 : tie.Need-enum-known-r-3
-enum-known-r-3 c = search needs
-
-cast-put-words-4 : tie.Need-cast-put-words-4
-cast-put-words-4 c = search needs
-
 put-words-requires-3 : tie.Need-put-words-requires-3
 put-words-requires-3 c κs = search needs
-
-enum-known-r-4 : tie.Need-enum-known-r-4
-enum-known-r-4 c = search needs
-
-cast-put-words-5 : tie.Need-cast-put-words-5
-cast-put-words-5 c = search needs
-
-cast-put-words-6 : tie.Need-cast-put-words-6
-cast-put-words-6 c = search needs
 
 put-words-requires-4 : tie.Need-put-words-requires-4
 put-words-requires-4 c κs = search needs
 
-enum-known-r-5 : tie.Need-enum-known-r-5
-enum-known-r-5 c = search needs
-
-cast-put-words-7 : tie.Need-cast-put-words-7
-cast-put-words-7 c = search needs
-
 put-words-requires-5 : tie.Need-put-words-requires-5
 put-words-requires-5 c κs = search needs
-
-same-length : tie.Need-same-length
-same-length c = search needs
 
 returns : tie.Need-returns
 unfolding solutionWords
@@ -73,17 +34,11 @@ returns c =
     let b = c .before .before .before .before .before in
     c .before .before .put-words .ensures ∙ told _ (sym (b .r .given .1))
 
-same-length-2 : tie.Need-same-length-2
-same-length-2 c = search needs
-
 returns-2 : tie.Need-returns-2
 unfolding solutionWords
 returns-2 c =
     let b = c .before .before .before .before .before in
     c .before .before .put-words2 .ensures ∙ told _ (sym (b .r2 .given .1))
-
-same-length-3 : tie.Need-same-length-3
-same-length-3 c = search needs
 
 returns-3 : tie.Need-returns-3
 unfolding solutionWords
@@ -91,17 +46,11 @@ returns-3 c =
     let b = c .before .before .before .before .before in
     c .before .before .put-words3 .ensures ∙ told _ (sym (b .r3 .given .1))
 
-same-length-4 : tie.Need-same-length-4
-same-length-4 c = search needs
-
 returns-4 : tie.Need-returns-4
 unfolding solutionWords
 returns-4 c =
     let b = c .before .before .before .before .before in
     c .before .before .put-words4 .ensures ∙ told _ (sym (b .r4 .given .1))
-
-same-length-5 : tie.Need-same-length-5
-same-length-5 c = search needs
 
 returns-5 : tie.Need-returns-5
 unfolding solutionWords
@@ -113,30 +62,30 @@ pub put-solution-spec : {M : Type 1} → statement M
 put-solution-spec =
     tie.close
     (tie.spec
-    enum-known-r
-    cast-put-words
-    cast-put-words-2
+    (λ c. search needs)
+    (λ c. search needs)
+    (λ c. search needs)
     put-words-requires
-    enum-known-r-2
-    cast-put-words-3
+    (λ c. search needs)
+    (λ c. search needs)
     put-words-requires-2
-    enum-known-r-3
-    cast-put-words-4
+    (λ c. search needs)
+    (λ c. search needs)
     put-words-requires-3
-    enum-known-r-4
-    cast-put-words-5
-    cast-put-words-6
+    (λ c. search needs)
+    (λ c. search needs)
+    (λ c. search needs)
     put-words-requires-4
-    enum-known-r-5
-    cast-put-words-7
+    (λ c. search needs)
+    (λ c. search needs)
     put-words-requires-5
-    same-length
+    (λ c. search needs)
     returns
-    same-length-2
+    (λ c. search needs)
     returns-2
-    same-length-3
+    (λ c. search needs)
     returns-3
-    same-length-4
+    (λ c. search needs)
     returns-4
-    same-length-5
+    (λ c. search needs)
     returns-5)

@@ -14,32 +14,17 @@ use Rattle.export_words.proofs.put_verdict.Tie as tie
 told : {r s : Verdict} (reply : List ℕ) → r ≡ s → over (wordsOf (replyOf r)) reply ≡ over (wordsOf (replyOf s)) reply
 told reply e = ap (λ (r : Verdict). over (wordsOf (replyOf r)) reply) e
 
-enum-told : tie.Need-enum-told
-enum-told c = search needs
-
 put-words-requires : tie.Need-put-words-requires
 put-words-requires c κs = search needs
 
-enum-known-r : tie.Need-enum-known-r
-enum-known-r c = search needs
-
-cast-put-words : tie.Need-cast-put-words
-cast-put-words c = search needs
-
 put-words-requires-2 : tie.Need-put-words-requires-2
 put-words-requires-2 c κs = search needs
-
-same-length : tie.Need-same-length
-same-length c = search needs
 
 returns : tie.Need-returns
 unfolding wordsOf replyOf
 returns c =
     let b = c .before .before .before .before in
     c .before .before .put-words .ensures ∙ told _ (sym (b .enum-told .given .1))
-
-same-length-2 : tie.Need-same-length-2
-same-length-2 c = search needs
 
 returns-2 : tie.Need-returns-2
 unfolding wordsOf replyOf
@@ -51,12 +36,12 @@ pub put-verdict-spec : {M : Type 1} → statement M
 put-verdict-spec =
     tie.close
     (tie.spec
-    enum-told
+    (λ c. search needs)
     put-words-requires
-    enum-known-r
-    cast-put-words
+    (λ c. search needs)
+    (λ c. search needs)
     put-words-requires-2
-    same-length
+    (λ c. search needs)
     returns
-    same-length-2
+    (λ c. search needs)
     returns-2)

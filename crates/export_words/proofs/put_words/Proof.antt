@@ -18,20 +18,11 @@ four a b c d (x ∷ y ∷ []) le = absurd (omega arith)
 four a b c d (x ∷ y ∷ z ∷ []) le = absurd (omega arith)
 four a b c d (x ∷ y ∷ z ∷ w ∷ l) le = refl
 
-slice-write-to : tie.Need-slice-write-to
-slice-write-to c = search needs
-
 slice-write-to-2 : tie.Need-slice-write-to-2
 slice-write-to-2 c = omega (arith, length-set (c .args .to .now) 0 (c .args .a))
 
 slice-write-to-3 : tie.Need-slice-write-to-3
 slice-write-to-3 c = omega (arith, length-set (set (c .args .to .now) 0 (c .args .a)) 1 (c .args .b), length-set (c .args .to .now) 0 (c .args .a))
-
-slice-write-to-4 : tie.Need-slice-write-to-4
-slice-write-to-4 c = search needs
-
-same-length : tie.Need-same-length
-same-length c = search needs
 
 returns : tie.Need-returns
 returns c = four (c .args .a) (c .args .b) (c .args .c) (c .args .d) (c .args .to .now) (c .pre)
@@ -40,9 +31,9 @@ pub put-words-spec : {M : Type 1} → statement M
 put-words-spec =
     tie.close
     (tie.spec
-    slice-write-to
+    (λ c. search needs)
     slice-write-to-2
     slice-write-to-3
-    slice-write-to-4
-    same-length
+    (λ c. search needs)
+    (λ c. search needs)
     returns)

@@ -14,17 +14,8 @@ use Rattle.export_words.proofs.put_written.Tie as tie
 told : {r s : Written} (reply : List ℕ) → r ≡ s → over (wordsOf (replyOf r)) reply ≡ over (wordsOf (replyOf s)) reply
 told reply e = ap (λ (r : Written). over (wordsOf (replyOf r)) reply) e
 
-enum-known-r : tie.Need-enum-known-r
-enum-known-r c = search needs
-
-cast-put-words : tie.Need-cast-put-words
-cast-put-words c = search needs
-
 put-words-requires : tie.Need-put-words-requires
 put-words-requires c κs = search needs
-
-enum-known-r-2 : tie.Need-enum-known-r-2
-enum-known-r-2 c = search needs
 
 put-words-requires-2 : tie.Need-put-words-requires-2
 put-words-requires-2 c κs = search needs
@@ -51,10 +42,10 @@ pub put-written-spec : {M : Type 1} → statement M
 put-written-spec =
     tie.close
     (tie.spec
-    enum-known-r
-    cast-put-words
+    (λ c. search needs)
+    (λ c. search needs)
     put-words-requires
-    enum-known-r-2
+    (λ c. search needs)
     put-words-requires-2
     same-length
     returns

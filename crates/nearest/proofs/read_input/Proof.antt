@@ -26,18 +26,6 @@ Inv-loop buffer₀ count₀ buffer count = (count ≤ length buffer) × (length 
 abbrev μ-loop : tie.MeasureT-loop
 μ-loop buffer₀ count₀ buffer count = length buffer - count
 
-loop-holds : tie.Need-loop-holds Inv-loop μ-loop
-loop-holds c = search needs
-
-sub-read-some : tie.Need-sub-read-some Inv-loop μ-loop
-sub-read-some c = search needs
-
-part-read-some-start : tie.Need-part-read-some-start Inv-loop μ-loop
-part-read-some-start c = search needs
-
-part-read-some-end : tie.Need-part-read-some-end Inv-loop μ-loop
-part-read-some-end c = search needs
-
 read-some-requires : tie.Need-read-some-requires Inv-loop μ-loop
 read-some-requires c κs = search needs
 
@@ -77,12 +65,6 @@ loop-again c =
     let same = same-long (l .buffer) (r .last .0) (l .count) (r .kept .0) in
     (le-trans (within (l .buffer) (r .last .0) (l .count) (r .result .count) (l .inv .0) (r .kept .0) (r .ensures)) (le-of-eq (sym same)), same ∙ l .inv .1)
 
-same-length-2 : tie.Need-same-length-2 Inv-loop μ-loop
-same-length-2 c = search needs
-
-returns-2 : tie.Need-returns-2 Inv-loop μ-loop
-returns-2 c = search needs
-
 same-length-3 : tie.Need-same-length-3 Inv-loop μ-loop
 same-length-3 c =
     let r = c .before .before .before .before .read-some in
@@ -101,17 +83,17 @@ read-input-spec =
     (tie.spec
     Inv-loop
     μ-loop
-    loop-holds
-    sub-read-some
-    part-read-some-start
-    part-read-some-end
+    (λ c. search needs)
+    (λ c. search needs)
+    (λ c. search needs)
+    (λ c. search needs)
     read-some-requires
     same-length
     returns
     add-count
     loop-less
     loop-again
-    same-length-2
-    returns-2
+    (λ c. search needs)
+    (λ c. search needs)
     same-length-3
     returns-3)

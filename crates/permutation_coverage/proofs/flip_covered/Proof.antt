@@ -49,12 +49,6 @@ returns-2 c =
     let image = c .before .before in
     image-found (pre .0) _ (pre .1) _ (image .before .loop-test .taken) _ (image .flipped-image .ensures) (image .before .before .loop .inv) _ (c .before .contains2 .ensures) (c .if2 .taken)
 
-add-i : tie.Need-add-i Inv-loop μ-loop
-add-i c = search needs
-
-loop-less : tie.Need-loop-less Inv-loop μ-loop
-loop-less c = search needs
-
 loop-again : tie.Need-loop-again Inv-loop μ-loop
 loop-again c =
     let pre = c .before .before .before .before .before .before .before .before .before .before .before .before .pre in
@@ -77,7 +71,7 @@ flip-covered-spec =
     flipped-image-requires
     contains-requires-2
     returns-2
-    add-i
-    loop-less
+    (λ c. search needs)
+    (λ c. search needs)
     loop-again
     returns-3)

@@ -7,21 +7,6 @@ use Rattle.math.specs.Bits.{flip}
 use Rattle.permutation_coverage.proofs.flipped_image.Statement.{statement}
 use Rattle.permutation_coverage.proofs.flipped_image.Tie as tie
 
-mul-place : tie.Need-mul-place
-mul-place c = search needs
-
-add-place : tie.Need-add-place
-add-place c = search needs
-
-shared-slice-read-to : tie.Need-shared-slice-read-to
-shared-slice-read-to c = search needs
-
-cast-to : tie.Need-cast-to
-cast-to c = search needs
-
-sub-to : tie.Need-sub-to
-sub-to c = search needs
-
 point-at-requires : tie.Need-point-at-requires
 point-at-requires c κs = search needs
 
@@ -37,11 +22,11 @@ pub flipped-image-spec : {M : Type 1} → statement M
 flipped-image-spec =
     tie.close
     (tie.spec
-    mul-place
-    add-place
-    shared-slice-read-to
-    cast-to
-    sub-to
+    (λ c. search needs)
+    (λ c. search needs)
+    (λ c. search needs)
+    (λ c. search needs)
+    (λ c. search needs)
     point-at-requires
     flip-requires
     returns)

@@ -23,9 +23,6 @@ returns c = rw (ne-eqb _ _ (c .if1 .taken))
 loop-holds : tie.Need-loop-holds Inv-loop μ-loop
 loop-holds c = (zero-le, refl)
 
-shared-slice-read-v : tie.Need-shared-slice-read-v Inv-loop μ-loop
-shared-slice-read-v c = search needs
-
 cast-v : tie.Need-cast-v Inv-loop μ-loop
 cast-v c = omega (arith, c .shared-slice-known2 .given (c .before .before .loop .i))
 
@@ -57,12 +54,6 @@ sub-flip c = new c .0
 flip-requires : tie.Need-flip-requires Inv-loop μ-loop
 flip-requires c κs = let h = new c in omega (arith, c .before .before .before .before .before .before .before .pre)
 
-add-i : tie.Need-add-i Inv-loop μ-loop
-add-i c = search needs
-
-loop-less : tie.Need-loop-less Inv-loop μ-loop
-loop-less c = search needs
-
 loop-again : tie.Need-loop-again Inv-loop μ-loop
 loop-again c =
     let l = c .before .before .before .before .before .loop in
@@ -88,13 +79,13 @@ is-permutation-spec =
     μ-loop
     returns
     loop-holds
-    shared-slice-read-v
+    (λ c. search needs)
     cast-v
     fresh-requires
     returns-2
     sub-flip
     flip-requires
-    add-i
-    loop-less
+    (λ c. search needs)
+    (λ c. search needs)
     loop-again
     returns-3)

@@ -23,12 +23,6 @@ loop-holds : tie.Need-loop-holds Inv-loop μ-loop
 unfolding moved
 loop-holds c = (le-refl _, sym (ap (λ l. moved l (c .before .args .s / 2 ^ length (c .before .args .e .now))) (drop-length (c .before .args .e .now))))
 
-sub-i : tie.Need-sub-i Inv-loop μ-loop
-sub-i c = search needs
-
-shared-slice-read-image : tie.Need-shared-slice-read-image Inv-loop μ-loop
-shared-slice-read-image c = search needs
-
 -- the number read is one of 1 to 64
 read : (c : tie.After-shared-slice-known2 Inv-loop μ-loop)
     → (1 ≤ getD (c .before .before .before .before .args .e .now) (c .before .before .loop .i - 1) 0)
@@ -52,9 +46,6 @@ cast-to c = let h = read c in omega arith
 
 carry-requires : tie.Need-carry-requires Inv-loop μ-loop
 carry-requires c κs = let from = index c in let to = read c in omega arith
-
-loop-less : tie.Need-loop-less Inv-loop μ-loop
-loop-less c = search needs
 
 loop-again : tie.Need-loop-again Inv-loop μ-loop
 loop-again c =
@@ -81,12 +72,12 @@ moved-spec =
     Inv-loop
     μ-loop
     loop-holds
-    sub-i
-    shared-slice-read-image
+    (λ c. search needs)
+    (λ c. search needs)
     sub-image
     cast-from
     cast-to
     carry-requires
-    loop-less
+    (λ c. search needs)
     loop-again
     returns)

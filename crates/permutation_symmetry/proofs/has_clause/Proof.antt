@@ -50,12 +50,6 @@ returns-2 c =
     let l = c .before .before .before .before .loop in
     sym (l .inv .1 ∙ any-stops (sameClause _) _ noLiterals (l .at) (omega arith) (compared (c .before) ∙ c .if2 .taken))
 
-add-at : tie.Need-add-at Inv-loop μ-loop
-add-at c = search needs
-
-loop-less : tie.Need-loop-less Inv-loop μ-loop
-loop-less c = search needs
-
 loop-again : tie.Need-loop-again Inv-loop μ-loop
 loop-again c =
     let l = c .before .before .before .before .loop in
@@ -79,7 +73,7 @@ has-clause-spec =
     clause-at-requires
     same-clause-requires
     returns-2
-    add-at
-    loop-less
+    (λ c. search needs)
+    (λ c. search needs)
     loop-again
     returns-3)

@@ -53,12 +53,6 @@ returns c =
     let l = c .before .before .before .before .before .loop in
     sym (keeps-numbered _ _ ∙ l .inv .1 ∙ all-stops (imageAmong _ _) _ noLiterals (l .i) (omega arith) (tested (c .before) ∙ not-true _ (c .if1 .taken)))
 
-add-i : tie.Need-add-i Inv-loop μ-loop
-add-i c = search needs
-
-loop-less : tie.Need-loop-less Inv-loop μ-loop
-loop-less c = search needs
-
 loop-again : tie.Need-loop-again Inv-loop μ-loop
 loop-again c =
     let l = c .before .before .before .before .before .loop in
@@ -81,7 +75,7 @@ keeps-spec =
     image-of-clause-requires
     has-clause-requires
     returns
-    add-i
-    loop-less
+    (λ c. search needs)
+    (λ c. search needs)
     loop-again
     returns-2)

@@ -7,24 +7,12 @@ use Rattle.point_index.proofs.add.Tie as tie
 find-requires : tie.Need-find-requires
 find-requires c κs = search needs
 
-same-length : tie.Need-same-length
-same-length c = search needs
-
 returns : tie.Need-returns
 returns c =
     adds-none (c .before .before .before .before .before .pre) (c .before .find .ensures) (c .if1 .taken)
 
-cast-number : tie.Need-cast-number
-cast-number c = search needs
-
-add-number : tie.Need-add-number
-add-number c = search needs
-
 put-number-requires : tie.Need-put-number-requires
 put-number-requires c κs = search needs
-
-same-length-2 : tie.Need-same-length-2
-same-length-2 c = search needs
 
 returns-2 : tie.Need-returns-2
 returns-2 c =
@@ -36,10 +24,10 @@ add-spec =
     tie.close
     (tie.spec
     find-requires
-    same-length
+    (λ c. search needs)
     returns
-    cast-number
-    add-number
+    (λ c. search needs)
+    (λ c. search needs)
     put-number-requires
-    same-length-2
+    (λ c. search needs)
     returns-2)

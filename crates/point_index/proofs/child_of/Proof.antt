@@ -5,17 +5,8 @@ use Rattle.point_index.specs.Laws.Index.{childOf}
 use Rattle.point_index.proofs.child_of.Statement.{statement}
 use Rattle.point_index.proofs.child_of.Tie as tie
 
-mul-first : tie.Need-mul-first
-mul-first c = search needs
-
-add-first : tie.Need-add-first
-add-first c = search needs
-
 member-requires : tie.Need-member-requires
 member-requires c κs = search needs
-
-add-result : tie.Need-add-result
-add-result c = search needs
 
 returns : tie.Need-returns
 unfolding childOf
@@ -26,4 +17,4 @@ unfolding childOf
 returns-2 c = ap (childOf (c .before .before .args .heads) (c .before .before .args .j)) (sym (c .if1 .left) ∙ c .before .member .ensures)
 
 pub child-of-spec : {M : Type 1} → statement M
-child-of-spec = tie.close (tie.spec mul-first add-first member-requires add-result returns returns-2)
+child-of-spec = tie.close (tie.spec (λ c. search needs) (λ c. search needs) member-requires (λ c. search needs) returns returns-2)

@@ -26,9 +26,6 @@ loop-holds c = seeking-begins (c .before .before .before .before .pre) _ _ (c .b
 cast-j : tie.Need-cast-j Inv-loop μ-loop
 cast-j c = omega (arith, c .before .loop .inv .small)
 
-sub-j : tie.Need-sub-j Inv-loop μ-loop
-sub-j c = search needs
-
 point-at-requires : tie.Need-point-at-requires Inv-loop μ-loop
 point-at-requires c κs = search needs
 
@@ -82,7 +79,7 @@ find-spec =
     number-at-requires
     loop-holds
     cast-j
-    sub-j
+    (λ c. search needs)
     point-at-requires
     same-requires
     returns

@@ -12,22 +12,10 @@ returns c = clause-past _ _ (c .before .args .i) (inl (c .if1 .taken))
 returns-2 : tie.Need-returns-2
 returns-2 c = clause-past _ _ (c .before .before .args .i) (inr (c .if2 .taken))
 
-mul-t4 : tie.Need-mul-t4
-mul-t4 c = search needs
-
-shared-slice-read-t7 : tie.Need-shared-slice-read-t7
-shared-slice-read-t7 c = search needs
-
-mul-t8 : tie.Need-mul-t8
-mul-t8 c = search needs
-
-shared-slice-read-t10 : tie.Need-shared-slice-read-t10
-shared-slice-read-t10 c = search needs
-
 returns-3 : tie.Need-returns-3
 returns-3 c = sym (clause-at _ _ (c .before .before .before .before .args .i) (c .before .before .before .if1 .left) (c .before .before .if2 .left))
 
 pub clause-at-spec : {M : Type 1} → statement M
 clause-at-spec =
     tie.close
-    (tie.spec returns returns-2 mul-t4 shared-slice-read-t7 mul-t8 shared-slice-read-t10 returns-3)
+    (tie.spec returns returns-2 (λ c. search needs) (λ c. search needs) (λ c. search needs) (λ c. search needs) returns-3)

@@ -48,12 +48,6 @@ returns c =
     let l = c .before .before .before .before .loop in
     sym (l .inv .1 ∙ falsified-stops _ _ (l .i) (omega arith) (tested (c .before) ∙ not-true _ (c .if1 .taken)))
 
-add-i : tie.Need-add-i Inv-loop μ-loop
-add-i c = search needs
-
-loop-less : tie.Need-loop-less Inv-loop μ-loop
-loop-less c = search needs
-
 loop-again : tie.Need-loop-again Inv-loop μ-loop
 loop-again c =
     let l = c .before .before .before .before .loop in
@@ -77,7 +71,7 @@ first-falsified-spec =
     satisfies-requires
     add-result
     returns
-    add-i
-    loop-less
+    (λ c. search needs)
+    (λ c. search needs)
     loop-again
     returns-2)

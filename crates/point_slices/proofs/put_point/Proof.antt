@@ -5,20 +5,8 @@ use borrow.Author.Needs.{needs}
 use Rattle.point_slices.proofs.put_point.Statement.{statement}
 use Rattle.point_slices.proofs.put_point.Tie as tie
 
-mul-points : tie.Need-mul-points
-mul-points c = search needs
-
-slice-write-points : tie.Need-slice-write-points
-slice-write-points c = search needs
-
-same-length : tie.Need-same-length
-same-length c = search needs
-
-returns : tie.Need-returns
-returns c = search needs
-
 returns-2 : tie.Need-returns-2
 returns-2 c = sym (set-out (c .before .args .points .now) (c .before .args .i) (c .before .args .x) (c .if1 .left))
 
 pub put-point-spec : {M : Type 1} → statement M
-put-point-spec = tie.close (tie.spec mul-points slice-write-points same-length returns returns-2)
+put-point-spec = tie.close (tie.spec (λ c. search needs) (λ c. search needs) (λ c. search needs) (λ c. search needs) returns-2)

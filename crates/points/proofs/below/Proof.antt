@@ -11,11 +11,8 @@ use Rattle.points.proofs.below.Tie as tie
 returns : tie.Need-returns
 returns c = sym (lt-ltb _ _ (lt-of-lt-of-le (c .before .fits .x .fits) (pow-mono (c .if1 .taken))))
 
-shr-result : tie.Need-shr-result
-shr-result c = search needs
-
 returns-2 : tie.Need-returns-2
 returns-2 c = shifted-out (c .before .args .x) (c .before .args .n)
 
 pub below-spec : {M : Type 1} → statement M
-below-spec = tie.close (tie.spec returns shr-result returns-2)
+below-spec = tie.close (tie.spec returns (λ c. search needs) returns-2)

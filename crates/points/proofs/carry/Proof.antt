@@ -8,14 +8,8 @@ use Rattle.math.specs.Laws.BitLaws.{digit-lt}
 use Rattle.points.proofs.carry.Statement.{statement}
 use Rattle.points.proofs.carry.Tie as tie
 
-shr-digit : tie.Need-shr-digit
-shr-digit c = search needs
-
-shl-moved : tie.Need-shl-moved
-shl-moved c = search needs
-
 returns : tie.Need-returns
 returns c = ap (λ (x : ℕ). bitOr x (c .args .r)) (shl-exact 1 (c .args .v) 64 (digit-lt _) (search needs))
 
 pub carry-spec : {M : Type 1} → statement M
-carry-spec = tie.close (tie.spec shr-digit shl-moved returns)
+carry-spec = tie.close (tie.spec (λ c. search needs) (λ c. search needs) returns)

@@ -9,13 +9,10 @@ use Rattle.math.specs.Bits.{flip}
 use Rattle.points.proofs.flip.Statement.{statement}
 use Rattle.points.proofs.flip.Tie as tie
 
-shl-mask : tie.Need-shl-mask
-shl-mask c = search needs
-
 returns : tie.Need-returns
 unfolding flip
 returns c =
     ap (bitXor (c .args .x)) (ap (λ (p : ℕ). p % 2 ^ 64) (one-mul (2 ^ c .args .v)) ∙ mod-eq-of-lt (pow-lt (c .pre)))
 
 pub flip-spec : {M : Type 1} → statement M
-flip-spec = tie.close (tie.spec shl-mask returns)
+flip-spec = tie.close (tie.spec (λ c. search needs) returns)

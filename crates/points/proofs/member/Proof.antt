@@ -9,12 +9,9 @@ use Rattle.points.proofs.member.Tie as tie
 returns : tie.Need-returns
 returns c = sym (bit-above 64 (c .before .args .s) (c .before .args .v) (c .before .fits .s .fits) (c .if1 .taken))
 
-shr-result : tie.Need-shr-result
-shr-result c = search needs
-
 returns-2 : tie.Need-returns-2
 unfolding bit
 returns-2 c = refl
 
 pub member-spec : {M : Type 1} → statement M
-member-spec = tie.close (tie.spec returns shr-result returns-2)
+member-spec = tie.close (tie.spec returns (λ c. search needs) returns-2)

@@ -8,11 +8,8 @@ use borrow.Author.Needs.{needs}
 use Rattle.points.proofs.with_variable.Statement.{statement}
 use Rattle.points.proofs.with_variable.Tie as tie
 
-shl-mask : tie.Need-shl-mask
-shl-mask c = search needs
-
 returns : tie.Need-returns
 returns c = ap (bitOr (c .args .s)) (shl-exact 1 (c .args .v) 64 (search needs) (search needs) ∙ one-mul (2 ^ c .args .v))
 
 pub with-variable-spec : {M : Type 1} → statement M
-with-variable-spec = tie.close (tie.spec shl-mask returns)
+with-variable-spec = tie.close (tie.spec (λ c. search needs) returns)

@@ -7,17 +7,11 @@ use Rattle.program.proofs.answer.Tie as tie
 put-refused-requires : tie.Need-put-refused-requires
 put-refused-requires c κs = search needs
 
-same-length : tie.Need-same-length
-same-length c = search needs
-
 returns : tie.Need-returns
 returns c = prints-long _ (c .before .before .before .before .if1 .taken) _ _ _ (c .before .before .put-refused .ensures)
 
 read-sheet-requires : tie.Need-read-sheet-requires
 read-sheet-requires c κs = search needs
-
-same-length-2 : tie.Need-same-length-2
-same-length-2 c = search needs
 
 returns-2 : tie.Need-returns-2
 returns-2 c = prints-sheet _ (c .before .before .before .before .if1 .left) _ _ _ (c .before .before .read-sheet .ensures)
@@ -25,4 +19,4 @@ returns-2 c = prints-sheet _ (c .before .before .before .before .if1 .left) _ _ 
 pub answer-spec : {M : Type 1} → statement M
 answer-spec =
     tie.close
-    (tie.spec put-refused-requires same-length returns read-sheet-requires same-length-2 returns-2)
+    (tie.spec put-refused-requires (λ c. search needs) returns read-sheet-requires (λ c. search needs) returns-2)

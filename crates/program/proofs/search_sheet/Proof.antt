@@ -9,20 +9,8 @@ use Rattle.program.specs.Laws.ProgramLaws.{slots-lent}
 use Rattle.program.proofs.search_sheet.Statement.{statement}
 use Rattle.program.proofs.search_sheet.Tie as tie
 
-slice-aggregate-search-with : tie.Need-slice-aggregate-search-with
-slice-aggregate-search-with c = search needs
-
-slice-aggregate-search-with-2 : tie.Need-slice-aggregate-search-with-2
-slice-aggregate-search-with-2 c = search needs
-
-slice-aggregate-search-with-3 : tie.Need-slice-aggregate-search-with-3
-slice-aggregate-search-with-3 c = search needs
-
 search-with-requires : tie.Need-search-with-requires
 search-with-requires c κs = search needs
-
-same-length : tie.Need-same-length
-same-length c = search needs
 
 returns : tie.Need-returns
 returns c =
@@ -34,9 +22,9 @@ pub search-sheet-spec : {M : Type 1} → statement M
 search-sheet-spec =
     tie.close
     (tie.spec
-    slice-aggregate-search-with
-    slice-aggregate-search-with-2
-    slice-aggregate-search-with-3
+    (λ c. search needs)
+    (λ c. search needs)
+    (λ c. search needs)
     search-with-requires
-    same-length
+    (λ c. search needs)
     returns)

@@ -16,9 +16,6 @@ put-decimal-requires c κs =
     let s = one .before .before .before .before in
     back-room _ (s .args .head .now) (numeral (s .args .x)) _ (s .pre) _ _ (one .put-text .ensures) (one .put-text .kept .0)
 
-same-length : tie.Need-same-length
-same-length c = search needs
-
 returns : tie.Need-returns
 returns c =
     let two = c .before .before in
@@ -27,4 +24,4 @@ returns c =
     put-both _ (s .args .head .now) (numeral (s .args .x)) _ (s .pre) _ _ (one .put-text .ensures) _ _ (two .put-decimal .ensures)
 
 pub put-field-spec : {M : Type 1} → statement M
-put-field-spec = tie.close (tie.spec put-text-requires put-decimal-requires same-length returns)
+put-field-spec = tie.close (tie.spec put-text-requires put-decimal-requires (λ c. search needs) returns)

@@ -22,9 +22,6 @@ put-field-requires-2 c κs =
     let b = field (s .args .between .now) (s .args .b) in
     back-room _ a b (s .args .out .now) (front-room _ (a ++ b) lineEnd (s .args .out .now) (s .pre)) _ _ (one .put-field .ensures) (one .put-field .kept .0)
 
-slice-aggregate-put-text : tie.Need-slice-aggregate-put-text
-slice-aggregate-put-text c = search needs
-
 put-text-requires : tie.Need-put-text-requires
 put-text-requires c κs =
     let two = c .before .before .before .before in
@@ -34,9 +31,6 @@ put-text-requires c κs =
     let b = field (s .args .between .now) (s .args .b) in
     let both = put-both _ a b (s .args .out .now) (front-room _ (a ++ b) lineEnd (s .args .out .now) (s .pre)) _ _ (one .put-field .ensures) _ _ (two .put-field2 .ensures) in
     back-room _ (a ++ b) lineEnd (s .args .out .now) (s .pre) _ _ both (two .put-field2 .kept .0 ∙ one .put-field .kept .0)
-
-same-length : tie.Need-same-length
-same-length c = search needs
 
 returns : tie.Need-returns
 returns c =
@@ -55,7 +49,7 @@ put-line-spec =
     (tie.spec
     put-field-requires
     put-field-requires-2
-    slice-aggregate-put-text
+    (λ c. search needs)
     put-text-requires
-    same-length
+    (λ c. search needs)
     returns)

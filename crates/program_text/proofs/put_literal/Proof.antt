@@ -11,22 +11,13 @@ use Rattle.program_text.specs.Report.{sign}
 use Rattle.program_text.proofs.put_literal.Statement.{statement}
 use Rattle.program_text.proofs.put_literal.Tie as tie
 
-add-name : tie.Need-add-name
-add-name c = search needs
-
 member-requires : tie.Need-member-requires
 member-requires c κs = search needs
-
-slice-aggregate-put-field : tie.Need-slice-aggregate-put-field
-slice-aggregate-put-field c = search needs
 
 put-field-requires : tie.Need-put-field-requires
 put-field-requires c κs =
     let s = c .before .before .before .before .before in
     omega (arith, numeral-length 1 (s .args .i + 1) (let z : s .args .i + 1 < 100 = omega (arith, s .pre .0) in z), s .pre .1)
-
-same-length : tie.Need-same-length
-same-length c = search needs
 
 returns : tie.Need-returns
 unfolding sign
@@ -35,16 +26,10 @@ returns c =
     let s = put .before .before .before .before .before .before in
     subst (λ (b : Bool). Put (s .args .at) (field (sign b) (s .args .i + 1)) (s .args .out .now) (put .put-field .result) (put .put-field .last .0)) (sym (put .before .before .before .if1 .taken) ∙ put .before .before .before .before .member .ensures) (put .put-field .ensures)
 
-slice-aggregate-put-field-2 : tie.Need-slice-aggregate-put-field-2
-slice-aggregate-put-field-2 c = search needs
-
 put-field-requires-2 : tie.Need-put-field-requires-2
 put-field-requires-2 c κs =
     let s = c .before .before .before .before .before in
     omega (arith, numeral-length 1 (s .args .i + 1) (let z : s .args .i + 1 < 100 = omega (arith, s .pre .0) in z), s .pre .1)
-
-same-length-2 : tie.Need-same-length-2
-same-length-2 c = search needs
 
 returns-2 : tie.Need-returns-2
 unfolding sign
@@ -57,13 +42,13 @@ pub put-literal-spec : {M : Type 1} → statement M
 put-literal-spec =
     tie.close
     (tie.spec
-    add-name
+    (λ c. search needs)
     member-requires
-    slice-aggregate-put-field
+    (λ c. search needs)
     put-field-requires
-    same-length
+    (λ c. search needs)
     returns
-    slice-aggregate-put-field-2
+    (λ c. search needs)
     put-field-requires-2
-    same-length-2
+    (λ c. search needs)
     returns-2)

@@ -23,20 +23,11 @@ loop-holds c =
     let a = c .before .args in
     (omega arith, refl, subst (λ (k : ℕ). Put (a .at) (literals (a .x) k) (a .out .now) (a .at) (a .out .now)) (let z : 0 ≡ a .n - a .n = omega arith in z) (put-none (a .at) (a .out .now)))
 
-sub-i : tie.Need-sub-i Inv-loop μ-loop
-sub-i c = search needs
-
 put-literal-requires : tie.Need-put-literal-requires Inv-loop μ-loop
 put-literal-requires c κs =
     let l = c .before .before .loop in
     let s = c .before .before .before .before in
     (omega (arith, s .pre .0), omega (arith, literals-length (s .args .x) (s .args .n - l .left) (omega (arith, s .pre .0)), l .inv .2 .behind, s .pre .1))
-
-sub-left : tie.Need-sub-left Inv-loop μ-loop
-sub-left c = search needs
-
-loop-less : tie.Need-loop-less Inv-loop μ-loop
-loop-less c = search needs
 
 loop-again : tie.Need-loop-again Inv-loop μ-loop
 loop-again c =
@@ -48,9 +39,6 @@ loop-again c =
     let next : literals (s .args .x) i ++ literal (s .args .x) i ≡ literals (s .args .x) (s .args .n - (l .left - 1)) =
     sym (literals-next (s .args .x) i) ∙ ap (literals (s .args .x)) (omega arith) in
     (omega arith, put .put-literal .kept .0 ∙ l .inv .1, subst (λ t. Put (s .args .at) t (s .args .out .now) (put .put-literal .result) (put .put-literal .last .0)) next both)
-
-same-length : tie.Need-same-length Inv-loop μ-loop
-same-length c = search needs
 
 returns : tie.Need-returns Inv-loop μ-loop
 returns c =
@@ -65,10 +53,10 @@ put-literals-spec =
     Inv-loop
     μ-loop
     loop-holds
-    sub-i
+    (λ c. search needs)
     put-literal-requires
-    sub-left
-    loop-less
+    (λ c. search needs)
+    (λ c. search needs)
     loop-again
-    same-length
+    (λ c. search needs)
     returns)

@@ -8,20 +8,11 @@ use Rattle.program_text.specs.Laws.ReportLaws.{put-front, refused-length
 use Rattle.program_text.proofs.put_refused.Statement.{statement}
 use Rattle.program_text.proofs.put_refused.Tie as tie
 
-slice-aggregate-put-line : tie.Need-slice-aggregate-put-line
-slice-aggregate-put-line c = search needs
-
-slice-aggregate-put-line-2 : tie.Need-slice-aggregate-put-line-2
-slice-aggregate-put-line-2 c = search needs
-
 put-line-requires : tie.Need-put-line-requires
 unfolding refusedText
 put-line-requires c κs =
     let s = c .before .before .before .before in
     at-front (refusedText (s .args .code) (s .args .place)) (s .args .out .now) (le-trans (refused-length (s .args .code) (s .args .place) (omega arith) (omega arith)) (s .pre))
-
-same-length : tie.Need-same-length
-same-length c = search needs
 
 returns : tie.Need-returns
 unfolding refusedText
@@ -31,8 +22,8 @@ pub put-refused-spec : {M : Type 1} → statement M
 put-refused-spec =
     tie.close
     (tie.spec
-    slice-aggregate-put-line
-    slice-aggregate-put-line-2
+    (λ c. search needs)
+    (λ c. search needs)
     put-line-requires
-    same-length
+    (λ c. search needs)
     returns)

@@ -13,53 +13,29 @@ use Rattle.program_text.proofs.put_report.Tie as tie
 printed-for : {r s : Outcome} (n : ℕ) (out₀ : List ℕ) (count : ℕ) (out₁ : List ℕ) → r ≡ s → Printed (reportOf n (replyOf s)) out₀ count out₁ → Printed (reportOf n (replyOf r)) out₀ count out₁
 printed-for n out₀ count out₁ e p = subst (λ (q : Outcome). Printed (reportOf n (replyOf q)) out₀ count out₁) (sym e) p
 
-enum-known-r : tie.Need-enum-known-r
-enum-known-r c = search needs
-
 put-satisfiable-requires : tie.Need-put-satisfiable-requires
 put-satisfiable-requires c κs = search needs
-
-enum-known-r-2 : tie.Need-enum-known-r-2
-enum-known-r-2 c = search needs
 
 put-unsatisfiable-requires : tie.Need-put-unsatisfiable-requires
 put-unsatisfiable-requires c κs = search needs
 
-enum-known-r-3 : tie.Need-enum-known-r-3
-enum-known-r-3 c = search needs
-
 put-unknown-requires : tie.Need-put-unknown-requires
 put-unknown-requires c κs = search needs
 
-enum-known-r-4 : tie.Need-enum-known-r-4
-enum-known-r-4 c = search needs
-
 put-refused-requires : tie.Need-put-refused-requires
 put-refused-requires c κs = search needs
-
-same-length : tie.Need-same-length
-same-length c = search needs
 
 returns : tie.Need-returns
 unfolding reportOf
 returns c = printed-for _ _ _ _ (c .before .before .before .before .before .r .given .1) (c .before .before .put-satisfiable .ensures)
 
-same-length-2 : tie.Need-same-length-2
-same-length-2 c = search needs
-
 returns-2 : tie.Need-returns-2
 unfolding reportOf
 returns-2 c = printed-for _ _ _ _ (c .before .before .before .before .before .r2 .given .1) (c .before .before .put-unsatisfiable .ensures)
 
-same-length-3 : tie.Need-same-length-3
-same-length-3 c = search needs
-
 returns-3 : tie.Need-returns-3
 unfolding reportOf
 returns-3 c = printed-for _ _ _ _ (c .before .before .before .before .before .r3 .given .1) (c .before .before .put-unknown .ensures)
-
-same-length-4 : tie.Need-same-length-4
-same-length-4 c = search needs
 
 returns-4 : tie.Need-returns-4
 unfolding reportOf
@@ -69,19 +45,19 @@ pub put-report-spec : {M : Type 1} → statement M
 put-report-spec =
     tie.close
     (tie.spec
-    enum-known-r
+    (λ c. search needs)
     put-satisfiable-requires
-    enum-known-r-2
+    (λ c. search needs)
     put-unsatisfiable-requires
-    enum-known-r-3
+    (λ c. search needs)
     put-unknown-requires
-    enum-known-r-4
+    (λ c. search needs)
     put-refused-requires
-    same-length
+    (λ c. search needs)
     returns
-    same-length-2
+    (λ c. search needs)
     returns-2
-    same-length-3
+    (λ c. search needs)
     returns-3
-    same-length-4
+    (λ c. search needs)
     returns-4)

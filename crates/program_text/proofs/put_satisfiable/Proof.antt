@@ -11,9 +11,6 @@ use Rattle.program_text.specs.Laws.ReportLaws.{put-front, satisfiable-le
 use Rattle.program_text.proofs.put_satisfiable.Statement.{statement}
 use Rattle.program_text.proofs.put_satisfiable.Tie as tie
 
-slice-aggregate-put-text : tie.Need-slice-aggregate-put-text
-slice-aggregate-put-text c = search needs
-
 put-text-requires : tie.Need-put-text-requires
 unfolding satisfiableText
 put-text-requires c κs =
@@ -32,9 +29,6 @@ put-literals-requires c κs =
     let s = one .before .before .before .before in
     (s .pre .0, omega (arith, one .put-text .ensures .behind, s .pre .0, s .pre .1))
 
-slice-aggregate-put-text-2 : tie.Need-slice-aggregate-put-text-2
-slice-aggregate-put-text-2 c = search needs
-
 put-text-requires-2 : tie.Need-put-text-requires-2
 unfolding satisfiableText
 put-text-requires-2 c κs =
@@ -49,12 +43,6 @@ put-text-requires-2 c κs =
     let room2 = front-room 0 (satisfiableHead ++ names) valuesEnd (a .out .now) room3 in
     let put2 = put-both 0 satisfiableHead names (a .out .now) room2 _ _ (one .put-text .ensures) _ _ (two .put-literals .ensures) in
     back-room 0 (satisfiableHead ++ names) valuesEnd (a .out .now) room3 _ _ put2 (two .put-literals .kept .0 ∙ one .put-text .kept .0)
-
-slice-aggregate-put-line : tie.Need-slice-aggregate-put-line
-slice-aggregate-put-line c = search needs
-
-slice-aggregate-put-line-2 : tie.Need-slice-aggregate-put-line-2
-slice-aggregate-put-line-2 c = search needs
 
 put-line-requires : tie.Need-put-line-requires
 unfolding satisfiableText
@@ -72,9 +60,6 @@ put-line-requires c κs =
     let put2 = put-both 0 satisfiableHead names (a .out .now) room2 _ _ (one .put-text .ensures) _ _ (two .put-literals .ensures) in
     let put3 = put-both 0 (satisfiableHead ++ names) valuesEnd (a .out .now) room3 _ _ put2 _ _ (three .put-text2 .ensures) in
     back-room 0 (satisfiableHead ++ names ++ valuesEnd) last (a .out .now) room4 _ _ put3 (three .put-text2 .kept .0 ∙ two .put-literals .kept .0 ∙ one .put-text .kept .0)
-
-same-length : tie.Need-same-length
-same-length c = search needs
 
 returns : tie.Need-returns
 unfolding satisfiableText
@@ -98,13 +83,13 @@ pub put-satisfiable-spec : {M : Type 1} → statement M
 put-satisfiable-spec =
     tie.close
     (tie.spec
-    slice-aggregate-put-text
+    (λ c. search needs)
     put-text-requires
     put-literals-requires
-    slice-aggregate-put-text-2
+    (λ c. search needs)
     put-text-requires-2
-    slice-aggregate-put-line
-    slice-aggregate-put-line-2
+    (λ c. search needs)
+    (λ c. search needs)
     put-line-requires
-    same-length
+    (λ c. search needs)
     returns)

@@ -8,20 +8,11 @@ use Rattle.program_text.specs.Laws.ReportLaws.{put-front, unknown-length
 use Rattle.program_text.proofs.put_unknown.Statement.{statement}
 use Rattle.program_text.proofs.put_unknown.Tie as tie
 
-slice-aggregate-put-line : tie.Need-slice-aggregate-put-line
-slice-aggregate-put-line c = search needs
-
-slice-aggregate-put-line-2 : tie.Need-slice-aggregate-put-line-2
-slice-aggregate-put-line-2 c = search needs
-
 put-line-requires : tie.Need-put-line-requires
 unfolding unknownText
 put-line-requires c κs =
     let s = c .before .before .before .before in
     at-front (unknownText (s .args .bound) (s .args .filled)) (s .args .out .now) (le-trans (unknown-length (s .args .bound) (s .args .filled) (omega arith) (omega arith)) (s .pre))
-
-same-length : tie.Need-same-length
-same-length c = search needs
 
 returns : tie.Need-returns
 unfolding unknownText
@@ -31,8 +22,8 @@ pub put-unknown-spec : {M : Type 1} → statement M
 put-unknown-spec =
     tie.close
     (tie.spec
-    slice-aggregate-put-line
-    slice-aggregate-put-line-2
+    (λ c. search needs)
+    (λ c. search needs)
     put-line-requires
-    same-length
+    (λ c. search needs)
     returns)

@@ -9,18 +9,12 @@ use Rattle.program_text.specs.Laws.ReportLaws.{put-front, unsatisfiable-
 use Rattle.program_text.proofs.put_unsatisfiable.Statement.{statement}
 use Rattle.program_text.proofs.put_unsatisfiable.Tie as tie
 
-slice-aggregate-put-field : tie.Need-slice-aggregate-put-field
-slice-aggregate-put-field c = search needs
-
 put-field-requires : tie.Need-put-field-requires
 unfolding unsatisfiableText
 put-field-requires c κs =
     let s = c .before .before .before in
     let room = at-front (unsatisfiableText (s .args .filled)) (s .args .out .now) (le-trans (unsatisfiable-length (s .args .filled) (omega arith)) (s .pre)) in
     front-room 0 (field unsatisfiableHead (s .args .filled)) lineEnd (s .args .out .now) room
-
-slice-aggregate-put-text : tie.Need-slice-aggregate-put-text
-slice-aggregate-put-text c = search needs
 
 put-text-requires : tie.Need-put-text-requires
 unfolding unsatisfiableText
@@ -29,9 +23,6 @@ put-text-requires c κs =
     let s = one .before .before .before .before in
     let room = at-front (unsatisfiableText (s .args .filled)) (s .args .out .now) (le-trans (unsatisfiable-length (s .args .filled) (omega arith)) (s .pre)) in
     back-room 0 (field unsatisfiableHead (s .args .filled)) lineEnd (s .args .out .now) room _ _ (one .put-field .ensures) (one .put-field .kept .0)
-
-same-length : tie.Need-same-length
-same-length c = search needs
 
 returns : tie.Need-returns
 unfolding unsatisfiableText
@@ -46,9 +37,9 @@ pub put-unsatisfiable-spec : {M : Type 1} → statement M
 put-unsatisfiable-spec =
     tie.close
     (tie.spec
-    slice-aggregate-put-field
+    (λ c. search needs)
     put-field-requires
-    slice-aggregate-put-text
+    (λ c. search needs)
     put-text-requires
-    same-length
+    (λ c. search needs)
     returns)

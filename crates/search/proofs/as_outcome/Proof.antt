@@ -5,15 +5,6 @@ use borrow.Author.Needs.{needs}
 use Rattle.search.proofs.as_outcome.Statement.{statement}
 use Rattle.search.proofs.as_outcome.Tie as tie
 
-enum-known-a : tie.Need-enum-known-a
-enum-known-a c = search needs
-
-enum-known-a-2 : tie.Need-enum-known-a-2
-enum-known-a-2 c = search needs
-
-enum-known-a-3 : tie.Need-enum-known-a-3
-enum-known-a-3 c = search needs
-
 returns : tie.Need-returns
 returns c = sym (ap answerOf (c .before .a .given .1))
 
@@ -25,4 +16,4 @@ returns-3 c = sym (ap answerOf (c .before .a3 .given .1))
 
 pub as-outcome-spec : {M : Type 1} → statement M
 as-outcome-spec =
-    tie.close (tie.spec enum-known-a enum-known-a-2 enum-known-a-3 returns returns-2 returns-3)
+    tie.close (tie.spec (λ c. search needs) (λ c. search needs) (λ c. search needs) returns returns-2 returns-3)

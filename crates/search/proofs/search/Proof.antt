@@ -9,12 +9,6 @@ use Rattle.search.proofs.search.Tie as tie
 problem-refusal-requires : tie.Need-problem-refusal-requires
 problem-refusal-requires c κs = tt
 
-enum-told : tie.Need-enum-told
-enum-told c = search needs
-
-enum-known-checked : tie.Need-enum-known-checked
-enum-known-checked c = search needs
-
 returns : tie.Need-returns
 returns c = searched-faulty _ _ _ _ _ _ _ (c .before .before .before .problem-refusal .ensures) _ _ (c .before .checked .given .1)
 
@@ -69,8 +63,8 @@ search-spec =
     tie.close
     (tie.spec
     problem-refusal-requires
-    enum-told
-    enum-known-checked
+    (λ c. search needs)
+    (λ c. search needs)
     returns
     room-requires
     same-length

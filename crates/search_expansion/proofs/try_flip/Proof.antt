@@ -10,29 +10,14 @@ use Rattle.search_expansion.proofs.try_flip.Tie as tie
 flip-covered-requires : tie.Need-flip-covered-requires
 flip-covered-requires c κs = (c .before .before .before .before .before .before .before .before .pre .0 .coverable, c .before .before .before .before .before .before .before .before .pre .2)
 
-same-length : tie.Need-same-length
-same-length c = search needs
-
-same-length-2 : tie.Need-same-length-2
-same-length-2 c = search needs
-
 returns : tie.Need-returns
 returns c = (λ vs. flip-covered _ _ _ _ _ vs _ _ (sym (c .before .flip-covered .ensures) ∙ c .if1 .taken), follows-same _ _ _ _ _ (c .before .before .before .before .before .before .before .before .before .before .pre .0 .coverable .askable .indexed))
-
-same-length-3 : tie.Need-same-length-3
-same-length-3 c = search needs
-
-same-length-4 : tie.Need-same-length-4
-same-length-4 c = search needs
 
 returns-2 : tie.Need-returns-2
 returns-2 c = (λ vs. flip-full _ _ _ _ _ vs _ _ (sym (c .before .before .before .flip-covered .ensures) ∙ c .before .before .if1 .left) (c .if2 .taken), follows-same _ _ _ _ _ (c .before .before .before .before .before .before .before .before .before .before .before .before .pre .0 .coverable .askable .indexed))
 
 flip-requires : tie.Need-flip-requires
 flip-requires c κs = search needs
-
-add-deeper : tie.Need-add-deeper
-add-deeper c = search needs
 
 add-requires : tie.Need-add-requires
 add-requires c κs = fillable-addable (c .before .before .before .before .before .before .before .before .before .before .before .before .before .before .before .pre .0) (c .before .before .before .before .before .before .before .before .before .before .before .before .before .before .before .pre .1) (c .before .before .before .if2 .left) _ _ (c .before .before .before .before .before .before .before .before .before .before .before .before .before .before .before .pre .2) (c .before .before .flip .ensures)
@@ -41,21 +26,6 @@ fill-requires : tie.Need-fill-requires
 fill-requires c κs =
     let room = c .before .before .before .before .before .before .before .before .before .before .before .before .before .before .before .before .before .before .before .before .before .pre .0 .room in
     (lt-of-lt-of-le (c .before .before .before .before .before .before .before .before .before .if2 .left) (room .falsified-room), lt-of-lt-of-le (c .before .before .before .before .before .before .before .before .before .if2 .left) (room .depths-room))
-
-add-more : tie.Need-add-more
-add-more c = search needs
-
-same-length-5 : tie.Need-same-length-5
-same-length-5 c = search needs
-
-same-length-6 : tie.Need-same-length-6
-same-length-6 c = search needs
-
-same-length-7 : tie.Need-same-length-7
-same-length-7 c = search needs
-
-same-length-8 : tie.Need-same-length-8
-same-length-8 c = search needs
 
 returns-3 : tie.Need-returns-3
 returns-3 c =
@@ -71,19 +41,19 @@ try-flip-spec =
     tie.close
     (tie.spec
     flip-covered-requires
-    same-length
-    same-length-2
+    (λ c. search needs)
+    (λ c. search needs)
     returns
-    same-length-3
-    same-length-4
+    (λ c. search needs)
+    (λ c. search needs)
     returns-2
     flip-requires
-    add-deeper
+    (λ c. search needs)
     add-requires
     fill-requires
-    add-more
-    same-length-5
-    same-length-6
-    same-length-7
-    same-length-8
+    (λ c. search needs)
+    (λ c. search needs)
+    (λ c. search needs)
+    (λ c. search needs)
+    (λ c. search needs)
     returns-3)

@@ -8,12 +8,6 @@ use borrow.Author.Needs.{needs}
 use Rattle.search_loop.proofs.outgrown.Statement.{statement}
 use Rattle.search_loop.proofs.outgrown.Tie as tie
 
-cast-most : tie.Need-cast-most
-cast-most c = search needs
-
-add-most : tie.Need-add-most
-add-most c = search needs
-
 returns : tie.Need-returns
 returns c = let a = c .before .before .before .args in sym (ap (λ b. b && ltb (a .heads) (a .filled + a .g .variables)) (lt-ltb (a .heads) (a .g .room) (c .before .if1 .taken)))
 
@@ -21,4 +15,4 @@ returns-2 : tie.Need-returns-2
 returns-2 c = let a = c .before .before .args in sym (ap (λ b. b && ltb (a .heads) (a .filled + a .g .variables)) (le-ltb (a .heads) (a .g .room) (c .if1 .left)))
 
 pub outgrown-spec : {M : Type 1} → statement M
-outgrown-spec = tie.close (tie.spec cast-most add-most returns returns-2)
+outgrown-spec = tie.close (tie.spec (λ c. search needs) (λ c. search needs) returns returns-2)

@@ -21,20 +21,11 @@ stored : (c : tie.After-fill)
 stored c =
     (held-first (lends-fewer (c .before .before .before .before .before .before .before .before .before .before .pre .0 .some) (c .before .before .before .before .before .before .before .before .before .before .pre .1)) (c .fill .ensures), record { points-length = c .fill .kept .0; falsified-length = c .fill .kept .1 .0; depths-length = c .fill .kept .1 .1 .0 })
 
-slice-aggregate-explore-with : tie.Need-slice-aggregate-explore-with
-slice-aggregate-explore-with c = search needs
-
 explore-with-requires : tie.Need-explore-with-requires
 explore-with-requires c κs =
     let pre = c .before .before .before .before .before .before .before .before .before .before .before .before .before .before .before .before .before .before .before .before .pre in
     let first = stored (c .before .before .before .before .before .before .before .before .before .before) in
     (pre .0, lends-still (pre .1) (first .1), begun-midway _ _ _ _ (pre .0) (first .0), zeros-links 512 1536 refl)
-
-enum-known-stage : tie.Need-enum-known-stage
-enum-known-stage c = search needs
-
-enum-known-stage-2 : tie.Need-enum-known-stage-2
-enum-known-stage-2 c = search needs
 
 resume-requires : tie.Need-resume-requires
 resume-requires c κs =
@@ -46,28 +37,10 @@ resume-requires c κs =
       stage-midway _ _ _ _ (pre .0) _ _ _ _ _ _ (c .before .before .before .before .before .before .before .before .before .before .before .before .before .explore-with .ensures) _ _ (c .before .before .before .before .stage2 .given .1) (begun-midway _ _ _ _ (pre .0) (first .0)),
     )
 
-same-length : tie.Need-same-length
-same-length c = search needs
-
-same-length-2 : tie.Need-same-length-2
-same-length-2 c = search needs
-
-same-length-3 : tie.Need-same-length-3
-same-length-3 c = search needs
-
 returns : tie.Need-returns
 returns c =
     let first = stored (c .before .before .before .before .before .before .before .before .before .before .before .before .before .before .before .before .before .before .before .before .before) in
     begun-ends _ _ _ _ (c .before .before .before .before .before .before .before .before .before .before .before .before .before .before .before .before .before .before .before .before .before .before .before .before .before .before .before .before .before .before .before .pre .0) (first .0) (stage-answered _ _ _ _ (c .before .before .before .before .before .before .before .before .before .before .before .before .before .before .before .before .before .before .before .before .before .before .before .before .before .before .before .before .before .before .before .pre .0) _ _ _ _ _ _ (c .before .before .before .before .before .before .before .before .before .before .explore-with .ensures) _ (c .before .stage .given .1))
-
-same-length-4 : tie.Need-same-length-4
-same-length-4 c = search needs
-
-same-length-5 : tie.Need-same-length-5
-same-length-5 c = search needs
-
-same-length-6 : tie.Need-same-length-6
-same-length-6 c = search needs
 
 returns-2 : tie.Need-returns-2
 returns-2 c =
@@ -79,16 +52,16 @@ start-spec =
     tie.close
     (tie.spec
     fill-requires
-    slice-aggregate-explore-with
+    (λ c. search needs)
     explore-with-requires
-    enum-known-stage
-    enum-known-stage-2
+    (λ c. search needs)
+    (λ c. search needs)
     resume-requires
-    same-length
-    same-length-2
-    same-length-3
+    (λ c. search needs)
+    (λ c. search needs)
+    (λ c. search needs)
     returns
-    same-length-4
-    same-length-5
-    same-length-6
+    (λ c. search needs)
+    (λ c. search needs)
+    (λ c. search needs)
     returns-2)

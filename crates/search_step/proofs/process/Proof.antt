@@ -14,23 +14,11 @@ use Rattle.search_step.proofs.process.Tie as tie
 point-at-requires : tie.Need-point-at-requires
 point-at-requires c κs = search needs
 
-mul-d : tie.Need-mul-d
-mul-d c = search needs
-
-slice-read-d : tie.Need-slice-read-d
-slice-read-d c = search needs
-
 first-falsified-requires : tie.Need-first-falsified-requires
 first-falsified-requires c κs = search needs
 
 distance-requires : tie.Need-distance-requires
 distance-requires c κs = search needs
-
-cast-slots : tie.Need-cast-slots
-cast-slots c = search needs
-
-same-length : tie.Need-same-length
-same-length c = search needs
 
 returns : tie.Need-returns
 returns c = (λ old p w st. step-met _ _ _ _ (c .before .before .before .before .before .before .before .before .before .before .before .before .before .before .pre .0) _ _ (c .before .before .before .before .point-at .ensures) (c .before .before .first-falsified .ensures) (c .before .before .before .before .before .before .before .before .before .before .before .before .before .before .pre .2) w _ (c .before .if1 .taken) (c .distance .ensures) st, tt)
@@ -39,15 +27,6 @@ cast-stored : tie.Need-cast-stored
 cast-stored c =
     let a = c .before .before .before .before .before .before .before .before .before .before .before .before .before .args in
     omega (arith, c .before .first-falsified .ensures, falsified-le (clausesOf (a .positive .now) (a .negative .now)) (c .before .before .before .point-at .result) 0, c .before .before .before .before .before .before .before .before .before .before .before .before .before .pre .0 .clauses)
-
-mul-falsified : tie.Need-mul-falsified
-mul-falsified c = search needs
-
-slice-write-falsified : tie.Need-slice-write-falsified
-slice-write-falsified c = search needs
-
-sub-clause-at : tie.Need-sub-clause-at
-sub-clause-at c = search needs
 
 clause-at-requires : tie.Need-clause-at-requires
 clause-at-requires c κs = search needs
@@ -76,17 +55,8 @@ expand-requires c κs =
     let a = read (c .before .before .before .before) in
     (read-fillable _ _ _ _ (pre .0) (pre .2) a (pre .3) (pre .4) (pre .1) (pre .6), pre .5, read-below _ _ _ _ (pre .0) (pre .2) a (pre .3))
 
-same-length-2 : tie.Need-same-length-2
-same-length-2 c = search needs
-
 same-length-3 : tie.Need-same-length-3
 same-length-3 c = simp length-set at (c .before .before .before .before .before .before .before .before .before .expand .kept .1 .1 .1 .1 .0)
-
-same-length-4 : tie.Need-same-length-4
-same-length-4 c = search needs
-
-same-length-5 : tie.Need-same-length-5
-same-length-5 c = search needs
 
 returns-2 : tie.Need-returns-2
 returns-2 c =
@@ -97,17 +67,8 @@ cast-total : tie.Need-cast-total
 cast-total c =
     omega (arith, read-room _ _ _ _ (c .before .before .before .before .before .before .before .before .before .before .before .before .before .before .before .before .before .before .before .before .before .before .before .before .before .before .before .before .before .pre .0) (c .before .before .before .before .before .before .before .before .before .before .before .before .before .before .before .before .before .before .before .before .before .before .before .before .before .before .before .before .before .pre .2) (read (c .before .before .before .before .before .before .before .before .before .before .before .before .before .before)) (c .before .before .before .before .before .before .before .before .before .expand .ensures .0) (c .before .before .before .before .before .before .before .before .before .before .before .before .before .before .before .before .before .before .before .before .before .before .before .before .before .before .before .before .before .pre .3), c .before .before .before .before .before .before .before .before .before .before .before .before .before .before .before .before .before .before .before .before .before .before .before .before .before .before .before .before .before .pre .0 .most)
 
-same-length-6 : tie.Need-same-length-6
-same-length-6 c = search needs
-
 same-length-7 : tie.Need-same-length-7
 same-length-7 c = simp length-set at (c .before .before .before .before .before .before .before .before .before .expand .kept .1 .1 .1 .1 .0)
-
-same-length-8 : tie.Need-same-length-8
-same-length-8 c = search needs
-
-same-length-9 : tie.Need-same-length-9
-same-length-9 c = search needs
 
 returns-3 : tie.Need-returns-3
 returns-3 c = (read-stuck _ _ _ _ (c .before .before .before .before .before .before .before .before .before .before .before .before .before .before .before .before .before .before .before .before .before .before .before .before .before .before .before .before .before .pre .0) (c .before .before .before .before .before .before .before .before .before .before .before .before .before .before .before .before .before .before .before .before .before .before .before .before .before .before .before .before .before .pre .2) (read (c .before .before .before .before .before .before .before .before .before .before .before .before .before .before)) (c .before .before .before .before .before .before .before .before .before .expand .ensures .0) (c .if2 .left), tt)
@@ -117,28 +78,28 @@ process-spec =
     tie.close
     (tie.spec
     point-at-requires
-    mul-d
-    slice-read-d
+    (λ c. search needs)
+    (λ c. search needs)
     first-falsified-requires
     distance-requires
-    cast-slots
-    same-length
+    (λ c. search needs)
+    (λ c. search needs)
     returns
     cast-stored
-    mul-falsified
-    slice-write-falsified
-    sub-clause-at
+    (λ c. search needs)
+    (λ c. search needs)
+    (λ c. search needs)
     clause-at-requires
     listed-requires
     expand-requires
-    same-length-2
+    (λ c. search needs)
     same-length-3
-    same-length-4
-    same-length-5
+    (λ c. search needs)
+    (λ c. search needs)
     returns-2
     cast-total
-    same-length-6
+    (λ c. search needs)
     same-length-7
-    same-length-8
-    same-length-9
+    (λ c. search needs)
+    (λ c. search needs)
     returns-3)

@@ -10,35 +10,17 @@ use Rattle.slot_prefixes.proofs.search_front.Reads as reads
 use Rattle.slot_prefixes.proofs.search_front.Lts as lts
 use Rattle.search.proofs.search.Reads as search-reads
 
-slice-relend-prefix-search : tie.Need-slice-relend-prefix-search
-slice-relend-prefix-search c = search needs
-
 slice-aggregate-search : tie.Need-slice-aggregate-search
 slice-aggregate-search c = sym (length-take-le (c .before .before .before .before .before .before .args .k) (c .before .before .before .before .before .before .args .points .now) (c .before .before .before .before .before .before .pre .inPoints))
 
-slice-relend-prefix-search-2 : tie.Need-slice-relend-prefix-search-2
-slice-relend-prefix-search-2 c = search needs
-
 slice-aggregate-search-2 : tie.Need-slice-aggregate-search-2
 slice-aggregate-search-2 c = sym (length-take-le (c .before .before .before .before .before .before .before .args .k) (c .before .before .before .before .before .before .before .args .falsified .now) (c .before .before .before .before .before .before .before .pre .inFalsified))
-
-slice-relend-prefix-search-3 : tie.Need-slice-relend-prefix-search-3
-slice-relend-prefix-search-3 c = search needs
 
 slice-aggregate-search-3 : tie.Need-slice-aggregate-search-3
 slice-aggregate-search-3 c = sym (length-take-le (c .before .before .before .before .before .before .before .before .args .k) (c .before .before .before .before .before .before .before .before .args .depths .now) (c .before .before .before .before .before .before .before .before .pre .inDepths))
 
 search-requires : tie.Need-search-requires
 search-requires c κs = search needs
-
-same-length : tie.Need-same-length
-same-length c = search needs
-
-same-length-2 : tie.Need-same-length-2
-same-length-2 c = search needs
-
-same-length-3 : tie.Need-same-length-3
-same-length-3 c = search needs
 
 returns : tie.Need-returns
 returns c =
@@ -57,14 +39,14 @@ pub search-front-spec : {M : Type 1} → statement M
 search-front-spec =
     tie.close
     (tie.spec
-    slice-relend-prefix-search
+    (λ c. search needs)
     slice-aggregate-search
-    slice-relend-prefix-search-2
+    (λ c. search needs)
     slice-aggregate-search-2
-    slice-relend-prefix-search-3
+    (λ c. search needs)
     slice-aggregate-search-3
     search-requires
-    same-length
-    same-length-2
-    same-length-3
+    (λ c. search needs)
+    (λ c. search needs)
+    (λ c. search needs)
     returns)

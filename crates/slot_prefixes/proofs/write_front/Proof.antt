@@ -20,12 +20,6 @@ slice-aggregate-write-3 c = sym (length-take-le (c .before .before .before .befo
 write-requires : tie.Need-write-requires
 write-requires c κs = search needs
 
-same-length : tie.Need-same-length
-same-length c = search needs
-
-returns : tie.Need-returns
-returns c = search needs
-
 pub write-front-spec : {M : Type 1} → statement M
 write-front-spec =
     tie.close
@@ -34,5 +28,5 @@ write-front-spec =
     slice-aggregate-write-2
     slice-aggregate-write-3
     write-requires
-    same-length
-    returns)
+    (λ c. search needs)
+    (λ c. search needs))

@@ -9,29 +9,17 @@ use Rattle.solver.proofs.certify.Tie as tie
 write-requires : tie.Need-write-requires
 write-requires c κs = search needs
 
-enum-known-written : tie.Need-enum-known-written
-enum-known-written c = search needs
-
 confirm-requires : tie.Need-confirm-requires
 unfolding replyOf
 confirm-requires c κs =
     let wrote = c .before .before .before .before .before .before .write in
     acceptable _ _ _ _ _ _ _ (c .before .before .before .before .before .before .before .before .before .before .before .before .before .before .pre) _ _ (wrote .ensures .output) (wrote .kept .1 .1 .1 .1 .1 .1 .1 .0) _ (ap replyOf (sym (c .before .before .written .given .1)) ∙ wrote .ensures .reply)
 
-enum-known-written-2 : tie.Need-enum-known-written-2
-enum-known-written-2 c = search needs
-
-same-length : tie.Need-same-length
-same-length c = search needs
-
 returns : tie.Need-returns
 unfolding replyOf
 returns c =
     let wrote = c .before .before .before .before .before .before .before .write in
     certifies _ _ _ _ _ _ _ (c .before .before .before .before .before .before .before .before .before .before .before .before .before .before .before .pre) _ _ (wrote .ensures .output) _ _ (c .confirm .ensures) (ap replyOf (sym (c .before .before .before .written .given .1)) ∙ wrote .ensures .reply)
-
-same-length-2 : tie.Need-same-length-2
-same-length-2 c = search needs
 
 returns-2 : tie.Need-returns-2
 unfolding replyOf
@@ -44,10 +32,10 @@ certify-spec =
     tie.close
     (tie.spec
     write-requires
-    enum-known-written
+    (λ c. search needs)
     confirm-requires
-    enum-known-written-2
-    same-length
+    (λ c. search needs)
+    (λ c. search needs)
     returns
-    same-length-2
+    (λ c. search needs)
     returns-2)

@@ -10,26 +10,8 @@ use Rattle.checker.specs.Contract.{replyOf}
 use Rattle.solver.proofs.confirm.Statement.{statement}
 use Rattle.solver.proofs.confirm.Tie as tie
 
-sub-check : tie.Need-sub-check
-sub-check c = search needs
-
-part-check-start : tie.Need-part-check-start
-part-check-start c = search needs
-
-part-check-end : tie.Need-part-check-end
-part-check-end c = search needs
-
 check-requires : tie.Need-check-requires
 check-requires c κs = search needs
-
-enum-told : tie.Need-enum-told
-enum-told c = search needs
-
-enum-known-verdict : tie.Need-enum-known-verdict
-enum-known-verdict c = search needs
-
-returns : tie.Need-returns
-returns c = search needs
 
 returns-2 : tie.Need-returns-2
 unfolding replyOf
@@ -42,11 +24,11 @@ pub confirm-spec : {M : Type 1} → statement M
 confirm-spec =
     tie.close
     (tie.spec
-    sub-check
-    part-check-start
-    part-check-end
+    (λ c. search needs)
+    (λ c. search needs)
+    (λ c. search needs)
     check-requires
-    enum-told
-    enum-known-verdict
-    returns
+    (λ c. search needs)
+    (λ c. search needs)
+    (λ c. search needs)
     returns-2)

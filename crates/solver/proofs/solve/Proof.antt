@@ -10,44 +10,14 @@ use Rattle.solver.specs.Laws.SolverLaws.{solves-refused, solves-read, cl
 use Rattle.solver.proofs.solve.Statement.{statement}
 use Rattle.solver.proofs.solve.Tie as tie
 
-slice-aggregate-read : tie.Need-slice-aggregate-read
-slice-aggregate-read c = search needs
-
-slice-aggregate-read-2 : tie.Need-slice-aggregate-read-2
-slice-aggregate-read-2 c = search needs
-
 read-requires : tie.Need-read-requires
 read-requires c κs = search needs
-
-enum-told : tie.Need-enum-told
-enum-told c = search needs
-
-slice-aggregate-solve-read : tie.Need-slice-aggregate-solve-read
-slice-aggregate-solve-read c = search needs
-
-slice-aggregate-solve-read-2 : tie.Need-slice-aggregate-solve-read-2
-slice-aggregate-solve-read-2 c = search needs
 
 solve-read-requires : tie.Need-solve-read-requires
 solve-read-requires c κs =
     let called = c .before .before .before .before .before .before .before .before .before .before .before .read in
     let few = clauses-held _ _ _ (ap replyOf (sym (c .before .before .before .before .before .before .enum-told .given .1)) ∙ called .ensures .reply) _ (called .ensures .formula) in
     (le-trans few (le-of-eq (sym (called .kept .1 .0 ∙ length-replicate {A = ℕ} 4096 0))), le-trans few (le-of-eq (sym (called .kept .1 .1 .0 ∙ length-replicate {A = ℕ} 4096 0))))
-
-enum-known-answer : tie.Need-enum-known-answer
-enum-known-answer c = search needs
-
-same-length : tie.Need-same-length
-same-length c = search needs
-
-same-length-2 : tie.Need-same-length-2
-same-length-2 c = search needs
-
-same-length-3 : tie.Need-same-length-3
-same-length-3 c = search needs
-
-same-length-4 : tie.Need-same-length-4
-same-length-4 c = search needs
 
 returns : tie.Need-returns
 unfolding blank
@@ -63,17 +33,17 @@ pub solve-spec : {M : Type 1} → statement M
 solve-spec =
     tie.close
     (tie.spec
-    slice-aggregate-read
-    slice-aggregate-read-2
+    (λ c. search needs)
+    (λ c. search needs)
     read-requires
-    enum-told
-    slice-aggregate-solve-read
-    slice-aggregate-solve-read-2
+    (λ c. search needs)
+    (λ c. search needs)
+    (λ c. search needs)
     solve-read-requires
-    enum-known-answer
-    same-length
-    same-length-2
-    same-length-3
-    same-length-4
+    (λ c. search needs)
+    (λ c. search needs)
+    (λ c. search needs)
+    (λ c. search needs)
+    (λ c. search needs)
     returns
     returns-2)

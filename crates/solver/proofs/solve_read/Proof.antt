@@ -10,41 +10,8 @@ use Rattle.solver.specs.Contract.{Solved}
 use Rattle.solver.proofs.solve_read.Statement.{statement}
 use Rattle.solver.proofs.solve_read.Tie as tie
 
-cast-total : tie.Need-cast-total
-cast-total c = search needs
-
-sub-wanted : tie.Need-sub-wanted
-sub-wanted c = search needs
-
-part-wanted-start : tie.Need-part-wanted-start
-part-wanted-start c = search needs
-
-part-wanted-end : tie.Need-part-wanted-end
-part-wanted-end c = search needs
-
-sub-unwanted : tie.Need-sub-unwanted
-sub-unwanted c = search needs
-
-part-unwanted-start : tie.Need-part-unwanted-start
-part-unwanted-start c = search needs
-
-part-unwanted-end : tie.Need-part-unwanted-end
-part-unwanted-end c = search needs
-
 solve-formula-requires : tie.Need-solve-formula-requires
 solve-formula-requires c κs = search needs
-
-same-length : tie.Need-same-length
-same-length c = search needs
-
-same-length-2 : tie.Need-same-length-2
-same-length-2 c = search needs
-
-same-length-3 : tie.Need-same-length-3
-same-length-3 c = search needs
-
-same-length-4 : tie.Need-same-length-4
-same-length-4 c = search needs
 
 returns : tie.Need-returns
 returns c =
@@ -57,16 +24,16 @@ pub solve-read-spec : {M : Type 1} → statement M
 solve-read-spec =
     tie.close
     (tie.spec
-    cast-total
-    sub-wanted
-    part-wanted-start
-    part-wanted-end
-    sub-unwanted
-    part-unwanted-start
-    part-unwanted-end
+    (λ c. search needs)
+    (λ c. search needs)
+    (λ c. search needs)
+    (λ c. search needs)
+    (λ c. search needs)
+    (λ c. search needs)
+    (λ c. search needs)
     solve-formula-requires
-    same-length
-    same-length-2
-    same-length-3
-    same-length-4
+    (λ c. search needs)
+    (λ c. search needs)
+    (λ c. search needs)
+    (λ c. search needs)
     returns)

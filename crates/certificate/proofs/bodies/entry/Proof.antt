@@ -10,21 +10,6 @@ use Rattle.certificate.specs.Bytes.{numberFrom}
 use Rattle.certificate.proofs.bodies.entry.Statement.{statement}
 use Rattle.certificate.proofs.bodies.entry.Tie as tie
 
-mul-start : tie.Need-mul-start
-mul-start c = search needs
-
-add-end : tie.Need-add-end
-add-end c = search needs
-
-sub-number-from : tie.Need-sub-number-from
-sub-number-from c = search needs
-
-part-number-from-start : tie.Need-part-number-from-start
-part-number-from-start c = search needs
-
-part-number-from-end : tie.Need-part-number-from-end
-part-number-from-end c = search needs
-
 number-from-requires : tie.Need-number-from-requires
 number-from-requires c κs = search needs
 
@@ -41,10 +26,10 @@ pub entry-spec : {M : Type 1} → statement M
 entry-spec =
     tie.close
     (tie.spec
-    mul-start
-    add-end
-    sub-number-from
-    part-number-from-start
-    part-number-from-end
+    (λ c. search needs)
+    (λ c. search needs)
+    (λ c. search needs)
+    (λ c. search needs)
+    (λ c. search needs)
     number-from-requires
     returns)

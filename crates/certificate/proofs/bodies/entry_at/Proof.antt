@@ -11,9 +11,6 @@ use Rattle.certificate.specs.Laws.ReaderLaws.{number-inside, number-outs
 use Rattle.certificate.proofs.bodies.entry_at.Statement.{statement}
 use Rattle.certificate.proofs.bodies.entry_at.Tie as tie
 
-div-held : tie.Need-div-held
-div-held c = search needs
-
 entry-requires : tie.Need-entry-requires
 entry-requires c κs =
     let start = c .before .before in
@@ -34,4 +31,4 @@ returns-2 c =
     sym (number-outside (a .width) (a .body .now) (a .i) (c .if1 .left))
 
 pub entry-at-spec : {M : Type 1} → statement M
-entry-at-spec = tie.close (tie.spec div-held entry-requires returns returns-2)
+entry-at-spec = tie.close (tie.spec (λ c. search needs) entry-requires returns returns-2)

@@ -8,13 +8,10 @@ use Rattle.certificate.proofs.bodies.field.Tie as tie
 entry-requires : tie.Need-entry-requires
 entry-requires c κs = search needs
 
-cast-result : tie.Need-cast-result
-cast-result c = search needs
-
 returns : tie.Need-returns
 returns c =
     let start = c .before .before in
     c .entry .ensures .0 ∙ sym (number-of 4 8 (start .args .file .now) (start .args .i) (start .pre .0))
 
 pub field-spec : {M : Type 1} → statement M
-field-spec = tie.close (tie.spec entry-requires cast-result returns)
+field-spec = tie.close (tie.spec entry-requires (λ c. search needs) returns)

@@ -22,15 +22,6 @@ returns-2 c =
     let a = c .before .before .args in
     record { value = sym (image-behind (a .n) (a .body .now) (a .j) (a .i) (omega (arith, c .if2 .taken))) }
 
-sub-last : tie.Need-sub-last
-sub-last c = search needs
-
-sub-last-2 : tie.Need-sub-last-2
-sub-last-2 c = search needs
-
-div-if3 : tie.Need-div-if3
-div-if3 c = search needs
-
 returns-3 : tie.Need-returns-3
 unfolding valueOf
 returns-3 c =
@@ -73,9 +64,9 @@ image-at-spec =
     (tie.spec
     returns
     returns-2
-    sub-last
-    sub-last-2
-    div-if3
+    (λ c. search needs)
+    (λ c. search needs)
+    (λ c. search needs)
     returns-3
     mul-at
     add-at

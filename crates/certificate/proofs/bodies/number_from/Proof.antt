@@ -24,12 +24,6 @@ loop-holds c =
     let one : 0 < 256 ^ (length bytes - length bytes) = one-le-pow (length bytes - length bytes) 256 (zero-lt-suc 255) in
     (le-refl _, sym (ap numberFrom (drop-length bytes)), one)
 
-sub-i : tie.Need-sub-i Inv-loop μ-loop
-sub-i c = search needs
-
-shared-slice-read-byte : tie.Need-shared-slice-read-byte Inv-loop μ-loop
-shared-slice-read-byte c = search needs
-
 -- a byte is below 256
 byte : (c : tie.After-shared-slice-known Inv-loop μ-loop) → getD (c .before .before .before .args .bytes .now) (c .before .before .loop .i - 1) 0 < 256
 byte c = omega (arith, c .shared-slice-known .given (c .before .before .loop .i - 1))
@@ -59,9 +53,6 @@ mul-higher c = let b = bound c in let small = byte c in omega arith
 add-r : tie.Need-add-r Inv-loop μ-loop
 add-r c = let b = bound c in let small = byte c in omega arith
 
-loop-less : tie.Need-loop-less Inv-loop μ-loop
-loop-less c = search needs
-
 loop-again : tie.Need-loop-again Inv-loop μ-loop
 loop-again c =
     let l = c .before .before .loop in
@@ -85,11 +76,11 @@ number-from-spec =
     Inv-loop
     μ-loop
     loop-holds
-    sub-i
-    shared-slice-read-byte
+    (λ c. search needs)
+    (λ c. search needs)
     cast-byte
     mul-higher
     add-r
-    loop-less
+    (λ c. search needs)
     loop-again
     returns)

@@ -30,18 +30,6 @@ entry-requires c κs =
 cast-to : tie.Need-cast-to Inv-loop μ-loop
 cast-to c = omega (arith, c .entry .ensures .1)
 
-mul-to : tie.Need-mul-to Inv-loop μ-loop
-mul-to c = search needs
-
-slice-write-to : tie.Need-slice-write-to Inv-loop μ-loop
-slice-write-to c = search needs
-
-add-i : tie.Need-add-i Inv-loop μ-loop
-add-i c = search needs
-
-loop-less : tie.Need-loop-less Inv-loop μ-loop
-loop-less c = search needs
-
 loop-again : tie.Need-loop-again Inv-loop μ-loop
 loop-again c =
     let l = c .before .before .loop in
@@ -51,9 +39,6 @@ loop-again c =
       length-set (l .to) (l .i) x ∙ l .inv .1,
       ap (λ xs. set xs (l .i) x) (l .inv .2) ∙ into-next numberWidth (l .i) (a .body .now) (a .to .now) x (c .entry .ensures .0) (omega arith),
     )
-
-same-length : tie.Need-same-length Inv-loop μ-loop
-same-length c = search needs
 
 returns : tie.Need-returns Inv-loop μ-loop
 returns c =
@@ -69,10 +54,10 @@ numbers-into-spec =
     loop-holds
     entry-requires
     cast-to
-    mul-to
-    slice-write-to
-    add-i
-    loop-less
+    (λ c. search needs)
+    (λ c. search needs)
+    (λ c. search needs)
+    (λ c. search needs)
     loop-again
-    same-length
+    (λ c. search needs)
     returns)

@@ -30,12 +30,6 @@ entry-requires c κs =
 put-point-requires : tie.Need-put-point-requires Inv-loop μ-loop
 put-point-requires c κs = search needs
 
-add-i : tie.Need-add-i Inv-loop μ-loop
-add-i c = search needs
-
-loop-less : tie.Need-loop-less Inv-loop μ-loop
-loop-less c = search needs
-
 loop-again : tie.Need-loop-again Inv-loop μ-loop
 loop-again c =
     let l = c .before .before .before .before .before .before .loop in
@@ -46,9 +40,6 @@ loop-again c =
       ap length stored ∙ length-set (l .to) (l .i) x ∙ l .inv .1,
       stored ∙ ap (λ xs. set xs (l .i) x) (l .inv .2) ∙ into-next pointWidth (l .i) (a .body .now) (a .to .now) x (c .before .before .before .before .entry .ensures .0) (omega arith),
     )
-
-same-length : tie.Need-same-length Inv-loop μ-loop
-same-length c = search needs
 
 returns : tie.Need-returns Inv-loop μ-loop
 returns c =
@@ -64,8 +55,8 @@ points-into-spec =
     loop-holds
     entry-requires
     put-point-requires
-    add-i
-    loop-less
+    (λ c. search needs)
+    (λ c. search needs)
     loop-again
-    same-length
+    (λ c. search needs)
     returns)

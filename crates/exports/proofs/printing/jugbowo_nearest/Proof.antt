@@ -10,11 +10,8 @@ returns c = prints-nothing _ _ (c .if1 .taken)
 answer-requires : tie.Need-answer-requires
 answer-requires c κs = search needs
 
-same-length : tie.Need-same-length
-same-length c = search needs
-
 returns-2 : tie.Need-returns-2
 returns-2 c = prints-text _ _ _ _ (c .before .before .before .before .if1 .left) (c .before .before .answer .ensures)
 
 pub jugbowo-nearest-spec : {M : Type 1} → statement M
-jugbowo-nearest-spec = tie.close (tie.spec returns answer-requires same-length returns-2)
+jugbowo-nearest-spec = tie.close (tie.spec returns answer-requires (λ c. search needs) returns-2)

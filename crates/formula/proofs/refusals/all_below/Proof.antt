@@ -40,12 +40,6 @@ returns c =
     let l = c .before .before .before .before .loop in
     sym (l .inv .1 ∙ all-stops (λ (x : ℕ). ltb x (2 ^ _)) _ 0 (l .i) (omega arith) (tested (c .before) ∙ not-true _ (c .if1 .taken)))
 
-add-i : tie.Need-add-i Inv-loop μ-loop
-add-i c = search needs
-
-loop-less : tie.Need-loop-less Inv-loop μ-loop
-loop-less c = search needs
-
 loop-again : tie.Need-loop-again Inv-loop μ-loop
 unfolding allBelow
 loop-again c =
@@ -69,7 +63,7 @@ all-below-spec =
     point-at-requires
     below-requires
     returns
-    add-i
-    loop-less
+    (λ c. search needs)
+    (λ c. search needs)
     loop-again
     returns-2)

@@ -44,19 +44,10 @@ tested c =
     ap (isPermutation (c .before .before .before .before .before .args .n)) (permutation-at (a .n) (a .count) (c .before .before .before .loop .i) (a .images .now) noPermutation (c .before .before .loop-test .taken))
     ∙ ap (λ l. isPermutation (c .before .before .before .before .before .args .n) (record { images = l })) (sym (c .before .permutation-at .ensures)) ∙ sym (c .is-permutation .ensures)
 
-add-result : tie.Need-add-result Inv-loop μ-loop
-add-result c = search needs
-
 returns : tie.Need-returns Inv-loop μ-loop
 returns c =
     let l = c .before .before .before .before .loop in
     sym (l .inv ∙ failing-stops _ _ noPermutation (l .i) (inside (c .before)) (tested (c .before) ∙ not-true _ (c .if1 .taken)))
-
-add-i : tie.Need-add-i Inv-loop μ-loop
-add-i c = search needs
-
-loop-less : tie.Need-loop-less Inv-loop μ-loop
-loop-less c = search needs
 
 loop-again : tie.Need-loop-again Inv-loop μ-loop
 loop-again c =
@@ -77,9 +68,9 @@ first-non-permutation-spec =
     loop-holds
     permutation-at-requires
     is-permutation-requires
-    add-result
+    (λ c. search needs)
     returns
-    add-i
-    loop-less
+    (λ c. search needs)
+    (λ c. search needs)
     loop-again
     returns-2)

@@ -50,19 +50,10 @@ tested c =
     ap (keeps (numbered (clausesOf (c .before .before .before .before .before .before .before .before .args .positive .now) (c .before .before .before .before .before .before .before .before .args .negative .now)))) (permutation-at (a .n) (a .count) (c .before .before .before .loop .at) (a .images .now) noPermutation (c .before .before .loop-test .taken))
     ∙ ap (λ l. keeps (numbered (clausesOf (c .before .before .before .before .before .before .before .before .args .positive .now) (c .before .before .before .before .before .before .before .before .args .negative .now))) (record { images = l })) (sym (c .before .permutation-at .ensures)) ∙ sym (c .keeps .ensures)
 
-add-result : tie.Need-add-result Inv-loop μ-loop
-add-result c = search needs
-
 returns : tie.Need-returns Inv-loop μ-loop
 returns c =
     let l = c .before .before .before .before .loop in
     sym (l .inv ∙ failing-stops _ _ noPermutation (l .at) (inside (c .before)) (tested (c .before) ∙ not-true _ (c .if1 .taken)))
-
-add-at : tie.Need-add-at Inv-loop μ-loop
-add-at c = search needs
-
-loop-less : tie.Need-loop-less Inv-loop μ-loop
-loop-less c = search needs
 
 loop-again : tie.Need-loop-again Inv-loop μ-loop
 loop-again c =
@@ -83,9 +74,9 @@ first-non-symmetry-spec =
     loop-holds
     permutation-at-requires
     keeps-requires
-    add-result
+    (λ c. search needs)
     returns
-    add-at
-    loop-less
+    (λ c. search needs)
+    (λ c. search needs)
     loop-again
     returns-2)

@@ -13,12 +13,6 @@ use Rattle.formula.proofs.refusals.problem_refusal.Tie as tie
 formula-refusal-requires : tie.Need-formula-refusal-requires
 formula-refusal-requires c κs = search needs
 
-enum-told : tie.Need-enum-told
-enum-told c = search needs
-
-enum-told-2 : tie.Need-enum-told-2
-enum-told-2 c = search needs
-
 returns : tie.Need-returns
 returns c =
     stops-10 _ _ _ (faultOf (c .before .before .formula-refusal .result)) (c .before .before .formula-refusal .ensures)
@@ -32,19 +26,10 @@ size c = search needs
 ten : (c : tie.After-enum-told) → formulaFault (c .before .before .before .before .before .args .f) (c .before .before .before .before .before .args .positive .now) (c .before .before .before .before .before .args .negative .now) ≡ sound
 ten c = sym (c .before .before .formula-refusal .ensures) ∙ ap faultOf (c .enum-told .given .1)
 
-slice-aggregate-permutations-refusal : tie.Need-slice-aggregate-permutations-refusal
-slice-aggregate-permutations-refusal c = search needs
-
 permutations-refusal-requires : tie.Need-permutations-refusal-requires
 permutations-refusal-requires c κs =
     let few = formula-passes _ _ _ (ten (c .before .before)) .0 .few-variables in
     (few, images-room (c .before .before .before .before .before .before .before .args .f) (c .before .before .before .before .before .before .before .args .positive .now) (c .before .before .before .before .before .before .before .args .negative .now) few (size (c .before .before .before .before .before .before .before)))
-
-enum-told-3 : tie.Need-enum-told-3
-enum-told-3 c = search needs
-
-enum-told-4 : tie.Need-enum-told-4
-enum-told-4 c = search needs
 
 returns-2 : tie.Need-returns-2
 returns-2 c =
@@ -55,9 +40,6 @@ returns-2 c =
 eleven : (c : tie.After-enum-told3)
     → permutationFault (c .before .before .before .before .before .before .before .before .before .before .args .f .variables) (permutationsIn (c .before .before .before .before .before .before .before .before .before .before .args .f .variables) (c .before .before .before .before .before .before .before .before .before .before .args .f .permutations) (c .before .before .before .before .before .before .before .before .before .before .args .f .images)) ≡ sound
 eleven c = sym (c .before .before .permutations-refusal .ensures) ∙ ap faultOf (c .enum-told3 .given .1)
-
-slice-aggregate-symmetry-refusal : tie.Need-slice-aggregate-symmetry-refusal
-slice-aggregate-symmetry-refusal c = search needs
 
 symmetry-refusal-requires : tie.Need-symmetry-refusal-requires
 symmetry-refusal-requires c κs =
@@ -71,14 +53,14 @@ problem-refusal-spec =
     tie.close
     (tie.spec
     formula-refusal-requires
-    enum-told
-    enum-told-2
+    (λ c. search needs)
+    (λ c. search needs)
     returns
-    slice-aggregate-permutations-refusal
+    (λ c. search needs)
     permutations-refusal-requires
-    enum-told-3
-    enum-told-4
+    (λ c. search needs)
+    (λ c. search needs)
     returns-2
-    slice-aggregate-symmetry-refusal
+    (λ c. search needs)
     symmetry-refusal-requires
     returns-3)

@@ -6,9 +6,6 @@ use borrow.Author.Needs.{needs}
 use Rattle.formula.proofs.room.room.Statement.{statement}
 use Rattle.formula.proofs.room.room.Tie as tie
 
-cast-most : tie.Need-cast-most
-cast-most c = search needs
-
 point-count-requires : tie.Need-point-count-requires
 point-count-requires c κs = search needs
 
@@ -29,7 +26,7 @@ pub room-spec : {M : Type 1} → statement M
 room-spec =
     tie.close
     (tie.spec
-    cast-most
+    (λ c. search needs)
     point-count-requires
     least-requires
     least-requires-2

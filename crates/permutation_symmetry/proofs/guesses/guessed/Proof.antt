@@ -14,9 +14,6 @@ abbrev μ-loop : tie.MeasureT-loop
 place-of-requires : tie.Need-place-of-requires Inv-loop μ-loop
 place-of-requires c κs = search needs
 
-add-end : tie.Need-add-end Inv-loop μ-loop
-add-end c = search needs
-
 loop-holds : tie.Need-loop-holds Inv-loop μ-loop
 loop-holds c = tt
 
@@ -26,23 +23,11 @@ number-at-requires c κs = search needs
 returns : tie.Need-returns Inv-loop μ-loop
 returns c e = absurd (false≢true e)
 
-cast-at : tie.Need-cast-at Inv-loop μ-loop
-cast-at c = search needs
-
-sub-at : tie.Need-sub-at Inv-loop μ-loop
-sub-at c = search needs
-
 stands-at-requires : tie.Need-stands-at-requires Inv-loop μ-loop
 stands-at-requires c κs = search needs
 
 returns-2 : tie.Need-returns-2 Inv-loop μ-loop
 returns-2 c e = c .before .stands-at .ensures (c .if2 .taken)
-
-add-i : tie.Need-add-i Inv-loop μ-loop
-add-i c = search needs
-
-loop-less : tie.Need-loop-less Inv-loop μ-loop
-loop-less c = search needs
 
 loop-again : tie.Need-loop-again Inv-loop μ-loop
 loop-again c = tt
@@ -57,15 +42,15 @@ guessed-spec =
     Inv-loop
     μ-loop
     place-of-requires
-    add-end
+    (λ c. search needs)
     loop-holds
     number-at-requires
     returns
-    cast-at
-    sub-at
+    (λ c. search needs)
+    (λ c. search needs)
     stands-at-requires
     returns-2
-    add-i
-    loop-less
+    (λ c. search needs)
+    (λ c. search needs)
     loop-again
     returns-3)

@@ -25,29 +25,8 @@ loop-holds c = (refl, omega (arith, c .least .ensures))
 clause-at-requires : tie.Need-clause-at-requires Inv-loop μ-loop
 clause-at-requires c κs = search needs
 
-cast-number : tie.Need-cast-number Inv-loop μ-loop
-cast-number c = search needs
-
-add-number : tie.Need-add-number Inv-loop μ-loop
-add-number c = search needs
-
 put-guess-requires : tie.Need-put-guess-requires Inv-loop μ-loop
 put-guess-requires c κs = search needs
-
-add-i : tie.Need-add-i Inv-loop μ-loop
-add-i c = search needs
-
-loop-less : tie.Need-loop-less Inv-loop μ-loop
-loop-less c = search needs
-
-loop-again : tie.Need-loop-again Inv-loop μ-loop
-loop-again c = search needs
-
-same-length : tie.Need-same-length Inv-loop μ-loop
-same-length c = search needs
-
-returns : tie.Need-returns Inv-loop μ-loop
-returns c = search needs
 
 pub make-guesses-spec : {M : Type 1} → statement M
 make-guesses-spec =
@@ -59,11 +38,11 @@ make-guesses-spec =
     least-requires
     loop-holds
     clause-at-requires
-    cast-number
-    add-number
+    (λ c. search needs)
+    (λ c. search needs)
     put-guess-requires
-    add-i
-    loop-less
-    loop-again
-    same-length
-    returns)
+    (λ c. search needs)
+    (λ c. search needs)
+    (λ c. search needs)
+    (λ c. search needs)
+    (λ c. search needs))

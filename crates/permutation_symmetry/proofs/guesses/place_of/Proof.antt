@@ -27,10 +27,7 @@ mul-result-2 c = omega (arith, small _ _ (c .head-of2 .ensures))
 add-result : tie.Need-add-result
 add-result c = omega (arith, small _ _ (c .before .head-of .ensures), small _ _ (c .head-of2 .ensures))
 
-returns : tie.Need-returns
-returns c = search needs
-
 pub place-of-spec : {M : Type 1} → statement M
 place-of-spec =
     tie.close
-    (tie.spec head-of-requires head-of-requires-2 mul-result mul-result-2 add-result returns)
+    (tie.spec head-of-requires head-of-requires-2 mul-result mul-result-2 add-result (λ c. search needs))
