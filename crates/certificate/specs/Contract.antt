@@ -14,9 +14,9 @@ use Rattle.certificate.specs.declared.Opened.{Opened}
 use Rattle.certificate.specs.declared.Opened.the-variants.{File, Refused}
 
 -- F10: what the code's answers say in document 01's terms
-unfoldable pub replyOf : Opened → Reply
-replyOf (File c) = opened
-replyOf (Refused code place) = refused code place
+unfoldable pub replyOfOpened : Opened → Reply
+replyOfOpened (File c) = opened
+replyOfOpened (Refused code place) = refused code place
 
 -- the eight numbers of the code's struct
 unfoldable pub contentsIn : Contents → FileContents
@@ -40,7 +40,7 @@ handedOut (Refused code place) = none
 
 -- G.a: what reading a file promises
 pub record OpenedAs (file : List ℕ) (r : Opened) : Type 0 where
-  pub reply : replyOf r ≡ openedReply file
+  pub reply : replyOfOpened r ≡ openedReply file
   pub contents : handedOut r ≡ openedContents file
 
 -- the entry that the code's answer holds

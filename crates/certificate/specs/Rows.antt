@@ -8,13 +8,13 @@ use lib.Dec.{leb, ltb, eqb}
 use lib.ListN.{length, getD, take}
 use Rattle.math.specs.Lists.{any, firstFailing, range, below, has}
 use Rattle.points.specs.Points.{Clause, Numbered, satisfies}
-use Rattle.formula.specs.Reply.{Fault, sound, fault, faultAt}
+use Rattle.formula.specs.Reply.{Fault, no-fault, fault, faultAt}
 use Rattle.certificate.specs.Certificate.{wellFormed}
 
 -- R14: "contents or length wrong | 14 | file length"
 unfoldable pub fileFault : List ℕ → Fault
 unfolding wellFormed
-fileFault file = cond (wellFormed file) sound (fault 14 (length file))
+fileFault file = cond (wellFormed file) no-fault (fault 14 (length file))
 
 -- R16: "bit above n, equal to an earlier point": the point of index i passes if it has no bit at n or above and equals no earlier one
 unfoldable pub pointPasses : ℕ → List ℕ → ℕ → Bool
@@ -51,4 +51,4 @@ numbersFault clauses count points numbers = faultAt 17 (firstFailing (numberPass
 
 -- R19: "output too short | 19 | length needed (bytes here)"
 unfoldable pub roomFault : ℕ → ℕ → Fault
-roomFault needed lent = cond (leb needed lent) sound (fault 19 needed)
+roomFault needed lent = cond (leb needed lent) no-fault (fault 19 needed)

@@ -15,45 +15,45 @@ use Rattle.certificate.specs.Rows.{pointsFault, numbersFault, roomFault}
 -- the length of the certificate of a problem and that many slots
 unfoldable pub lengthNeeded : Problem → ℕ → ℕ
 unfolding certificateLength
-lengthNeeded pb count = certificateLength (pb .variables) (length (pb .permutations)) count
+lengthNeeded pb filled = certificateLength (pb .variables) (length (pb .permutations)) filled
 
 -- N5: "Writer (from slots and a count): 10, 11, 12, 16, 17, 19." N8: "Each is tested over everything before the next"
 unfoldable pub writeFault : Formula → List ℕ → List ℕ → List ℕ → List ℕ → List ℕ → ℕ → List ℕ → Fault
 unfolding problemOf formulaFault permutationFault symmetryFault pointsFault capacity numbersFault roomFault lengthNeeded first
-writeFault f positive negative points numbers depths count out =
+writeFault f positive negative points falsified depths filled out =
     let pb = problemOf f positive negative in
     let xs = pointsOf points in
     let row11 = permutationFault (pb .variables) (pb .permutations) in
     let row12 = symmetryFault (pb .clauses) (pb .permutations) in
-    let row16 = pointsFault (capacity (length xs) (length numbers) (length depths)) (pb .variables) count xs in
-    let row17 = numbersFault (pb .clauses) count xs numbers in
-    let row19 = roomFault (lengthNeeded pb count) (length out) in
+    let row16 = pointsFault (capacity (length xs) (length falsified) (length depths)) (pb .variables) filled xs in
+    let row17 = numbersFault (pb .clauses) filled xs falsified in
+    let row19 = roomFault (lengthNeeded pb filled) (length out) in
     first (formulaFault f positive negative ∷ row11 ∷ row12 ∷ row16 ∷ row17 ∷ row19 ∷ [])
 
 unfoldable pub writeReply : Formula → List ℕ → List ℕ → List ℕ → List ℕ → List ℕ → ℕ → List ℕ → Reply
 unfolding writeFault unless
-writeReply f positive negative points numbers depths count out =
-    unless (writeFault f positive negative points numbers depths count out) (written (lengthNeeded (problemOf f positive negative) count))
+writeReply f positive negative points falsified depths filled out =
+    unless (writeFault f positive negative points falsified depths filled out) (written (lengthNeeded (problemOf f positive negative) filled))
 
 -- C7: "what the writer puts out from that sheet and its rules, the lent slots as the builder left them and the number it reported as filled"
 unfoldable pub certificateOf : Problem → List ℕ → List ℕ → ℕ → List ℕ
 unfolding encode
-certificateOf pb points numbers count =
-    encode (pb .variables) (pb .total) (pb .permutations) (take count (pointsOf points)) (take count numbers)
+certificateOf pb points falsified filled =
+    encode (pb .variables) (pb .total) (pb .permutations) (take filled (pointsOf points)) (take filled falsified)
 
 -- C6: "Output past the certificate is unchanged."
 unfoldable pub writeOutput : Formula → List ℕ → List ℕ → List ℕ → List ℕ → List ℕ → ℕ → List ℕ → List ℕ
 unfolding writeFault unlessKept certificateOf
-writeOutput f positive negative points numbers depths count out =
+writeOutput f positive negative points falsified depths filled out =
     let pb = problemOf f positive negative in
-    let new = certificateOf pb points numbers count ++ drop (lengthNeeded pb count) out in
-    unlessKept (writeFault f positive negative points numbers depths count out) new out
+    let new = certificateOf pb points falsified filled ++ drop (lengthNeeded pb filled) out in
+    unlessKept (writeFault f positive negative points falsified depths filled out) new out
 
 -- C5: "the reading of what the writer puts out is exactly the sheet's exchanges and the points and rule numbers of the slots given"
-pub record ReadsAs (pb : Problem) (points numbers : List ℕ) (file : List ℕ) : Type 0 where
+pub record ReadsAs (pb : Problem) (points falsified : List ℕ) (file : List ℕ) : Type 0 where
   pub inOrder : WellFormed file
   pub readsVariables : contentsOf file .variables ≡ pb .variables
   pub readsTotal : contentsOf file .clauses ≡ pb .total
   pub readsPermutations : filePermutations file ≡ pb .permutations
   pub readsPoints : filePoints file ≡ points
-  pub readsNumbers : fileNumbers file ≡ numbers
+  pub readsNumbers : fileNumbers file ≡ falsified

@@ -9,11 +9,11 @@ use Rattle.certificate_writer.specs.declared.Written.{Written}
 use Rattle.certificate_writer.specs.declared.Written.the-variants.{Bytes, Refused}
 
 -- F10: what the code's answer says in document 01's terms
-unfoldable pub replyOf : Written → Reply
-replyOf (Bytes size) = written size
-replyOf (Refused code place) = refused code place
+unfoldable pub replyOfWritten : Written → Reply
+replyOfWritten (Bytes size) = written size
+replyOfWritten (Refused code place) = refused code place
 
 -- G.a: what the writer promises: its reply, and the output as it returns
-pub record Wrote (f : Formula) (positive negative points numbers depths : List ℕ) (count : ℕ) (out : List ℕ) (r : Written) (after : List ℕ) : Type 0 where
-  pub reply : replyOf r ≡ writeReply f positive negative points numbers depths count out
-  pub output : after ≡ writeOutput f positive negative points numbers depths count out
+pub record Wrote (f : Formula) (positive negative points falsified depths : List ℕ) (filled : ℕ) (out : List ℕ) (r : Written) (after : List ℕ) : Type 0 where
+  pub reply : replyOfWritten r ≡ writeReply f positive negative points falsified depths filled out
+  pub output : after ≡ writeOutput f positive negative points falsified depths filled out

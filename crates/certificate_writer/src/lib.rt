@@ -16,7 +16,7 @@ ghost use Rattle.points.specs.Points.{numbered};
 ghost use Rattle.point_slices.specs.Slices.{pointsOf, clausesOf};
 ghost use Rattle.formula.specs.Limits.{maxVariables, maxPermutations, maxSlots};
 ghost use Rattle.formula.specs.Refusals.{faultOf};
-ghost use Rattle.formula.specs.Reply.{sound};
+ghost use Rattle.formula.specs.Reply.{no-fault};
 ghost use Rattle.certificate.specs.Certificate.{certificateLength};
 ghost use Rattle.certificate_writer.specs.Contract.{Wrote};
 ghost use Rattle.check_distinct.specs.Laws.Indexing.{Counted};
@@ -28,7 +28,7 @@ pub enum Written {
     Refused { code: u32, place: usize },
 }
 
-// What was found before; else refusals 16 and 17, in this order, of the first `count` slots of at most `lent`. `write` sees to what it requires.
+// What was found before; else refusals 16 and 17, in this order, of the first `filled` slots of at most `lent`. `write` sees to what it requires.
 fn slots_refusal(
     found: Checked,
     n: u32,
@@ -37,15 +37,15 @@ fn slots_refusal(
     points: &[u64],
     falsified: &[u32],
     lent: usize,
-    count: u32,
+    filled: u32,
 ) -> Checked
-    requires { ⌜ (faultOf found ≡ sound → Counted maxSlots n lent (pointsOf (now points))) ⌝ }
-    ensures { λ r. ⌜ faultOf r ≡ slotsFault (faultOf found) lent n (numbered (clausesOf (now (positive .entry)) (now (negative .entry)))) count (pointsOf (now (points .entry))) (now (falsified .entry)) ⌝ }
+    requires { ⌜ (faultOf found ≡ no-fault → Counted maxSlots n lent (pointsOf (now points))) ⌝ }
+    ensures { λ r. ⌜ faultOf r ≡ slotsFault (faultOf found) lent n (numbered (clausesOf (now (positive .entry)) (now (negative .entry)))) filled (pointsOf (now (points .entry))) (now (falsified .entry)) ⌝ }
 {
     let Checked::Passed = found else {
         return found;
     };
-    let many = count as usize;
+    let many = filled as usize;
     let sixteen = local_refusal(points, n, many, lent);
     let Checked::Passed = sixteen else {
         return sixteen;
@@ -54,12 +54,12 @@ fn slots_refusal(
 }
 
 // The length of a certificate. Refusals 10, 11 and 16 see to what it requires.
-fn length_needed(n: u32, permutations: u32, count: u32) -> usize
-    requires { ⌜ (n ≤ maxVariables) × (permutations ≤ maxPermutations) × (count ≤ maxSlots) ⌝ }
-    ensures { λ r. ⌜ r ≡ certificateLength n permutations count ⌝ }
+fn length_needed(n: u32, permutations: u32, filled: u32) -> usize
+    requires { ⌜ (n ≤ maxVariables) × (permutations ≤ maxPermutations) × (filled ≤ maxSlots) ⌝ }
+    ensures { λ r. ⌜ r ≡ certificateLength n permutations filled ⌝ }
 {
     let area = permutations as usize * n as usize;
-    let many = count as usize;
+    let many = filled as usize;
     32 + area + many * 8 + many * 4
 }
 
@@ -73,22 +73,22 @@ fn put_certificate(
     images: &[u8],
     points: &[u64],
     falsified: &[u32],
-    count: u32,
+    filled: u32,
 )
-    requires { ⌜ Storable n permutations (now images) (now points) (now falsified) count (now out) ⌝ }
-    ensures { λ _. ⌜ now (out .exit) ≡ over (parts n m permutations (now (images .entry)) (now (points .entry)) (now (falsified .entry)) count) (now (out .entry)) ⌝ }
+    requires { ⌜ Storable n permutations (now images) (now points) (now falsified) filled (now out) ⌝ }
+    ensures { λ _. ⌜ now (out .exit) ≡ over (parts n m permutations (now (images .entry)) (now (points .entry)) (now (falsified .entry)) filled) (now (out .entry)) ⌝ }
 {
     let area = permutations as usize * n as usize;
-    let many = count as usize;
+    let many = filled as usize;
     let points_at = 32 + area;
     let numbers_at = points_at + many * 8;
-    put_contents(out, n, m, permutations, count, points_at, numbers_at);
+    put_contents(out, n, m, permutations, filled, points_at, numbers_at);
     put_bytes(out, 32, images, area);
     put_points(out, points_at, points, many);
     put_numbers(out, numbers_at, falsified, many);
 }
 
-// D2.4, N5, C6, R19: writes the certificate of the formula and of the first `count` slots; refusals 10, 11, 12, 16, 17 and 19 leave `out` as it was.
+// D2.4, N5, C6, R19: writes the certificate of the formula and of the first `filled` slots; refusals 10, 11, 12, 16, 17 and 19 leave `out` as it was.
 // Beside refusal 12, it looks each point up among those before it, at most count · (n + 1) comparisons, and stores each byte once.
 pub fn write(
     f: Formula,
@@ -97,23 +97,32 @@ pub fn write(
     points: &[u64],
     falsified: &[u32],
     depths: &[u32],
-    count: u32,
+    filled: u32,
     out: &mut [u8],
 ) -> Written
-    ensures { λ r. ⌜ Wrote f (now (positive .entry)) (now (negative .entry)) (now (points .entry)) (now (falsified .entry)) (now (depths .entry)) count (now (out .entry)) r (now (out .exit)) ⌝ }
+    ensures { λ r. ⌜ Wrote f (now (positive .entry)) (now (negative .entry)) (now (points .entry)) (now (falsified .entry)) (now (depths .entry)) filled (now (out .entry)) r (now (out .exit)) ⌝ }
 {
     let found = problem_refusal(f, positive, negative);
     let lent = room(points, falsified, depths);
     let n = f.variables;
     let a = f.permutations;
-    let told = slots_refusal(found, n, positive, negative, points, falsified, lent, count);
+    let told = slots_refusal(
+        found,
+        n,
+        positive,
+        negative,
+        points,
+        falsified,
+        lent,
+        filled,
+    );
     match told {
         Checked::Passed => {}
         Checked::Refused { code, place } => {
             return Written::Refused { code, place };
         }
     }
-    let size = length_needed(n, a, count);
+    let size = length_needed(n, a, filled);
     if out.len() < size {
         return Written::Refused {
             code: 19,
@@ -121,6 +130,6 @@ pub fn write(
         };
     }
     let images = f.images;
-    put_certificate(out, n, f.clauses, a, &images, points, falsified, count);
+    put_certificate(out, n, f.clauses, a, &images, points, falsified, filled);
     Written::Bytes(size)
 }

@@ -10,7 +10,7 @@ use Rattle.formula.specs.declared.Formula.{Formula}
 use Rattle.formula.specs.Limits.{maxSlots}
 use Rattle.formula.specs.Problem.{problemOf}
 use Rattle.formula.specs.Refusals.{clausesFault, permutationFault, symmetryFault}
-use Rattle.formula.specs.Reply.{Reply, accepted, Fault, sound, fault, first, unless}
+use Rattle.formula.specs.Reply.{Reply, accepted, Fault, no-fault, fault, first, unless}
 use Rattle.certificate.specs.Certificate.{contentsOf, WellFormed, filePermutations, filePoints, fileNumbers}
 use Rattle.certificate.specs.Rows.{fileFault, pointsFault, numbersFault}
 use Rattle.check_flips.specs.Flips.{flipsFault}
@@ -24,7 +24,7 @@ sameSizes n m file = let c = contentsOf file in eqb (c .variables) n && eqb (c .
 -- R15: "n or m another sheet's | 15 | 0"
 unfoldable pub sizesFault : ℕ → ℕ → List ℕ → Fault
 unfolding sameSizes
-sizesFault n m file = cond (sameSizes n m file) sound (fault 15 0)
+sizesFault n m file = cond (sameSizes n m file) no-fault (fault 15 0)
 
 -- N6: "Checker: 10 (no wish), 14, 15, 11, 12, 16, 17, 18; 14 measures the bodies by the n in the contents."
 -- K2: "It uses the certificate's exchanges, not the sheet's."
@@ -52,7 +52,7 @@ checkReply f positive negative file = unless (checkFault f positive negative fil
 
 -- K1: "It accepts a certificate for a sheet's rules exactly if all of these hold: counts and lengths fit, its exchanges are permutations .."
 pub record Accepts (f : Formula) (positive negative file : List ℕ) : Type 0 where
-  pub clausesSound : clausesFault f positive negative ≡ sound
+  pub clausesPass : clausesFault f positive negative ≡ no-fault
   pub inOrder : WellFormed file
   pub sameVariables : contentsOf file .variables ≡ problemOf f positive negative .variables
   pub sameTotal : contentsOf file .clauses ≡ problemOf f positive negative .total

@@ -9,10 +9,10 @@ use Rattle.checker.specs.declared.Verdict.{Verdict}
 use Rattle.checker.specs.declared.Verdict.the-variants.{Accepted, Refused}
 
 -- F10: what the code's answer says in document 01's terms
-unfoldable pub replyOf : Verdict → Reply
-replyOf Accepted = accepted
-replyOf (Refused code place) = refused code place
+unfoldable pub replyOfVerdict : Verdict → Reply
+replyOfVerdict Accepted = accepted
+replyOfVerdict (Refused code place) = refused code place
 
 -- G.a: what the checker promises
 pub record CheckedAs (f : Formula) (positive negative file : List ℕ) (r : Verdict) : Type 0 where
-  pub reply : replyOf r ≡ checkReply f positive negative file
+  pub reply : replyOfVerdict r ≡ checkReply f positive negative file

@@ -13,7 +13,7 @@ ghost use Rattle.point_slices.specs.Slices.{clausesOf};
 ghost use Rattle.formula.specs.Refusals.{Fits, faultOf};
 ghost use Rattle.formula.specs.Reply.{accepted, unless};
 ghost use Rattle.certificate.specs.Certificate.{filePermutations, filePoints, fileNumbers};
-ghost use Rattle.checker.specs.Contract.{replyOf, CheckedAs};
+ghost use Rattle.checker.specs.Contract.{replyOfVerdict, CheckedAs};
 ghost use Rattle.checker.specs.Laws.Parts.{bodiesFault, fileRows, Readable};
 
 // What the checker answers for a formula and a certificate.
@@ -24,7 +24,7 @@ pub enum Verdict {
 
 // What a test that is the last says of the certificate.
 fn as_verdict(checked: Checked) -> Verdict
-    ensures { λ r. ⌜ replyOf r ≡ unless (faultOf checked) accepted ⌝ }
+    ensures { λ r. ⌜ replyOfVerdict r ≡ unless (faultOf checked) accepted ⌝ }
 {
     match checked {
         Checked::Passed => Verdict::Accepted,
@@ -40,16 +40,16 @@ fn bodies_refusal(c: Contents, positive: &[u64], negative: &[u64], file: &[u8]) 
         (filePermutations (now (file .entry))) (filePoints (now (file .entry))) (fileNumbers (now (file .entry))) ⌝ }
 {
     let n = c.variables;
-    let group = c.permutations;
+    let permutations = c.permutations;
     let first = c.permutations_at as usize;
     let second = c.points_at as usize;
     let third = c.numbers_at as usize;
     let images = &file[first..second];
-    let eleven = permutations_refusal(images, n, group);
+    let eleven = permutations_refusal(images, n, permutations);
     let Checked::Passed = eleven else {
         return eleven;
     };
-    let twelve = symmetry_refusal(images, n, group, positive, negative);
+    let twelve = symmetry_refusal(images, n, permutations, positive, negative);
     let Checked::Passed = twelve else {
         return twelve;
     };
@@ -59,7 +59,16 @@ fn bodies_refusal(c: Contents, positive: &[u64], negative: &[u64], file: &[u8]) 
     let count = c.points as usize;
     let points = &file[second..third];
     let numbers = &file[third..file.len()];
-    decoded_refusal(positive, negative, points, numbers, count, images, n, group)
+    decoded_refusal(
+        positive,
+        negative,
+        points,
+        numbers,
+        count,
+        images,
+        n,
+        permutations,
+    )
 }
 
 // R15: refusals 14 and 15, then those of the bodies. Refusal 10 sees to what it requires.

@@ -18,7 +18,7 @@ ghost use Rattle.dimacs_format.specs.Reader.{problemIn, isSkipped, withSizes};
 ghost use Rattle.dimacs_format.specs.Text.{piece, sameBytes, maxText};
 ghost use Rattle.dimacs.specs.Laws.ProblemScans.{sizingOf, WordMatched, NumberMatched, ProblemFound};
 ghost use Rattle.dimacs_words.specs.Laws.Scans.{linesBehind};
-ghost use Rattle.dimacs_lines.specs.Laws.Answers.{Answers};
+ghost use Rattle.dimacs_lines.specs.Laws.ParsedAs.{ParsedAs};
 ghost use Rattle.dimacs.specs.Contract.{Read};
 
 // What a fixed word meets: itself, with the cursor behind it, or something else.
@@ -52,7 +52,7 @@ fn same_bytes(part: &[u8], word: &[u8]) -> bool
     if part.len() != word.len() {
         return false;
     }
-    begins(part, word)
+    begins(word, part)
 }
 
 // The fixed word behind the blanks at the cursor. The caller stands within the line.
@@ -92,7 +92,7 @@ fn expect_number(line: &[u8], cursor: Cursor) -> Sized
 pub fn read_problem(line: &[u8]) -> Sizing
     ensures { λ r. ⌜ sizingOf r ≡ problemIn (piece 0 (now (line .entry))) ⌝ }
 {
-    let first = begins(line, b"p");
+    let first = begins(b"p", line);
     if !first {
         return Sizing::Malformed;
     }
@@ -128,7 +128,7 @@ pub fn read_problem(line: &[u8]) -> Sizing
 fn is_skipped(line: &[u8]) -> bool
     ensures { λ r. ⌜ r ≡ isSkipped (piece 0 (now (line .entry))) ⌝ }
 {
-    let comment = begins(line, b"c");
+    let comment = begins(b"c", line);
     if comment {
         return true;
     }
@@ -169,7 +169,7 @@ fn read_sized(
     negative: &mut [u64],
 ) -> Parsed
     requires { ⌜ (length (now text) ≤ maxText) × (stop ≤ length (now text)) ⌝ }
-    ensures { λ r. ⌜ Answers (withSizes (length (now (text .entry))) (length (now (positive .entry))) (length (now (negative .entry))) (piece start (take (stop - start) (drop start (now (text .entry))))) (linesBehind (now (text .entry)) stop) (record { variables = variables; total = total })) (now (positive .entry)) (now (negative .entry)) r (now (positive .exit)) (now (negative .exit)) ⌝ }
+    ensures { λ r. ⌜ ParsedAs (withSizes (length (now (text .entry))) (length (now (positive .entry))) (length (now (negative .entry))) (piece start (take (stop - start) (drop start (now (text .entry))))) (linesBehind (now (text .entry)) stop) (record { variables = variables; total = total })) (now (positive .entry)) (now (negative .entry)) r (now (positive .exit)) (now (negative .exit)) ⌝ }
 {
     if variables < 1 {
         return refused(3, start);

@@ -17,7 +17,7 @@ ghost use Prim.Native.Nat.{_+_, _≤_};
 ghost use lib.ListN.{length};
 ghost use Rattle.dimacs_format.specs.Reader.{targetIn};
 ghost use Rattle.dimacs_comments.specs.Laws.CommentScans.{wantedOf, binaryIn, Imaging, Storing, Permuting};
-ghost use Rattle.dimacs_comments.specs.Laws.HandlerScans.{TargetTaken, PermutationTaken, WordsTaken, Table};
+ghost use Rattle.dimacs_comments.specs.Laws.HandlerScans.{TargetTaken, PermutationTaken, WordsTaken, KeptImages};
 ghost use Rattle.dimacs_clauses.specs.Laws.ClauseScans.{Ready, Inside};
 
 // What a target line holds: the target, or something else.
@@ -134,9 +134,9 @@ fn store_numbers(bytes: &[u8], n: u32, part: &mut [u8]) -> bool
 
 // S19: "One that begins with `c exch ` holds n numbers from 1 to n without sign, .., every number just one time": into the n bytes at `at`.
 // `dimacs_comments::permutation_line` sees to the room, by its count of at most 16, and refusal 3 to n.
-pub fn read_permutation(bytes: &[u8], n: u32, table: &mut [u8], at: usize) -> bool
-    requires { ⌜ (n ≤ 64) × (at + n ≤ length (now table)) ⌝ }
-    ensures { λ r. ⌜ Permuting n (now (bytes .entry)) at (now (table .entry)) (now (table .exit)) r ⌝ }
+pub fn read_permutation(bytes: &[u8], n: u32, images: &mut [u8], at: usize) -> bool
+    requires { ⌜ (n ≤ 64) × (at + n ≤ length (now images)) ⌝ }
+    ensures { λ r. ⌜ Permuting n (now (bytes .entry)) at (now (images .entry)) (now (images .exit)) r ⌝ }
 {
     if bytes.len() < 1 {
         return false;
@@ -146,11 +146,11 @@ pub fn read_permutation(bytes: &[u8], n: u32, table: &mut [u8], at: usize) -> bo
         return false;
     }
     let end = at + n as usize;
-    let stored = store_numbers(bytes, n, &mut table[at..end]);
+    let stored = store_numbers(bytes, n, &mut images[at..end]);
     if !stored {
         return false;
     }
-    is_permutation(&table[at..end], n)
+    is_permutation(&images[at..end], n)
 }
 
 // What the lines have said so far, beside the slices of the clauses and the table of the images.
@@ -201,10 +201,10 @@ pub fn permutation_line(
     start: usize,
     n: u32,
     state: State,
-    table: &mut [u8],
+    images: &mut [u8],
 ) -> Advanced
-    requires { ⌜ (n ≤ 64) × (7 ≤ length (now line)) × Table n (state .permutations) (now table) ⌝ }
-    ensures { λ r. ⌜ PermutationTaken n start (now (line .entry)) state (now (table .entry)) (now (table .exit)) r ⌝ }
+    requires { ⌜ (n ≤ 64) × (7 ≤ length (now line)) × KeptImages n (state .permutations) (now images) ⌝ }
+    ensures { λ r. ⌜ PermutationTaken n start (now (line .entry)) state (now (images .entry)) (now (images .exit)) r ⌝ }
 {
     let count = state.permutations;
     if Formula::MAX_PERMUTATIONS <= count {
@@ -214,7 +214,7 @@ pub fn permutation_line(
         };
     }
     let at = count * n;
-    let fine = read_permutation(&line[7..], n, table, at as usize);
+    let fine = read_permutation(&line[7..], n, images, at as usize);
     if !fine {
         return Advanced::Refused {
             code: 9,

@@ -1,5 +1,5 @@
 -- Laws, and what functions inside the library promise each other: no contract of an entry point cites any of it.
 pub mod LineScans
 pub mod LineScanLaws
-pub mod Answers
-pub mod AnswerLaws
+pub mod ParsedAs
+pub mod ParsedLaws

@@ -5,6 +5,6 @@ use Rattle.dimacs_lines.specs.declared.Parse.{Parse}
 use Rattle.dimacs_lines.specs.declared.Parse.the-variants.{Accepted, Refused}
 
 -- F10: the reply that an answer of the code is
-abbrev pub replyOf : Parse → Reply
-replyOf Accepted = parsed
-replyOf (Refused code place) = refused code place
+abbrev pub replyOfParse : Parse → Reply
+replyOfParse Accepted = parsed
+replyOfParse (Refused code place) = refused code place

@@ -22,7 +22,7 @@ ghost use Rattle.dimacs_clauses.specs.Laws.ClauseScans.{Inside};
 ghost use Rattle.math.specs.Lists.{over};
 ghost use Rattle.dimacs_format.specs.Reader.{andThen, walk, lineStep, begin, atEnd};
 ghost use Rattle.dimacs_words.specs.Laws.Scans.{linesBehind};
-ghost use Rattle.dimacs_lines.specs.Laws.Answers.{wantedOr0, refusedWith, Answers, Limited, Spacious};
+ghost use Rattle.dimacs_lines.specs.Laws.ParsedAs.{wantedOr0, refusedWith, ParsedAs, Limited, HasRoom};
 
 // S17: "After the problem line two comments have meaning, also inside a rule." F2: the heads are fixed byte strings. One line behind the
 // problem line; the heads are at most fifteen bytes to compare, and each handler says how often it visits a byte.
@@ -34,22 +34,22 @@ fn read_line(
     state: State,
     positive: &mut [u64],
     negative: &mut [u64],
-    table: &mut [u8],
+    images: &mut [u8],
 ) -> Advanced
-    requires { ⌜ Standing (record { variables = n; total = total }) state (now positive) (now negative) (now table) × Inside start (now line) ⌝ }
-    ensures { λ r. ⌜ Advancing (record { variables = n; total = total }) start (now (line .entry)) state (now (positive .entry)) (now (negative .entry)) (now (table .entry)) r (now (positive .exit)) (now (negative .exit)) (now (table .exit)) ⌝ }
+    requires { ⌜ Standing (record { variables = n; total = total }) state (now positive) (now negative) (now images) × Inside start (now line) ⌝ }
+    ensures { λ r. ⌜ Advancing (record { variables = n; total = total }) start (now (line .entry)) state (now (positive .entry)) (now (negative .entry)) (now (images .entry)) r (now (positive .exit)) (now (negative .exit)) (now (images .exit)) ⌝ }
 {
-    let comment = begins(line, b"c");
+    let comment = begins(b"c", line);
     if !comment {
         return word_line(line, start, n, total, state, positive, negative);
     }
-    let targeting = begins(line, b"c wish ");
+    let targeting = begins(b"c wish ", line);
     if targeting {
         return target_line(line, start, n, state);
     }
-    let permuting = begins(line, b"c exch ");
+    let permuting = begins(b"c exch ", line);
     if permuting {
-        return permutation_line(line, start, n, state, table);
+        return permutation_line(line, start, n, state, images);
     }
     Advanced::On(state)
 }
@@ -81,10 +81,10 @@ pub fn read_lines(
     total: u32,
     positive: &mut [u64],
     negative: &mut [u64],
-    table: &mut [u8],
+    images: &mut [u8],
 ) -> Advanced
-    requires { ⌜ Standing (record { variables = n; total = total }) nothingSaid (now positive) (now negative) (now table) × (length (now text) ≤ maxText) × (end ≤ length (now text)) ⌝ }
-    ensures { λ r. ⌜ LinesRead (record { variables = n; total = total }) (now (text .entry)) end r (now (positive .exit)) (now (negative .exit)) (now (table .exit)) ⌝ }
+    requires { ⌜ Standing (record { variables = n; total = total }) nothingSaid (now positive) (now negative) (now images) × (length (now text) ≤ maxText) × (end ≤ length (now text)) ⌝ }
+    ensures { λ r. ⌜ LinesRead (record { variables = n; total = total }) (now (text .entry)) end r (now (positive .exit)) (now (negative .exit)) (now (images .exit)) ⌝ }
 {
     let mut state = begin();
     let mut last = end;
@@ -99,7 +99,7 @@ pub fn read_lines(
             state,
             positive,
             negative,
-            table,
+            images,
         );
         let Advanced::On(more) = step else {
             return step;
@@ -161,12 +161,12 @@ fn accept(
     state: State,
     p: &[u64],
     q: &[u64],
-    table: [u8; 1024],
+    images: [u8; 1024],
     positive: &mut [u64],
     negative: &mut [u64],
 ) -> Parsed
-    requires { ⌜ Standing (record { variables = n; total = total }) state (now p) (now q) table × Spacious total (now positive) (now negative) ⌝ }
-    ensures { λ r. ⌜ Answers (atEnd size (record { variables = n; total = total }) (progressFrom n (now (p .entry)) (now (q .entry)) table state)) (now (positive .entry)) (now (negative .entry)) r (now (positive .exit)) (now (negative .exit)) ⌝ }
+    requires { ⌜ Standing (record { variables = n; total = total }) state (now p) (now q) images × HasRoom total (now positive) (now negative) ⌝ }
+    ensures { λ r. ⌜ ParsedAs (atEnd size (record { variables = n; total = total }) (progressFrom n (now (p .entry)) (now (q .entry)) images state)) (now (positive .entry)) (now (negative .entry)) r (now (positive .exit)) (now (negative .exit)) ⌝ }
 {
     let begun = state.begun;
     if begun.closed < total {
@@ -182,7 +182,7 @@ fn accept(
         clauses: total,
         target,
         permutations,
-        images: table,
+        images: images,
     };
     Parsed {
         formula,
@@ -198,15 +198,15 @@ fn finish(
     done: Advanced,
     p: &[u64],
     q: &[u64],
-    table: [u8; 1024],
+    images: [u8; 1024],
     positive: &mut [u64],
     negative: &mut [u64],
 ) -> Parsed
-    requires { ⌜ Stands (record { variables = n; total = total }) done (now p) (now q) table × Spacious total (now positive) (now negative) ⌝ }
-    ensures { λ r. ⌜ Answers (andThen (advancedOf n (now (p .entry)) (now (q .entry)) table done) (atEnd size (record { variables = n; total = total }))) (now (positive .entry)) (now (negative .entry)) r (now (positive .exit)) (now (negative .exit)) ⌝ }
+    requires { ⌜ Stands (record { variables = n; total = total }) done (now p) (now q) images × HasRoom total (now positive) (now negative) ⌝ }
+    ensures { λ r. ⌜ ParsedAs (andThen (advancedOf n (now (p .entry)) (now (q .entry)) images done) (atEnd size (record { variables = n; total = total }))) (now (positive .entry)) (now (negative .entry)) r (now (positive .exit)) (now (negative .exit)) ⌝ }
 {
     match done {
-        Advanced::On(state) => { accept(size, n, total, state, p, q, table, positive, negative) }
+        Advanced::On(state) => { accept(size, n, total, state, p, q, images, positive, negative) }
         Advanced::Refused { code, place } => refused(code, place),
     }
 }
@@ -223,13 +223,13 @@ fn collect(
     positive: &mut [u64],
     negative: &mut [u64],
 ) -> Parsed
-    requires { ⌜ Limited n total × Spacious total (now p) (now q) × Spacious total (now positive) (now negative) × (length (now text) ≤ maxText) × (end ≤ length (now text)) ⌝ }
-    ensures { λ r. ⌜ Answers (andThen (walk (lineStep (record { variables = n; total = total })) begin (linesBehind (now (text .entry)) end)) (atEnd (length (now (text .entry))) (record { variables = n; total = total }))) (now (positive .entry)) (now (negative .entry)) r (now (positive .exit)) (now (negative .exit)) ⌝ }
+    requires { ⌜ Limited n total × HasRoom total (now p) (now q) × HasRoom total (now positive) (now negative) × (length (now text) ≤ maxText) × (end ≤ length (now text)) ⌝ }
+    ensures { λ r. ⌜ ParsedAs (andThen (walk (lineStep (record { variables = n; total = total })) begin (linesBehind (now (text .entry)) end)) (atEnd (length (now (text .entry))) (record { variables = n; total = total }))) (now (positive .entry)) (now (negative .entry)) r (now (positive .exit)) (now (negative .exit)) ⌝ }
 {
     let size = text.len();
-    let mut table = [0u8; 1024];
-    let done = read_lines(text, end, n, total, p, q, &mut table);
-    finish(size, n, total, done, p, q, table, positive, negative)
+    let mut images = [0u8; 1024];
+    let done = read_lines(text, end, n, total, p, q, &mut images);
+    finish(size, n, total, done, p, q, images, positive, negative)
 }
 
 // The lines, with arrays of the function's own to collect the clauses in. `dimacs::read_sized` sees to what it requires, by
@@ -242,8 +242,8 @@ pub fn read_clauses(
     positive: &mut [u64],
     negative: &mut [u64],
 ) -> Parsed
-    requires { ⌜ Limited n total × Spacious total (now positive) (now negative) × (length (now text) ≤ maxText) × (end ≤ length (now text)) ⌝ }
-    ensures { λ r. ⌜ Answers (andThen (walk (lineStep (record { variables = n; total = total })) begin (linesBehind (now (text .entry)) end)) (atEnd (length (now (text .entry))) (record { variables = n; total = total }))) (now (positive .entry)) (now (negative .entry)) r (now (positive .exit)) (now (negative .exit)) ⌝ }
+    requires { ⌜ Limited n total × HasRoom total (now positive) (now negative) × (length (now text) ≤ maxText) × (end ≤ length (now text)) ⌝ }
+    ensures { λ r. ⌜ ParsedAs (andThen (walk (lineStep (record { variables = n; total = total })) begin (linesBehind (now (text .entry)) end)) (atEnd (length (now (text .entry))) (record { variables = n; total = total }))) (now (positive .entry)) (now (negative .entry)) r (now (positive .exit)) (now (negative .exit)) ⌝ }
 {
     let mut p = [0u64; 4096];
     let mut q = [0u64; 4096];

@@ -158,7 +158,7 @@ pub fn read_word(line: &[u8], cursor: Cursor) -> Word
 }
 
 // Whether the bytes begin with the head. At most as many steps as the head has bytes.
-pub fn begins(bytes: &[u8], head: &[u8]) -> bool
+pub fn begins(head: &[u8], bytes: &[u8]) -> bool
     ensures { λ r. ⌜ r ≡ begins (now (head .entry)) (now (bytes .entry)) ⌝ }
 {
     if bytes.len() < head.len() {

@@ -19,8 +19,8 @@ contentsWords none = []
 -- F10: the solver's answer as four words. As the search tells it: 1, the point, its distance, slots filled; 3, the bound, slots filled, 0; 0, a refusal's
 -- number and place, 0. Beside these 8, slots filled, the size of the certificate written, 0; and 9, slots filled, the size needed for it, 0.
 unfoldable pub solutionWords : Solution → List ℕ
-solutionWords (Satisfiable x d k) = 1 ∷ x ∷ d ∷ k ∷ []
-solutionWords (Unsatisfiable k size) = 8 ∷ k ∷ size ∷ 0 ∷ []
-solutionWords (Uncertified k needed) = 9 ∷ k ∷ needed ∷ 0 ∷ []
-solutionWords (Unknown b k) = 3 ∷ b ∷ k ∷ 0 ∷ []
+solutionWords (Satisfiable x d filled) = 1 ∷ x ∷ d ∷ filled ∷ []
+solutionWords (Unsatisfiable filled size) = 8 ∷ filled ∷ size ∷ 0 ∷ []
+solutionWords (Uncertified filled needed) = 9 ∷ filled ∷ needed ∷ 0 ∷ []
+solutionWords (Unknown b filled) = 3 ∷ b ∷ filled ∷ 0 ∷ []
 solutionWords (Refused code place) = 0 ∷ code ∷ place ∷ 0 ∷ []

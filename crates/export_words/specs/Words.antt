@@ -11,11 +11,11 @@ use Rattle.formula.specs.Reply.{Reply, refused, satisfiable, unsatisfiable, unk
 -- F10: an answer as four words: which it is, then what it carries, in its order, then 0
 unfoldable pub wordsOf : Reply → List ℕ
 wordsOf (refused code place) = 0 ∷ code ∷ place ∷ 0 ∷ []
-wordsOf (satisfiable x d k) = 1 ∷ x ∷ d ∷ k ∷ []
-wordsOf (unsatisfiable k) = 2 ∷ k ∷ 0 ∷ 0 ∷ []
-wordsOf (unknown b k) = 3 ∷ b ∷ k ∷ 0 ∷ []
+wordsOf (satisfiable x d filled) = 1 ∷ x ∷ d ∷ filled ∷ []
+wordsOf (unsatisfiable filled) = 2 ∷ filled ∷ 0 ∷ 0 ∷ []
+wordsOf (unknown b filled) = 3 ∷ b ∷ filled ∷ 0 ∷ []
 wordsOf parsed = 4 ∷ 0 ∷ 0 ∷ 0 ∷ []
-wordsOf (written k) = 5 ∷ k ∷ 0 ∷ 0 ∷ []
+wordsOf (written size) = 5 ∷ size ∷ 0 ∷ 0 ∷ []
 wordsOf opened = 6 ∷ 0 ∷ 0 ∷ 0 ∷ []
 wordsOf accepted = 7 ∷ 0 ∷ 0 ∷ 0 ∷ []
 

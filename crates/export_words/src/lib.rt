@@ -17,11 +17,11 @@ ghost use lib.ListN.{length, take};
 ghost use Rattle.math.specs.Lists.{over};
 ghost use Rattle.export_words.specs.Words.{imagesFrom, formulaFrom, numbersOf, wordsOf};
 ghost use mathlib.Core.Option.{some};
-ghost use Rattle.dimacs_lines.specs.Reply.{replyOf as parseReply};
-ghost use Rattle.search.specs.Contract.{replyOf as outcomeReply};
-ghost use Rattle.certificate_writer.specs.Contract.{replyOf as writtenReply};
-ghost use Rattle.certificate.specs.Contract.{handedOut, valueOf, contentsIn, replyOf as openedReply};
-ghost use Rattle.checker.specs.Contract.{replyOf as verdictReply};
+ghost use Rattle.dimacs_lines.specs.Reply.{replyOfParse};
+ghost use Rattle.search.specs.Contract.{replyOfOutcome};
+ghost use Rattle.certificate_writer.specs.Contract.{replyOfWritten};
+ghost use Rattle.certificate.specs.Contract.{handedOut, valueOf, contentsIn, replyOfOpened};
+ghost use Rattle.checker.specs.Contract.{replyOfVerdict};
 ghost use Rattle.export_words.specs.Replies.{entryWords, contentsWords, solutionWords};
 
 // How many words an answer takes.
@@ -103,7 +103,7 @@ pub const CONTENTS: usize = 8;
 // Writes the words of the reader's answer; the callers see to the room for them.
 pub fn put_parse(reply: &mut [u64], r: Parse)
     requires { ⌜ 4 ≤ length (now reply) ⌝ }
-    ensures { λ _. ⌜ now (reply .exit) ≡ over (wordsOf (parseReply r)) (now (reply .entry)) ⌝ }
+    ensures { λ _. ⌜ now (reply .exit) ≡ over (wordsOf (replyOfParse r)) (now (reply .entry)) ⌝ }
 {
     match r {
         Parse::Refused { code, place } => put_words(reply, 0, code as u64, place as u64, 0),
@@ -114,7 +114,7 @@ pub fn put_parse(reply: &mut [u64], r: Parse)
 // Writes the words of the search's answer; the callers see to the room for them.
 pub fn put_outcome(reply: &mut [u64], r: Outcome)
     requires { ⌜ 4 ≤ length (now reply) ⌝ }
-    ensures { λ _. ⌜ now (reply .exit) ≡ over (wordsOf (outcomeReply r)) (now (reply .entry)) ⌝ }
+    ensures { λ _. ⌜ now (reply .exit) ≡ over (wordsOf (replyOfOutcome r)) (now (reply .entry)) ⌝ }
 {
     match r {
         Outcome::Refused { code, place } => put_words(reply, 0, code as u64, place as u64, 0),
@@ -131,7 +131,7 @@ pub fn put_outcome(reply: &mut [u64], r: Outcome)
 // Writes the words of the writer's answer; the callers see to the room for them.
 pub fn put_written(reply: &mut [u64], r: Written)
     requires { ⌜ 4 ≤ length (now reply) ⌝ }
-    ensures { λ _. ⌜ now (reply .exit) ≡ over (wordsOf (writtenReply r)) (now (reply .entry)) ⌝ }
+    ensures { λ _. ⌜ now (reply .exit) ≡ over (wordsOf (replyOfWritten r)) (now (reply .entry)) ⌝ }
 {
     match r {
         Written::Refused { code, place } => put_words(reply, 0, code as u64, place as u64, 0),
@@ -142,7 +142,7 @@ pub fn put_written(reply: &mut [u64], r: Written)
 // Writes the words of the checker's answer; the callers see to the room for them.
 pub fn put_verdict(reply: &mut [u64], r: Verdict)
     requires { ⌜ 4 ≤ length (now reply) ⌝ }
-    ensures { λ _. ⌜ now (reply .exit) ≡ over (wordsOf (verdictReply r)) (now (reply .entry)) ⌝ }
+    ensures { λ _. ⌜ now (reply .exit) ≡ over (wordsOf (replyOfVerdict r)) (now (reply .entry)) ⌝ }
 {
     match r {
         Verdict::Accepted => put_words(reply, 7, 0, 0, 0),
@@ -185,7 +185,7 @@ fn put_contents(to: &mut [u64], c: Contents)
 // Writes the words of the file reader's answer, and the contents where there are some; the callers see to the room for both.
 pub fn put_opened(contents: &mut [u64], reply: &mut [u64], r: Opened)
     requires { ⌜ (8 ≤ length (now contents)) × (4 ≤ length (now reply)) ⌝ }
-    ensures { λ _. ⌜ (now (contents .exit) ≡ over (contentsWords (handedOut r)) (now (contents .entry))) × (now (reply .exit) ≡ over (wordsOf (openedReply r)) (now (reply .entry))) ⌝ }
+    ensures { λ _. ⌜ (now (contents .exit) ≡ over (contentsWords (handedOut r)) (now (contents .entry))) × (now (reply .exit) ≡ over (wordsOf (replyOfOpened r)) (now (reply .entry))) ⌝ }
 {
     match r {
         Opened::File(c) => {

@@ -14,8 +14,8 @@ use Rattle.export_words.specs.Words.{wordsOf, hasRoom}
 use Rattle.export_words.specs.Replies.{entryWords, contentsWords}
 
 -- D2.4 for a caller in another language: with room for the answer, it is the checker's; without, nothing changes
-pub record CheckTold (f : Formula) (positive negative file reply₀ : List ℕ) (r : ℕ) (reply₁ : List ℕ) : Type 0 where
-  pub told : r ≡ cond (hasRoom reply₀) 1 0
+pub record CheckReturns (f : Formula) (positive negative file reply₀ : List ℕ) (r : ℕ) (reply₁ : List ℕ) : Type 0 where
+  pub returned : r ≡ cond (hasRoom reply₀) 1 0
   pub reply : reply₁ ≡ cond (hasRoom reply₀) (over (wordsOf (checkReply f positive negative file)) reply₀) reply₀
 
 -- whether there is room for an answer's words and for the eight numbers of a file's contents
@@ -24,8 +24,8 @@ hasContentsRoom contents reply = hasRoom reply && leb 8 (length contents)
 
 -- N7 for a caller in another language: with room for both, the answer and the contents are the reader's, and a refusal leaves the contents as they were; without,
 -- nothing changes
-pub record OpenTold (file contents₀ reply₀ : List ℕ) (r : ℕ) (contents₁ reply₁ : List ℕ) : Type 0 where
-  pub told : r ≡ cond (hasContentsRoom contents₀ reply₀) 1 0
+pub record OpenReturns (file contents₀ reply₀ : List ℕ) (r : ℕ) (contents₁ reply₁ : List ℕ) : Type 0 where
+  pub returned : r ≡ cond (hasContentsRoom contents₀ reply₀) 1 0
   pub reply : reply₁ ≡ cond (hasContentsRoom contents₀ reply₀) (over (wordsOf (openedReply file)) reply₀) reply₀
   pub contents : contents₁ ≡ cond (hasContentsRoom contents₀ reply₀) (over (contentsWords (openedContents file)) contents₀) contents₀
 
@@ -34,6 +34,6 @@ abbrev pub hasEntryRoom : List ℕ → Bool
 hasEntryRoom reply = leb 2 (length reply)
 
 -- F4 for a caller in another language: with room for it, the entry of a body; without, nothing changes
-pub record EntryTold (entry : Option ℕ) (reply₀ : List ℕ) (r : ℕ) (reply₁ : List ℕ) : Type 0 where
-  pub told : r ≡ cond (hasEntryRoom reply₀) 1 0
+pub record EntryReturns (entry : Option ℕ) (reply₀ : List ℕ) (r : ℕ) (reply₁ : List ℕ) : Type 0 where
+  pub returned : r ≡ cond (hasEntryRoom reply₀) 1 0
   pub reply : reply₁ ≡ cond (hasEntryRoom reply₀) (over (entryWords entry) reply₀) reply₀

@@ -13,7 +13,7 @@ use export_words::put_verdict;
 ghost use Rattle.certificate.specs.Bytes.{pointWidth, numberWidth};
 ghost use Rattle.certificate.specs.Certificate.{numberAt, imageAt};
 ghost use Rattle.export_words.specs.Words.{formulaFrom};
-ghost use Rattle.exports.specs.Checking.{CheckTold, OpenTold, EntryTold};
+ghost use Rattle.exports.specs.Checking.{CheckReturns, OpenReturns, EntryReturns};
 
 // The checker, its answer told in the first four words of `reply`. It returns 1; where `reply` has no room it returns 0 and changes nothing.
 #[no_mangle]
@@ -28,7 +28,7 @@ pub extern "C" fn jugbowo_check(
     file: &[u8],
     reply: &mut [u64],
 ) -> u32
-    ensures { λ r. ⌜ CheckTold (formulaFrom variables clauses target permutations (now (images .entry))) (now (positive .entry)) (now (negative .entry)) (now (file .entry)) (now (reply .entry)) r (now (reply .exit)) ⌝ }
+    ensures { λ r. ⌜ CheckReturns (formulaFrom variables clauses target permutations (now (images .entry))) (now (positive .entry)) (now (negative .entry)) (now (file .entry)) (now (reply .entry)) r (now (reply .exit)) ⌝ }
 {
     if reply.len() < WORDS {
         return 0;
@@ -43,7 +43,7 @@ pub extern "C" fn jugbowo_check(
 // told in the first eight words of `contents`. It returns 1; where one of the two has no room it returns 0 and changes nothing.
 #[no_mangle]
 pub extern "C" fn jugbowo_open(file: &[u8], contents: &mut [u64], reply: &mut [u64]) -> u32
-    ensures { λ r. ⌜ OpenTold (now (file .entry)) (now (contents .entry)) (now (reply .entry)) r (now (contents .exit)) (now (reply .exit)) ⌝ }
+    ensures { λ r. ⌜ OpenReturns (now (file .entry)) (now (contents .entry)) (now (reply .entry)) r (now (contents .exit)) (now (reply .exit)) ⌝ }
 {
     if reply.len() < WORDS {
         return 0;
@@ -66,7 +66,7 @@ pub extern "C" fn jugbowo_image_at(
     i: usize,
     reply: &mut [u64],
 ) -> u32
-    ensures { λ r. ⌜ EntryTold (imageAt n (now (body .entry)) j i) (now (reply .entry)) r (now (reply .exit)) ⌝ }
+    ensures { λ r. ⌜ EntryReturns (imageAt n (now (body .entry)) j i) (now (reply .entry)) r (now (reply .exit)) ⌝ }
 {
     if reply.len() < ENTRY {
         return 0;
@@ -79,7 +79,7 @@ pub extern "C" fn jugbowo_image_at(
 // The point of index i in a body of points, told like an image.
 #[no_mangle]
 pub extern "C" fn jugbowo_point_at(body: &[u8], i: usize, reply: &mut [u64]) -> u32
-    ensures { λ r. ⌜ EntryTold (numberAt pointWidth (now (body .entry)) i) (now (reply .entry)) r (now (reply .exit)) ⌝ }
+    ensures { λ r. ⌜ EntryReturns (numberAt pointWidth (now (body .entry)) i) (now (reply .entry)) r (now (reply .exit)) ⌝ }
 {
     if reply.len() < ENTRY {
         return 0;
@@ -92,7 +92,7 @@ pub extern "C" fn jugbowo_point_at(body: &[u8], i: usize, reply: &mut [u64]) -> 
 // The clause number of index i in a body of clause numbers, told like an image.
 #[no_mangle]
 pub extern "C" fn jugbowo_number_at(body: &[u8], i: usize, reply: &mut [u64]) -> u32
-    ensures { λ r. ⌜ EntryTold (numberAt numberWidth (now (body .entry)) i) (now (reply .entry)) r (now (reply .exit)) ⌝ }
+    ensures { λ r. ⌜ EntryReturns (numberAt numberWidth (now (body .entry)) i) (now (reply .entry)) r (now (reply .exit)) ⌝ }
 {
     if reply.len() < ENTRY {
         return 0;

@@ -1,6 +1,6 @@
 // What the program `nearest` prints, as an exported function.
 use program::answer;
-ghost use Rattle.exports.specs.Printing.{NearestTold};
+ghost use Rattle.exports.specs.Printing.{NearestReturns};
 
 // How many bytes of output the longest text takes.
 const TEXT: usize = 312;
@@ -9,7 +9,7 @@ const TEXT: usize = 312;
 // bytes it returns 0 and changes nothing.
 #[no_mangle]
 pub extern "C" fn jugbowo_nearest(text: &[u8], out: &mut [u8]) -> usize
-    ensures { λ r. ⌜ NearestTold (now (text .entry)) (now (out .entry)) r (now (out .exit)) ⌝ }
+    ensures { λ r. ⌜ NearestReturns (now (text .entry)) (now (out .entry)) r (now (out .exit)) ⌝ }
 {
     if out.len() < TEXT {
         return 0;

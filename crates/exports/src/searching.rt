@@ -4,7 +4,7 @@ use export_words::formula_from;
 use export_words::put_outcome;
 use search::search;
 ghost use Rattle.export_words.specs.Words.{formulaFrom};
-ghost use Rattle.exports.specs.Searching.{SearchTold};
+ghost use Rattle.exports.specs.Searching.{SearchReturns};
 
 // The search, its answer told in the first four words of `reply`. It returns 1; where `reply` has no room it returns 0 and changes nothing.
 #[no_mangle]
@@ -21,7 +21,7 @@ pub extern "C" fn jugbowo_search(
     depths: &mut [u32],
     reply: &mut [u64],
 ) -> u32
-    ensures { λ r. ⌜ SearchTold (formulaFrom variables clauses target permutations (now (images .entry))) (now (positive .entry)) (now (negative .entry)) (now (points .entry)) (now (falsified .entry)) (now (depths .entry)) (now (reply .entry)) r (now (points .exit)) (now (falsified .exit)) (now (depths .exit)) (now (reply .exit)) ⌝ }
+    ensures { λ r. ⌜ SearchReturns (formulaFrom variables clauses target permutations (now (images .entry))) (now (positive .entry)) (now (negative .entry)) (now (points .entry)) (now (falsified .entry)) (now (depths .entry)) (now (reply .entry)) r (now (points .exit)) (now (falsified .exit)) (now (depths .exit)) (now (reply .exit)) ⌝ }
 {
     if reply.len() < WORDS {
         return 0;

@@ -4,7 +4,7 @@ use export_words::WORDS;
 use export_words::formula_from;
 use export_words::put_written;
 ghost use Rattle.export_words.specs.Words.{formulaFrom};
-ghost use Rattle.exports.specs.Writing.{WriteTold};
+ghost use Rattle.exports.specs.Writing.{WriteReturns};
 
 // The writer, its answer told in the first four words of `reply`. It returns 1; where `reply` has no room it returns 0 and changes nothing.
 #[no_mangle]
@@ -19,17 +19,26 @@ pub extern "C" fn jugbowo_write(
     points: &[u64],
     falsified: &[u32],
     depths: &[u32],
-    count: u32,
+    filled: u32,
     out: &mut [u8],
     reply: &mut [u64],
 ) -> u32
-    ensures { λ r. ⌜ WriteTold (formulaFrom variables clauses target permutations (now (images .entry))) (now (positive .entry)) (now (negative .entry)) (now (points .entry)) (now (falsified .entry)) (now (depths .entry)) count (now (out .entry)) (now (reply .entry)) r (now (out .exit)) (now (reply .exit)) ⌝ }
+    ensures { λ r. ⌜ WriteReturns (formulaFrom variables clauses target permutations (now (images .entry))) (now (positive .entry)) (now (negative .entry)) (now (points .entry)) (now (falsified .entry)) (now (depths .entry)) filled (now (out .entry)) (now (reply .entry)) r (now (out .exit)) (now (reply .exit)) ⌝ }
 {
     if reply.len() < WORDS {
         return 0;
     }
     let f = formula_from(variables, clauses, target, permutations, images);
-    let r = write(f, positive, negative, points, falsified, depths, count, out);
+    let r = write(
+        f,
+        positive,
+        negative,
+        points,
+        falsified,
+        depths,
+        filled,
+        out,
+    );
     put_written(reply, r);
     1
 }

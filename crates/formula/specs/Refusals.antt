@@ -13,7 +13,7 @@ use Rattle.formula.specs.declared.Checked.the-variants.{Passed, Refused}
 use Rattle.formula.specs.declared.Formula.{Formula}
 use Rattle.formula.specs.Limits.{maxVariables, maxClauses, maxPermutations}
 use Rattle.formula.specs.Problem.{problemOf}
-use Rattle.formula.specs.Reply.{Fault, sound, fault, faultAt, first}
+use Rattle.formula.specs.Reply.{Fault, no-fault, fault, faultAt, first}
 
 -- no number of the list has a bit at n or above
 unfoldable pub allBelow : ℕ → List ℕ → Bool
@@ -40,13 +40,13 @@ fits n m positive negative =
 -- R10 without the target, for the checker: "n outside its limits, rule lengths (unequal to C, over 4,096), a bit above n | 10 | 0"
 unfoldable pub clausesFault : Formula → List ℕ → List ℕ → Fault
 unfolding fits
-clausesFault f positive negative = cond (fits (f .variables) (f .clauses) positive negative) sound (fault 10 0)
+clausesFault f positive negative = cond (fits (f .variables) (f .clauses) positive negative) no-fault (fault 10 0)
 
 -- R10 whole: the target has no bit above n either
 unfoldable pub formulaFault : Formula → List ℕ → List ℕ → Fault
 unfolding fits
 formulaFault f positive negative =
-    cond (fits (f .variables) (f .clauses) positive negative && ltb (f .target) (2 ^ f .variables)) sound (fault 10 0)
+    cond (fits (f .variables) (f .clauses) positive negative && ltb (f .target) (2 ^ f .variables)) no-fault (fault 10 0)
 
 -- R11: "over 16 exchanges, or no permutation | 11 | its number; 17 if too many, tested first"
 unfoldable pub permutationFault : ℕ → List Permutation → Fault
@@ -67,5 +67,5 @@ problemFault f positive negative =
 
 -- F10: what the code's answer of a test means
 abbrev pub faultOf : Checked → Fault
-faultOf Passed = sound
+faultOf Passed = no-fault
 faultOf (Refused code place) = fault code place

@@ -22,26 +22,26 @@ pub data Reply : Type 0 where
 
 -- what one test finds: nothing, or a refusal's number and place
 pub data Fault : Type 0 where
-  sound : Fault
+  no-fault : Fault
   fault : ℕ → ℕ → Fault
 
 -- N8: "Each is tested over everything before the next"
 unfoldable pub first : List Fault → Fault
-first [] = sound
-first (sound ∷ fs) = first fs
+first [] = no-fault
+first (no-fault ∷ fs) = first fs
 first (fault code place ∷ fs) = fault code place
 
 -- the fault of a numbered thing, by its number; 0 for none
 unfoldable pub faultAt : ℕ → ℕ → Fault
-faultAt code zero = sound
+faultAt code zero = no-fault
 faultAt code (suc k) = fault code (suc k)
 
 -- the reply where the tests found nothing
 unfoldable pub unless : Fault → Reply → Reply
-unless sound r = r
+unless no-fault r = r
 unless (fault code place) r = refused code place
 
 -- D1.2, N1: "Every row leaves all lent slices unchanged"
 unfoldable pub unlessKept : Fault → List ℕ → List ℕ → List ℕ
-unlessKept sound new old = new
+unlessKept no-fault new old = new
 unlessKept (fault code place) new old = old

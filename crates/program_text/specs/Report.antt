@@ -25,7 +25,7 @@ literal x i = field (sign (bit x i)) (i + 1)
 unfoldable pub literals : ℕ → ℕ → List ℕ
 unfolding numeral sign bit
 literals x zero = []
-literals x (suc k) = literals x k ++ literal x k
+literals x (suc i) = literals x i ++ literal x i
 
 -- ---- the text
 
@@ -64,17 +64,17 @@ space = 32 ∷ []
 -- P3: "`v` gives each name ascending, minus for no, then 0."; the last line has the changes and the slots
 unfoldable pub satisfiableText : ℕ → ℕ → ℕ → ℕ → List ℕ
 unfolding numeral literals
-satisfiableText n x d k = satisfiableHead ++ literals x n ++ valuesEnd ++ line changesHead d slotsBetween k
+satisfiableText n x d filled = satisfiableHead ++ literals x n ++ valuesEnd ++ line changesHead d slotsBetween filled
 
 -- P4: "two lines, `s UNSATISFIABLE` and `c slots` with the slots filled"
 unfoldable pub unsatisfiableText : ℕ → List ℕ
 unfolding numeral
-unsatisfiableText k = field unsatisfiableHead k ++ lineEnd
+unsatisfiableText filled = field unsatisfiableHead filled ++ lineEnd
 
 -- P4: "or `s UNKNOWN` and `c room` with d and the slots filled"
 unfoldable pub unknownText : ℕ → ℕ → List ℕ
 unfolding numeral
-unknownText b k = line unknownHead b space k
+unknownText b filled = line unknownHead b space filled
 
 -- P4: "or the one line `c refused` with number and place"
 unfoldable pub refusedText : ℕ → ℕ → List ℕ
@@ -84,9 +84,9 @@ refusedText code place = line refusedHead code space place
 -- what the program prints for a reply, with n names in the sheet; the other replies are never the program's
 unfoldable pub reportOf : ℕ → Reply → List ℕ
 unfolding satisfiableText unsatisfiableText unknownText refusedText
-reportOf n (satisfiable x d k) = satisfiableText n x d k
-reportOf n (unsatisfiable k) = unsatisfiableText k
-reportOf n (unknown b k) = unknownText b k
+reportOf n (satisfiable x d filled) = satisfiableText n x d filled
+reportOf n (unsatisfiable filled) = unsatisfiableText filled
+reportOf n (unknown b filled) = unknownText b filled
 reportOf n (refused code place) = refusedText code place
 reportOf n parsed = []
 reportOf n (written size) = []

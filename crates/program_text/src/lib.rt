@@ -8,7 +8,7 @@ ghost use Prim.Native.Nat.{_+_, _≤_, _<_, _*_};
 ghost use lib.ListN.{length};
 ghost use Rattle.program_text.specs.Decimal.{numeral, field, line};
 ghost use Rattle.program_text.specs.Laws.Putting.{Put};
-ghost use Rattle.search.specs.Contract.{replyOf};
+ghost use Rattle.search.specs.Contract.{replyOfOutcome};
 ghost use Rattle.program_text.specs.Report.{literal, literals, satisfiableText, unsatisfiableText, unknownText, refusedText, reportOf, Printed};
 
 // Puts one digit, and answers the place behind it.
@@ -139,7 +139,7 @@ pub fn put_refused(out: &mut [u8], code: u32, place: usize) -> usize
 // where n is at most 64; `program::answer` sees to both.
 pub fn put_report(out: &mut [u8], n: u32, r: Outcome) -> usize
     requires { ⌜ (n ≤ 64) × (312 ≤ length (now out)) ⌝ }
-    ensures { λ s. ⌜ Printed (reportOf n (replyOf r)) (now (out .entry)) s (now (out .exit)) ⌝ }
+    ensures { λ s. ⌜ Printed (reportOf n (replyOfOutcome r)) (now (out .entry)) s (now (out .exit)) ⌝ }
 {
     match r {
         Outcome::Satisfiable {

@@ -11,15 +11,15 @@ use Rattle.search.specs.declared.Outcome.{Outcome}
 use Rattle.search.specs.declared.Outcome.the-variants.{Satisfiable, Unsatisfiable, Unknown, Refused}
 
 -- F10: what the code's answer says in document 01's terms
-abbrev pub replyOf : Outcome → Reply
-replyOf (Satisfiable x d k) = satisfiable x d k
-replyOf (Unsatisfiable k) = unsatisfiable k
-replyOf (Unknown b k) = unknown b k
-replyOf (Refused code place) = refused code place
+abbrev pub replyOfOutcome : Outcome → Reply
+replyOfOutcome (Satisfiable x d filled) = satisfiable x d filled
+replyOfOutcome (Unsatisfiable filled) = unsatisfiable filled
+replyOfOutcome (Unknown b filled) = unknown b filled
+replyOfOutcome (Refused code place) = refused code place
 
 -- G.a, D2.2: "The builder's answer and slots are those of the walk in 01.": the answer, and the three slices as it returns
 pub record Searched (f : Formula) (positive negative points₀ falsified₀ depths₀ : List ℕ) (r : Outcome) (points₁ falsified₁ depths₁ : List ℕ) : Type 0 where
-  pub reply : replyOf r ≡ searchReply f positive negative (lentBy points₀ falsified₀ depths₀)
+  pub reply : replyOfOutcome r ≡ searchReply f positive negative (lentBy points₀ falsified₀ depths₀)
   pub points : pointsOf points₁ ≡ searchSlice (λ (s : Slot). s .point) f positive negative (lentBy points₀ falsified₀ depths₀) (pointsOf points₀)
   pub falsified : falsified₁ ≡ searchSlice (λ (s : Slot). s .falsified) f positive negative (lentBy points₀ falsified₀ depths₀) falsified₀
   pub depths : depths₁ ≡ searchSlice (λ (s : Slot). s .depth) f positive negative (lentBy points₀ falsified₀ depths₀) depths₀

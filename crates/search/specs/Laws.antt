@@ -1,5 +1,5 @@
 -- Laws, and what functions inside the library promise each other: no contract of an entry point cites any of it.
-pub mod Answered
+pub mod WalkAnswers
 pub mod Accepted
 pub mod Inputs
 pub mod Theorems

@@ -9,13 +9,13 @@ use Rattle.formula.specs.declared.Formula.{Formula}
 use Rattle.formula.specs.Limits.{capacity}
 use Rattle.formula.specs.Problem.{problemOf}
 use Rattle.formula.specs.Refusals.{formulaFault, permutationFault, symmetryFault}
-use Rattle.formula.specs.Reply.{Reply, Fault, sound, fault, first, unless, unlessKept}
+use Rattle.formula.specs.Reply.{Reply, Fault, no-fault, fault, first, unless, unlessKept}
 use Rattle.search_theory.specs.Walk.{Slot, walked}
 
 -- R13: "no slot lent | 13 | 0"
 unfoldable pub slotFault : ℕ → Fault
 slotFault zero = fault 13 0
-slotFault (suc k) = sound
+slotFault (suc k) = no-fault
 
 -- N4: "Builder: 10 to 13."
 unfoldable pub searchFault : Formula → List ℕ → List ℕ → ℕ → Fault

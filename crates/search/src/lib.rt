@@ -6,10 +6,10 @@ use formula::refusals::problem_refusal;
 use formula::room::room;
 use points::Point;
 use search_expansion::Frame;
-use search_step::Answer;
+use search_step::Conclusion;
 ghost use mathlib.Core.Path.{_≡_};
-ghost use Rattle.search_step.specs.Laws.Stepping.{answerOf};
-ghost use Rattle.search.specs.Contract.{replyOf, Searched};
+ghost use Rattle.search_step.specs.Laws.Stepping.{replyOfConclusion};
+ghost use Rattle.search.specs.Contract.{replyOfOutcome, Searched};
 
 // A slot's depth: how many flips lie between the target and its point.
 pub type Depth = search_expansion::Depth;
@@ -36,11 +36,11 @@ pub enum Outcome {
 }
 
 // What a search that was not refused answers.
-fn as_outcome(a: Answer) -> Outcome
-    ensures { λ r. ⌜ replyOf r ≡ answerOf a ⌝ }
+fn as_outcome(a: Conclusion) -> Outcome
+    ensures { λ r. ⌜ replyOfOutcome r ≡ replyOfConclusion a ⌝ }
 {
     match a {
-        Answer::Satisfiable {
+        Conclusion::Satisfiable {
             point,
             distance,
             filled,
@@ -49,8 +49,8 @@ fn as_outcome(a: Answer) -> Outcome
             distance: distance,
             filled: filled,
         },
-        Answer::Unsatisfiable { filled } => Outcome::Unsatisfiable { filled: filled },
-        Answer::Unknown { bound, filled } => Outcome::Unknown {
+        Conclusion::Unsatisfiable { filled } => Outcome::Unsatisfiable { filled: filled },
+        Conclusion::Unknown { bound, filled } => Outcome::Unknown {
             bound: bound,
             filled: filled,
         },

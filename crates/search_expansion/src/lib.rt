@@ -28,7 +28,7 @@ pub struct Frame {
 // How many slots are filled after flips were tried, and whether each that was to fill one found it.
 pub struct Grown {
     pub filled: usize,
-    pub roomy: bool,
+    pub enough: bool,
 }
 
 // Fills the slot of index i with a point, its depth, and 0 for its clause, as no slot is processed that is just filled. A caller fills
@@ -70,7 +70,7 @@ pub fn try_flip(
     requires { ⌜ Fillable (g .variables) (g .permutations) (now images) (now moved) (g .room) x d filled heads (now links) (memory (now points) (now falsified) (now depths))
         × Headed (filled + 1) (g .room) heads × (v < g .variables) ⌝ }
     ensures { λ r. ⌜ Tries (permutationsIn (g .variables) (g .permutations) (now (images .entry))) (g .room) x d v filled
-        (memory (now (points .entry)) (now (falsified .entry)) (now (depths .entry))) (r .roomy) (r .filled)
+        (memory (now (points .entry)) (now (falsified .entry)) (now (depths .entry))) (r .enough) (r .filled)
         (memory (now (points .exit)) (now (falsified .exit)) (now (depths .exit)))
         × Follows heads (g .variables) filled (r .filled) (pointsOf (now (points .exit))) (now (links .exit)) ⌝ }
 {
@@ -89,24 +89,24 @@ pub fn try_flip(
     );
     if known {
         return Grown {
-            filled: filled,
-            roomy: true,
+            filled,
+            enough: true,
         };
     }
     if g.room <= filled {
         return Grown {
-            filled: filled,
-            roomy: false,
+            filled,
+            enough: false,
         };
     }
     let y = points::flip(x, v);
     let deeper = d + 1;
     point_index::add(links, heads, points, n, filled, y);
     fill(points, falsified, depths, filled, y, deeper);
-    let more = filled + 1;
+    let filled = filled + 1;
     Grown {
-        filled: more,
-        roomy: true,
+        filled,
+        enough: true,
     }
 }
 
@@ -129,14 +129,14 @@ pub fn expand(
     requires { ⌜ Fillable (g .variables) (g .permutations) (now images) (now moved) (g .room) x d filled heads (now links) (memory (now points) (now falsified) (now depths))
         × Headed (filled + g .variables) (g .room) heads × (listed < 2 ^ g .variables) ⌝ }
     ensures { λ r. ⌜ Advances (permutationsIn (g .variables) (g .permutations) (now (images .entry))) (g .room) x d (members (g .variables) listed) filled
-        (memory (now (points .entry)) (now (falsified .entry)) (now (depths .entry))) (r .roomy) [] (r .filled)
+        (memory (now (points .entry)) (now (falsified .entry)) (now (depths .entry))) (r .enough) [] (r .filled)
         (memory (now (points .exit)) (now (falsified .exit)) (now (depths .exit)))
         × Indexed heads (g .variables) (take (r .filled) (pointsOf (now (points .exit)))) (now (links .exit)) ⌝ }
 {
     let n = g.variables;
     let mut left = listed;
     let mut v = points::next_variable(left);
-    let mut held = filled;
+    let mut filled = filled;
     while v < n {
         let grown = try_flip(
             g,
@@ -147,24 +147,24 @@ pub fn expand(
             depths,
             links,
             heads,
-            held,
+            filled,
             x,
             d,
             v,
         );
-        let roomy = grown.roomy;
-        held = grown.filled;
-        if !roomy {
+        let enough = grown.enough;
+        filled = grown.filled;
+        if !enough {
             return Grown {
-                filled: held,
-                roomy: false,
+                filled,
+                enough: false,
             };
         }
         left = points::flip(left, v);
         v = points::next_variable(left);
     }
     Grown {
-        filled: held,
-        roomy: true,
+        filled,
+        enough: true,
     }
 }

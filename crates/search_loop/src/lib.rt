@@ -4,7 +4,7 @@ use point_slices::point_at;
 use points::Point;
 use search_expansion::Depth;
 use search_expansion::Frame;
-use search_step::Answer;
+use search_step::Conclusion;
 use search_step::Step;
 use search_step::process;
 ghost use mathlib.Core.Bool.{_&&_};
@@ -19,7 +19,7 @@ ghost use Rattle.search_loop.specs.Laws.Exploring.{Explores};
 
 // What exploring comes to: the search's answer, or where it paused, since the index might be too small for one more step.
 pub enum Stage {
-    Answered(Answer),
+    Concluded(Conclusion),
     Paused { at: usize, filled: usize },
 }
 
@@ -36,7 +36,7 @@ fn outgrown(g: Frame, heads: usize, filled: usize) -> bool
     }
 }
 
-// W4, W9: processes the slots one after the other, from index `from` on with `held` slots filled, until one gives the answer, none is left, or
+// W4, W9: processes the slots one after the other, from index `from` on with `filled` slots filled, until one gives the answer, none is left, or
 // the index might be too small. At most `room` steps; from one to the next the images of the points are turned, one step for each permutation and
 // each variable in which the points differ. Its callers see to what it requires: they have stored the target and indexed the points.
 pub fn explore(
@@ -50,19 +50,19 @@ pub fn explore(
     links: &mut [u32],
     heads: usize,
     from: usize,
-    held: usize,
+    filled: usize,
 ) -> Stage
     requires { ⌜ Searchable g (now images) (now positive) (now negative) × Lends (g .room) (memory (now points) (now falsified) (now depths))
-        × Midway (framed g (now images) (now positive) (now negative)) (g .room) from held (memory (now points) (now falsified) (now depths))
-        × Linked (g .variables) heads held (pointsOf (now points)) (now links) ⌝ }
-    ensures { λ r. ⌜ Explores (framed g (now (images .entry)) (now (positive .entry)) (now (negative .entry))) (g .room) heads from held
+        × Midway (framed g (now images) (now positive) (now negative)) (g .room) from filled (memory (now points) (now falsified) (now depths))
+        × Linked (g .variables) heads filled (pointsOf (now points)) (now links) ⌝ }
+    ensures { λ r. ⌜ Explores (framed g (now (images .entry)) (now (positive .entry)) (now (negative .entry))) (g .room) heads from filled
         (memory (now (points .entry)) (now (falsified .entry)) (now (depths .entry))) r
         (memory (now (points .exit)) (now (falsified .exit)) (now (depths .exit))) ⌝ }
 {
     let mut moved = [0u64; 16];
     let mut seen: Point = 0;
     let mut at = from;
-    let mut filled = held;
+    let mut filled = filled;
     while at < filled {
         if outgrown(g, heads, filled) {
             return Stage::Paused { at, filled };
@@ -87,14 +87,14 @@ pub fn explore(
         let next = at + 1;
         match step {
             Step::Ends(answer) => {
-                return Stage::Answered(answer);
+                return Stage::Concluded(answer);
             }
-            Step::Goes { filled: more } => {
-                filled = more;
+            Step::Goes { filled: grown } => {
+                filled = grown;
             }
         }
         at = next;
     }
-    let slots = filled as u32;
-    Stage::Answered(Answer::Unsatisfiable { filled: slots })
+    let filled = filled as u32;
+    Stage::Concluded(Conclusion::Unsatisfiable { filled })
 }

@@ -6,13 +6,13 @@ use search_expansion::Frame;
 use search_expansion::fill;
 use search_loop::Stage;
 use search_loop::explore;
-use search_step::Answer;
+use search_step::Conclusion;
 ghost use mathlib.Core.List.{[], _∷_};
 ghost use Rattle.search_theory.specs.Walk.{slot};
 ghost use Rattle.check_distinct.specs.Laws.Indexing.{Links};
 ghost use Rattle.search_expansion.specs.Laws.Memory.{memory, Lends};
-ghost use Rattle.search_step.specs.Laws.Stepping.{answerOf, framed, Searchable, Midway, Ended};
-ghost use Rattle.search_loop.specs.Laws.Exploring.{Explores, Answers};
+ghost use Rattle.search_step.specs.Laws.Stepping.{replyOfConclusion, framed, Searchable, Midway, Ended};
+ghost use Rattle.search_loop.specs.Laws.Exploring.{Explores, Concludes};
 
 // Explores from index `at` on with an index of at most `heads` points, made here of those filled: one look-up each. The stages see to what it
 // requires.
@@ -65,11 +65,11 @@ fn finish(
     depths: &mut [Depth],
     at: usize,
     filled: usize,
-) -> Answer
+) -> Conclusion
     requires { ⌜ Searchable g (now images) (now positive) (now negative) × Lends (g .room) (memory (now points) (now falsified) (now depths))
         × Midway (framed g (now images) (now positive) (now negative)) (g .room) at filled (memory (now points) (now falsified) (now depths)) ⌝ }
-    ensures { λ r. ⌜ Answers (framed g (now (images .entry)) (now (positive .entry)) (now (negative .entry))) (g .room) at filled
-        (memory (now (points .entry)) (now (falsified .entry)) (now (depths .entry))) (answerOf r)
+    ensures { λ r. ⌜ Concludes (framed g (now (images .entry)) (now (positive .entry)) (now (negative .entry))) (g .room) at filled
+        (memory (now (points .entry)) (now (falsified .entry)) (now (depths .entry))) (replyOfConclusion r)
         (memory (now (points .exit)) (now (falsified .exit)) (now (depths .exit))) ⌝ }
 {
     let mut links = [0u32; 196608];
@@ -87,11 +87,8 @@ fn finish(
         filled,
     );
     match stage {
-        Stage::Answered(answer) => answer,
-        Stage::Paused {
-            at: next,
-            filled: held,
-        } => Answer::Unknown {
+        Stage::Concluded(answer) => answer,
+        Stage::Paused { at, filled } => Conclusion::Unknown {
             bound: 0,
             filled: 0,
         },
@@ -109,11 +106,11 @@ fn resume(
     depths: &mut [Depth],
     at: usize,
     filled: usize,
-) -> Answer
+) -> Conclusion
     requires { ⌜ Searchable g (now images) (now positive) (now negative) × Lends (g .room) (memory (now points) (now falsified) (now depths))
         × Midway (framed g (now images) (now positive) (now negative)) (g .room) at filled (memory (now points) (now falsified) (now depths)) ⌝ }
-    ensures { λ r. ⌜ Answers (framed g (now (images .entry)) (now (positive .entry)) (now (negative .entry))) (g .room) at filled
-        (memory (now (points .entry)) (now (falsified .entry)) (now (depths .entry))) (answerOf r)
+    ensures { λ r. ⌜ Concludes (framed g (now (images .entry)) (now (positive .entry)) (now (negative .entry))) (g .room) at filled
+        (memory (now (points .entry)) (now (falsified .entry)) (now (depths .entry))) (replyOfConclusion r)
         (memory (now (points .exit)) (now (falsified .exit)) (now (depths .exit))) ⌝ }
 {
     let mut links = [0u32; 24576];
@@ -131,11 +128,8 @@ fn resume(
         filled,
     );
     match stage {
-        Stage::Answered(answer) => answer,
-        Stage::Paused {
-            at: next,
-            filled: held,
-        } => finish(
+        Stage::Concluded(answer) => answer,
+        Stage::Paused { at, filled } => finish(
             g,
             images,
             positive,
@@ -143,8 +137,8 @@ fn resume(
             points,
             falsified,
             depths,
-            next,
-            held,
+            at,
+            filled,
         ),
     }
 }
@@ -159,10 +153,10 @@ pub fn start(
     points: &mut [u64],
     falsified: &mut [u32],
     depths: &mut [Depth],
-) -> Answer
+) -> Conclusion
     requires { ⌜ Searchable g (now images) (now positive) (now negative) × Lends (g .room) (memory (now points) (now falsified) (now depths)) ⌝ }
     ensures { λ r. ⌜ Ended (framed g (now (images .entry)) (now (positive .entry)) (now (negative .entry))) (g .room)
-        (memory (now (points .entry)) (now (falsified .entry)) (now (depths .entry))) [] (slot (g .target) 0 0 ∷ []) (answerOf r)
+        (memory (now (points .entry)) (now (falsified .entry)) (now (depths .entry))) [] (slot (g .target) 0 0 ∷ []) (replyOfConclusion r)
         (memory (now (points .exit)) (now (falsified .exit)) (now (depths .exit))) ⌝ }
 {
     fill(points, falsified, depths, 0, g.target, 0);
@@ -181,11 +175,8 @@ pub fn start(
         1,
     );
     match stage {
-        Stage::Answered(answer) => answer,
-        Stage::Paused {
-            at: next,
-            filled: held,
-        } => resume(
+        Stage::Concluded(answer) => answer,
+        Stage::Paused { at, filled } => resume(
             g,
             images,
             positive,
@@ -193,8 +184,8 @@ pub fn start(
             points,
             falsified,
             depths,
-            next,
-            held,
+            at,
+            filled,
         ),
     }
 }

@@ -13,7 +13,7 @@ ghost use Rattle.search_expansion.specs.Laws.Memory.{memory, Lends};
 ghost use Rattle.search_step.specs.Laws.Stepping.{framed, Searchable, Linked, Next, StillLinked, Midway, Steps};
 
 // What a search comes to; `search::Outcome` adds the refusals.
-pub enum Answer {
+pub enum Conclusion {
     Satisfiable {
         point: Point,
         distance: u32,
@@ -30,7 +30,7 @@ pub enum Answer {
 
 // What processing one slot comes to: the search's answer, or how many slots are filled now.
 pub enum Step {
-    Ends(Answer),
+    Ends(Conclusion),
     Goes { filled: usize },
 }
 
@@ -65,11 +65,11 @@ pub fn process(
     let number = first_falsified(positive, negative, x);
     if number == 0 {
         let distance = points::distance(x, g.target);
-        let slots = filled as u32;
-        return Step::Ends(Answer::Satisfiable {
+        let filled = filled as u32;
+        return Step::Ends(Conclusion::Satisfiable {
             point: x,
             distance,
-            filled: slots,
+            filled,
         });
     }
     let stored = number as u32;
@@ -90,13 +90,10 @@ pub fn process(
         d,
         listed,
     );
-    let held = grown.filled;
-    if grown.roomy {
-        return Step::Goes { filled: held };
+    let filled = grown.filled;
+    if grown.enough {
+        return Step::Goes { filled };
     }
-    let total = held as u32;
-    Step::Ends(Answer::Unknown {
-        bound: d,
-        filled: total,
-    })
+    let filled = filled as u32;
+    Step::Ends(Conclusion::Unknown { bound: d, filled })
 }

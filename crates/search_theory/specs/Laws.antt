@@ -4,7 +4,7 @@ pub mod InvariantLaws
 pub mod ExpansionLaws
 pub mod Ends
 pub mod Measure
-pub mod Answers
+pub mod Promised
 pub mod Bound
 pub mod Nearest
 pub mod Complete

@@ -71,7 +71,7 @@ module _ (es : List Permutation) (capacity : ℕ) (known : List Slot) (x d : ℕ
 
   -- the same, computed: a flip y, from whether it is covered and whether there is room
   unfoldable pub placed : Bool → Bool → ℕ → List Slot → Expansion
-  placed true roomy y w = complete w
+  placed true enough y w = complete w
   placed false true y w = complete (queued w (filledBy y))
   placed false false y w = full w
 

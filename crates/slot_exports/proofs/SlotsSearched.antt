@@ -60,7 +60,7 @@ module _ (f : Formula) (wf : Val) (κ₁ κ₂ κ₃ : Lft) (q₁ q₂ q₃ : Sh
           → Seq K W (‵ (O.the-row .own r (w ∷ [])) ∷ ‵ (finally R γ zs) ∷ ‵ (flft κ₁ q₁) ∷ ‵ (flft κ₂ q₂) ∷ ‵ (flft κ₃ q₃) ∷ Γ) G) → Seq K W (raw (SearchSlots 𝓤 H A mem run .post bound w) ∷ Γ) G
       has t a w goes-on = answered search-slots.ended (search-slots.clauses 𝓤 H A mem run) bound (tokens 𝓤) t a w (id⊢ 𝓤 _) (λ r zs.
           -- [the tokens; the answer; the last lists; what it is]
-          move t (3 ∷ []) $ heard t (Told r (zs .1 .1 .1 .0)) (λ told. split t $ move t (1 ∷ []) $ split t $ move t (1 ∷ []) $ split t $ move t (1 ∷ []) $ drop t $
+          move t (3 ∷ []) $ heard t (Told r (zs .1 .1 .1 .0)) (λ returned. split t $ move t (1 ∷ []) $ split t $ move t (1 ∷ []) $ split t $ move t (1 ∷ []) $ drop t $
           -- [slots' token; negative's; positive's; the answer; the last lists]
           move t (4 ∷ []) $ fsplit t $ drop t $ fsplit t $ drop t $ fsplit t $ drop t $ fsplit t $ move t (1 ∷ []) $ drop t $ fsplit t $ move t (1 ∷ []) $ feqL t (λ same. move t (4 ∷ 0 ∷ 3 ∷ 2 ∷ 1 ∷ []) $
-          peeks t O.the-row (Is O.the-row) (shows 𝓤 H A O.the-row) r (w ∷ []) (λ is. goes-on r (zs .1 .1 .1 .0) (EL.lawful O.the-type O′.the-laws 𝓤 H A W tt .typed r (w ∷ []) is .0) same told))))
+          peeks t O.the-row (Is O.the-row) (shows 𝓤 H A O.the-row) r (w ∷ []) (λ is. goes-on r (zs .1 .1 .1 .0) (EL.lawful O.the-type O′.the-laws 𝓤 H A W tt .typed r (w ∷ []) is .0) same returned))))

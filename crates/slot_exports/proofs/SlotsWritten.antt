@@ -40,22 +40,22 @@ abbrev pub WriteSlots : {M : Type 1} (𝓤 : URA M) (H : Heap 𝓤) (A : Atoms �
 WriteSlots 𝓤 H A mem run = Does 𝓤 H A write-slots.ended (write-slots.clauses 𝓤 H A mem run)
 
 -- the arguments
-module _ (f : Formula) (wf : Val) (κ₁ κ₂ κ₃ κ₄ : Lft) (q₁ q₂ q₃ q₄ : Share) (c₁ d₁ c₂ d₂ b o b₄ o₄ : ℕ) (δ₁ δ₂ γ δ₄ : GName) (us vs : List ℕ) (ys : List Slot) (count : ℕ) (os : List ℕ) where
+module _ (f : Formula) (wf : Val) (κ₁ κ₂ κ₃ κ₄ : Lft) (q₁ q₂ q₃ q₄ : Share) (c₁ d₁ c₂ d₂ b o b₄ o₄ : ℕ) (δ₁ δ₂ γ δ₄ : GName) (us vs : List ℕ) (ys : List Slot) (filled : ℕ) (os : List ℕ) where
   abbrev pub Told : Written → List ℕ → Type 0
-  Told r zs = Wrote f us vs (pointsIn ys) (falsifiedIn ys) (depthsIn ys) count os r zs
+  Told r zs = Wrote f us vs (pointsIn ys) (falsifiedIn ys) (depthsIn ys) filled os r zs
 
   abbrev tokens : {M : Type 1} (𝓤 : URA M) → Item 𝓤
   tokens 𝓤 = ‵ (flft κ₁ q₁) ⊛ (‵ (flft κ₂ q₂) ⊛ (‵ (flft κ₃ q₃) ⊛ (‵ (flft κ₄ q₄) ⊛ ‵ ftrue)))
 
   module _ {M : Type 1} (𝓤 : URA M) (H : Heap 𝓤) (A : Atoms 𝓤) (mem : Memory → SProp 𝓤) (run : Routine → Fun 𝓤) where
     abbrev pub bound : WriteSlots 𝓤 H A mem run .Ghost
-    bound = (((κ₁, (κ₂, (κ₃, (κ₄, tt)))), (q₁, (q₂, (q₃, (q₄, tt)))), tt, (f, (at-list c₁ d₁ δ₁ us, (at-list c₂ d₂ δ₂ vs, (at-list b o γ ys, (count, (at-list b₄ o₄ δ₄ os, tt)))))), (wf ∷ [], (sliceVal (c₁, d₁) (length us) ∷ [], (sliceVal (c₂, d₂) (length vs) ∷ [], (sliceVal (b, o) (length ys) ∷ [], (vint w32 count ∷ [], (sliceVal (b₄, o₄) (length os) ∷ [], tt))))))), tt)
+    bound = (((κ₁, (κ₂, (κ₃, (κ₄, tt)))), (q₁, (q₂, (q₃, (q₄, tt)))), tt, (f, (at-list c₁ d₁ δ₁ us, (at-list c₂ d₂ δ₂ vs, (at-list b o γ ys, (filled, (at-list b₄ o₄ δ₄ os, tt)))))), (wf ∷ [], (sliceVal (c₁, d₁) (length us) ∷ [], (sliceVal (c₂, d₂) (length vs) ∷ [], (sliceVal (b, o) (length ys) ∷ [], (vint w32 filled ∷ [], (sliceVal (b₄, o₄) (length os) ∷ [], tt))))))), tt)
 
     module _ {K : Type 0} (W : Given 𝓤 H A) {Γ : List (Item 𝓤)} {G : Goal 𝓤 H} where
-      pub asks : K → count < 2 ^ 32 → Step K W (raw (WriteSlots 𝓤 H A mem run .pre bound) ∷ Γ) G (‵ (F.the-row .own f (wf ∷ [])) ∷ ‵ (ShrSlice (named 0) κ₁ u64 .own (at-list c₁ d₁ δ₁ us) (sliceVal (c₁, d₁) (length us) ∷ []))
+      pub asks : K → filled < 2 ^ 32 → Step K W (raw (WriteSlots 𝓤 H A mem run .pre bound) ∷ Γ) G (‵ (F.the-row .own f (wf ∷ [])) ∷ ‵ (ShrSlice (named 0) κ₁ u64 .own (at-list c₁ d₁ δ₁ us) (sliceVal (c₁, d₁) (length us) ∷ []))
           ∷ ‵ (ShrSlice (named 1) κ₂ u64 .own (at-list c₂ d₂ δ₂ vs) (sliceVal (c₂, d₂) (length vs) ∷ [])) ∷ ‵ (ShrSlice (named 2) κ₃ R .own (at-list b o γ ys) (sliceVal (b, o) (length ys) ∷ [])) ∷ ‵ (MutSlice (named 3) κ₄ u8 .own (at-list b₄ o₄ δ₄ os) (sliceVal (b₄, o₄) (length os) ∷ []))
           ∷ ‵ (flft κ₁ q₁) ∷ ‵ (flft κ₂ q₂) ∷ ‵ (flft κ₃ q₃) ∷ ‵ (flft κ₄ q₄) ∷ Γ) G
-      asks t gc = step (λ s. nothing t $ move t (5 ∷ 0 ∷ []) $ fjoin t $ owned t u32 (Is u32) (uint-makes 𝓤 H A W w32) count (vint w32 count ∷ []) (refl, gc) $ fjoin t $ move t (4 ∷ 0 ∷ []) $ fjoin t $ move t (3 ∷ 0 ∷ []) $ fjoin t $
+      asks t gc = step (λ s. nothing t $ move t (5 ∷ 0 ∷ []) $ fjoin t $ owned t u32 (Is u32) (uint-makes 𝓤 H A W w32) filled (vint w32 filled ∷ []) (refl, gc) $ fjoin t $ move t (4 ∷ 0 ∷ []) $ fjoin t $ move t (3 ∷ 0 ∷ []) $ fjoin t $
           move t (2 ∷ 0 ∷ []) $ fjoin t $ move t (1 ∷ 0 ∷ []) $ fjoin t $ nothing t $ move t (5 ∷ 0 ∷ []) $ join t $ move t (4 ∷ 0 ∷ []) $ join t $ move t (3 ∷ 0 ∷ []) $ join t $ move t (2 ∷ 0 ∷ []) $ join t $
           asked write-slots.ended (write-slots.clauses 𝓤 H A mem run) bound (tokens 𝓤) t (id⊢ 𝓤 _) (id⊢ 𝓤 _) $ s)
 
@@ -63,8 +63,8 @@ module _ (f : Formula) (wf : Val) (κ₁ κ₂ κ₃ κ₄ : Lft) (q₁ q₂ q�
           → Seq K W (‵ (O.the-row .own r (w ∷ [])) ∷ ‵ (finally u8 δ₄ zs) ∷ ‵ (flft κ₁ q₁) ∷ ‵ (flft κ₂ q₂) ∷ ‵ (flft κ₃ q₃) ∷ ‵ (flft κ₄ q₄) ∷ Γ) G) → Seq K W (raw (WriteSlots 𝓤 H A mem run .post bound w) ∷ Γ) G
       has t a w goes-on = answered write-slots.ended (write-slots.clauses 𝓤 H A mem run) bound (tokens 𝓤) t a w (id⊢ 𝓤 _) (λ r zs.
           -- [the tokens; the answer; the last lists; what it is]
-          move t (3 ∷ []) $ heard t (Told r (zs .1 .1 .1 .1 .1 .0)) (λ told. split t $ move t (1 ∷ []) $ split t $ move t (1 ∷ []) $ split t $ move t (1 ∷ []) $ split t $ move t (1 ∷ []) $ drop t $
+          move t (3 ∷ []) $ heard t (Told r (zs .1 .1 .1 .1 .1 .0)) (λ returned. split t $ move t (1 ∷ []) $ split t $ move t (1 ∷ []) $ split t $ move t (1 ∷ []) $ split t $ move t (1 ∷ []) $ drop t $
           -- [out's token; slots'; negative's; positive's; the answer; the last lists]
           move t (5 ∷ []) $ fsplit t $ drop t $ fsplit t $ drop t $ fsplit t $ drop t $ fsplit t $ drop t $ fsplit t $ drop t $ fsplit t $ move t (1 ∷ []) $ drop t $ fsplit t $ move t (1 ∷ []) $
           feqL t (λ same. move t (5 ∷ 0 ∷ 4 ∷ 3 ∷ 2 ∷ 1 ∷ []) $
-          peeks t O.the-row (Is O.the-row) (shows 𝓤 H A O.the-row) r (w ∷ []) (λ is. goes-on r (zs .1 .1 .1 .1 .1 .0) (EL.lawful O.the-type O′.the-laws 𝓤 H A W tt .typed r (w ∷ []) is .0) same told))))
+          peeks t O.the-row (Is O.the-row) (shows 𝓤 H A O.the-row) r (w ∷ []) (λ is. goes-on r (zs .1 .1 .1 .1 .1 .0) (EL.lawful O.the-type O′.the-laws 𝓤 H A W tt .typed r (w ∷ []) is .0) same returned))))

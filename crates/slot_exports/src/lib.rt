@@ -7,8 +7,8 @@ use slot_columns::Slot;
 use slot_search::search_slots;
 use slot_writer::write_slots;
 ghost use Rattle.slot_columns.specs.Slots.{pointsIn, falsifiedIn, depthsIn};
-ghost use Rattle.exports.specs.Searching.{SearchTold};
-ghost use Rattle.exports.specs.Writing.{WriteTold};
+ghost use Rattle.exports.specs.Searching.{SearchReturns};
+ghost use Rattle.exports.specs.Writing.{WriteReturns};
 ghost use Rattle.export_words.specs.Words.{formulaFrom};
 
 // The search over a slice of slots, its answer told in the first four words of `reply`. It returns 1; where `reply` has no room it returns 0 and changes nothing.
@@ -24,7 +24,7 @@ pub extern "C" fn jugbowo_search_slots(
     slots: &mut [Slot],
     reply: &mut [u64],
 ) -> u32
-    ensures { λ r. ⌜ SearchTold (formulaFrom variables clauses target permutations (now (images .entry))) (now (positive .entry)) (now (negative .entry)) (pointsIn (now (slots .entry))) (falsifiedIn (now (slots .entry))) (depthsIn (now (slots .entry))) (now (reply .entry)) r
+    ensures { λ r. ⌜ SearchReturns (formulaFrom variables clauses target permutations (now (images .entry))) (now (positive .entry)) (now (negative .entry)) (pointsIn (now (slots .entry))) (falsifiedIn (now (slots .entry))) (depthsIn (now (slots .entry))) (now (reply .entry)) r
         (pointsIn (now (slots .exit))) (falsifiedIn (now (slots .exit))) (depthsIn (now (slots .exit))) (now (reply .exit)) ⌝ }
 {
     if reply.len() < WORDS {
@@ -47,18 +47,18 @@ pub extern "C" fn jugbowo_write_slots(
     positive: &[u64],
     negative: &[u64],
     slots: &[Slot],
-    count: u32,
+    filled: u32,
     out: &mut [u8],
     reply: &mut [u64],
 ) -> u32
-    ensures { λ r. ⌜ WriteTold (formulaFrom variables clauses target permutations (now (images .entry))) (now (positive .entry)) (now (negative .entry)) (pointsIn (now (slots .entry))) (falsifiedIn (now (slots .entry))) (depthsIn (now (slots .entry))) count (now (out .entry)) (now (reply .entry)) r
+    ensures { λ r. ⌜ WriteReturns (formulaFrom variables clauses target permutations (now (images .entry))) (now (positive .entry)) (now (negative .entry)) (pointsIn (now (slots .entry))) (falsifiedIn (now (slots .entry))) (depthsIn (now (slots .entry))) filled (now (out .entry)) (now (reply .entry)) r
         (now (out .exit)) (now (reply .exit)) ⌝ }
 {
     if reply.len() < WORDS {
         return 0;
     }
     let f = formula_from(variables, clauses, target, permutations, images);
-    let r = write_slots(f, positive, negative, slots, count, out);
+    let r = write_slots(f, positive, negative, slots, filled, out);
     put_written(reply, r);
     1
 }

@@ -43,11 +43,11 @@ pub fn write_front(
     falsified: &[u32],
     depths: &[u32],
     k: usize,
-    count: u32,
+    filled: u32,
     out: &mut [u8],
 ) -> Written
     requires { ⌜ Within k k (length (now points)) (length (now falsified)) (length (now depths)) ⌝ }
-    ensures { λ r. ⌜ Wrote f (now (positive .entry)) (now (negative .entry)) (take k (now (points .entry))) (take k (now (falsified .entry))) (take k (now (depths .entry))) count
+    ensures { λ r. ⌜ Wrote f (now (positive .entry)) (now (negative .entry)) (take k (now (points .entry))) (take k (now (falsified .entry))) (take k (now (depths .entry))) filled
         (now (out .entry)) r (now (out .exit)) ⌝ }
 {
     write(
@@ -57,7 +57,7 @@ pub fn write_front(
         &points[..k],
         &falsified[..k],
         &depths[..k],
-        count,
+        filled,
         out,
     )
 }

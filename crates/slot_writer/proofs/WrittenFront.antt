@@ -46,18 +46,18 @@ module _ {M : Type 1} (𝓤 : URA M) (H : Heap 𝓤) (A : Atoms 𝓤) (W : Given
   written-typed r w g = EL.lawful O.the-type O′.the-laws 𝓤 H A W tt .typed r (w ∷ []) g .0
 
 -- the arguments
-module _ (f : Formula) (us vs : List ℕ) (κ₀ κ₁ : Lft) (q₀ q₁ : Share) (c₀ d₀ c₁ d₁ : ℕ) (δ₀ δ₁ : GName) (b₁ o₁ b₂ o₂ b₃ o₃ : ℕ) (γ₁ γ₂ γ₃ : GName) (ps fs ds : List ℕ) (k n : ℕ) (ν₁ ν₂ ν₃ : ℕ) (count : ℕ) (b₄ o₄ : ℕ) (γ₄ : GName) (os : List ℕ) (ν₄ : ℕ) where
+module _ (f : Formula) (us vs : List ℕ) (κ₀ κ₁ : Lft) (q₀ q₁ : Share) (c₀ d₀ c₁ d₁ : ℕ) (δ₀ δ₁ : GName) (b₁ o₁ b₂ o₂ b₃ o₃ : ℕ) (γ₁ γ₂ γ₃ : GName) (ps fs ds : List ℕ) (k n : ℕ) (ν₁ ν₂ ν₃ : ℕ) (filled : ℕ) (b₄ o₄ : ℕ) (γ₄ : GName) (os : List ℕ) (ν₄ : ℕ) where
   abbrev Arg : Type 0
   Arg = Formula × (RefT (List ℕ) × (RefT (List ℕ) × (RefT (List ℕ) × (RefT (List ℕ) × (RefT (List ℕ) × (ℕ × (ℕ × (RefT (List ℕ) × Unit {0}))))))))
 
   abbrev x : Arg
-  x = (f, (record { ptr = (c₀, d₀); name = δ₀; now = us }, (record { ptr = (c₁, d₁); name = δ₁; now = vs }, (record { ptr = (b₁, o₁); name = γ₁; now = ps }, (record { ptr = (b₂, o₂); name = γ₂; now = fs }, (record { ptr = (b₃, o₃); name = γ₃; now = ds }, (k, (count, (record { ptr = (b₄, o₄); name = γ₄; now = os }, tt)))))))))
+  x = (f, (record { ptr = (c₀, d₀); name = δ₀; now = us }, (record { ptr = (c₁, d₁); name = δ₁; now = vs }, (record { ptr = (b₁, o₁); name = γ₁; now = ps }, (record { ptr = (b₂, o₂); name = γ₂; now = fs }, (record { ptr = (b₃, o₃); name = γ₃; now = ds }, (k, (filled, (record { ptr = (b₄, o₄); name = γ₄; now = os }, tt)))))))))
 
   abbrev at : List Val × (List Val × (List Val × (List Val × (List Val × (List Val × (List Val × (List Val × (List Val × Unit {0}))))))))
-  at = (formula-val f ∷ [], (sliceVal (c₀, d₀) (length us) ∷ [], (sliceVal (c₁, d₁) (length vs) ∷ [], (sliceVal (b₁, o₁) n ∷ [], (sliceVal (b₂, o₂) n ∷ [], (sliceVal (b₃, o₃) n ∷ [], (vint w64 k ∷ [], (vint w32 count ∷ [], (sliceVal (b₄, o₄) (length os) ∷ [], tt)))))))))
+  at = (formula-val f ∷ [], (sliceVal (c₀, d₀) (length us) ∷ [], (sliceVal (c₁, d₁) (length vs) ∷ [], (sliceVal (b₁, o₁) n ∷ [], (sliceVal (b₂, o₂) n ∷ [], (sliceVal (b₃, o₃) n ∷ [], (vint w64 k ∷ [], (vint w32 filled ∷ [], (sliceVal (b₄, o₄) (length os) ∷ [], tt)))))))))
 
   abbrev pub Told : Written → List ℕ → Type 0
-  Told r os′ = Wrote f us vs (take k ps) (take k fs) (take k ds) count os r os′
+  Told r os′ = Wrote f us vs (take k ps) (take k fs) (take k ds) filled os r os′
 
   abbrev tokens : {M : Type 1} (𝓤 : URA M) → Item 𝓤
   tokens 𝓤 = ‵ (flft κ₀ q₀) ⊛ (‵ (flft κ₁ q₁) ⊛ (‵ (flft (ν₁ ∷ []) fullShare) ⊛ (‵ (flft (ν₂ ∷ []) fullShare) ⊛ (‵ (flft (ν₃ ∷ []) fullShare) ⊛ (‵ (flft (ν₄ ∷ []) fullShare) ⊛ ‵ ftrue)))))
@@ -67,7 +67,7 @@ module _ (f : Formula) (us vs : List ℕ) (κ₀ κ₁ : Lft) (q₀ q₁ : Share
     bound = (((κ₀, (κ₁, (ν₁ ∷ [], (ν₂ ∷ [], (ν₃ ∷ [], (ν₄ ∷ [], tt)))))), (q₀, (q₁, (fullShare, (fullShare, (fullShare, (fullShare, tt)))))), tt, x, at), tt)
 
     module _ {K : Type 0} (W : Given 𝓤 H A) {Γ : List (Item 𝓤)} {G : Goal 𝓤 H} where
-      pub asks : K → Is F.the-row f (formula-val f ∷ []) → k < 2 ^ 64 → count < 2 ^ 32 → Within k k (length ps) (length fs) (length ds) → Step K W (raw (WriteFront 𝓤 H A mem run .pre bound) ∷ Γ) G
+      pub asks : K → Is F.the-row f (formula-val f ∷ []) → k < 2 ^ 64 → filled < 2 ^ 32 → Within k k (length ps) (length fs) (length ds) → Step K W (raw (WriteFront 𝓤 H A mem run .pre bound) ∷ Γ) G
           (‵ (ShrSlice (named 0) κ₀ u64 .own (x .1 .0) (at .1 .0)) ∷ ‵ (flft κ₀ q₀) ∷ ‵ (ShrSlice (named 1) κ₁ u64 .own (x .1 .1 .0) (at .1 .1 .0)) ∷ ‵ (flft κ₁ q₁)
           ∷ ‵ (ShrSlice (named 2) (ν₁ ∷ []) u64 .own (x .1 .1 .1 .0) (at .1 .1 .1 .0)) ∷ ‵ (flft (ν₁ ∷ []) fullShare)
           ∷ ‵ (ShrSlice (named 3) (ν₂ ∷ []) u32 .own (x .1 .1 .1 .1 .0) (at .1 .1 .1 .1 .0)) ∷ ‵ (flft (ν₂ ∷ []) fullShare)
@@ -75,7 +75,7 @@ module _ (f : Formula) (us vs : List ℕ) (κ₀ κ₁ : Lft) (q₀ q₁ : Share
           ∷ ‵ (MutSlice (named 5) (ν₄ ∷ []) u8 .own (x .1 .1 .1 .1 .1 .1 .1 .1 .0) (at .1 .1 .1 .1 .1 .1 .1 .1 .0)) ∷ ‵ (flft (ν₄ ∷ []) fullShare) ∷ Γ) G
       asks t gf gk gc within = step (λ s. nothing t $ move t (12 ∷ 0 ∷ []) $ join t $ move t (10 ∷ 0 ∷ []) $ join t $ move t (8 ∷ 0 ∷ []) $ join t $ move t (6 ∷ 0 ∷ []) $ join t $ move t (4 ∷ 0 ∷ []) $ join t $ move t (2 ∷ 0 ∷ []) $ join t $
           -- [the tokens; positive; negative; points; falsified; depths; out]
-          nothing t $ move t (7 ∷ 0 ∷ []) $ fjoin t $ owned t u32 (Is u32) (uint-makes 𝓤 H A W w32) count (vint w32 count ∷ []) (refl, gc) $ fjoin t $ owned t usize (Is usize) (uint-makes 𝓤 H A W w64) k (vint w64 k ∷ []) (refl, gk) $ fjoin t $
+          nothing t $ move t (7 ∷ 0 ∷ []) $ fjoin t $ owned t u32 (Is u32) (uint-makes 𝓤 H A W w32) filled (vint w32 filled ∷ []) (refl, gc) $ fjoin t $ owned t usize (Is usize) (uint-makes 𝓤 H A W w64) k (vint w64 k ∷ []) (refl, gk) $ fjoin t $
           move t (6 ∷ 0 ∷ []) $ fjoin t $ move t (5 ∷ 0 ∷ []) $ fjoin t $ move t (4 ∷ 0 ∷ []) $ fjoin t $ move t (3 ∷ 0 ∷ []) $ fjoin t $ move t (2 ∷ 0 ∷ []) $ fjoin t $
           owned t F.the-row (Is F.the-row) (LL.makes F.the-type F′.the-plain 𝓤 H A) f (formula-val f ∷ []) gf $ fjoin t $ move t (1 ∷ 0 ∷ []) $
           asked write-front.ended (write-front.clauses 𝓤 H A mem run) bound (tokens 𝓤) t (id⊢ 𝓤 _) (factI 𝓤 (Within k k (length ps) (length fs) (length ds)) (emp 𝓤) within) $ s)

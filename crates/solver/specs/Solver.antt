@@ -11,7 +11,7 @@ use Rattle.claims.specs.Claim.{Sheet, from-text, by-value, formulaIn, positiveI
 
 -- three lent slices as slots
 abbrev pub slotsOf : List ℕ → List ℕ → List ℕ → Slots
-slotsOf points numbers depths = record { points = points; numbers = numbers; depths = depths }
+slotsOf points falsified depths = record { points = points; falsified = falsified; depths = depths }
 
 -- the clause slices that the solver lends to the reader: the most clauses, 0 throughout
 unfoldable pub blank : List ℕ
@@ -28,9 +28,9 @@ readingOf (by-value f p q) = parsed
 module _ {A : Type 0} where
   unfoldable pub afterReading : Reply → A → A → A
   afterReading (refused code place) kept new = kept
-  afterReading (satisfiable x d k) kept new = new
-  afterReading (unsatisfiable k) kept new = new
-  afterReading (unknown b k) kept new = new
+  afterReading (satisfiable x d filled) kept new = new
+  afterReading (unsatisfiable filled) kept new = new
+  afterReading (unknown b filled) kept new = new
   afterReading parsed kept new = new
   afterReading (written size) kept new = new
   afterReading opened kept new = new
@@ -49,10 +49,10 @@ sheetSlice part s slots old = afterReading (readingOf s) old (searchSlice part (
 module _ {A : Type 0} where
   -- of k filled slots, or nothing new
   unfoldable pub onRefutation : Reply → A → (ℕ → A) → A
-  onRefutation (unsatisfiable k) kept new = new k
+  onRefutation (unsatisfiable filled) kept new = new filled
   onRefutation (refused code place) kept new = kept
-  onRefutation (satisfiable x d k) kept new = kept
-  onRefutation (unknown b k) kept new = kept
+  onRefutation (satisfiable x d filled) kept new = kept
+  onRefutation (unknown b filled) kept new = kept
   onRefutation parsed kept new = kept
   onRefutation (written size) kept new = kept
   onRefutation opened kept new = kept
@@ -60,8 +60,8 @@ module _ {A : Type 0} where
 
 unfoldable pub certificateReply : Sheet → Slots → List ℕ → Option Reply
 unfolding onRefutation
-certificateReply s l out = onRefutation (sheetReply s (lent l)) none (λ k. some (writerReply s l k out))
+certificateReply s l out = onRefutation (sheetReply s (lent l)) none (λ filled. some (writerReply s l filled out))
 
 unfoldable pub certificateOutput : Sheet → Slots → List ℕ → List ℕ
 unfolding onRefutation
-certificateOutput s l out = onRefutation (sheetReply s (lent l)) out (λ k. writerOutput s l k out)
+certificateOutput s l out = onRefutation (sheetReply s (lent l)) out (λ filled. writerOutput s l filled out)

@@ -10,12 +10,12 @@ use lib.ListN.{length, getD, getElem?, take, drop, length-take, length-drop}
 use lib.Seq.{length-take-le, getD-take, getD-drop}
 use Rattle.math.specs.Laws.PartLaws.{index-some, index-none}
 use Rattle.permutation_theory.specs.Permutations.{Permutation}
-use Rattle.formula.specs.Reply.{sound, fault, opened, unless}
+use Rattle.formula.specs.Reply.{no-fault, fault, opened, unless}
 use Rattle.certificate.specs.Bytes.{numberFrom, numbersIn, permutationWidth, pointWidth, numberWidth}
 use Rattle.certificate.specs.Laws.BytesLaws.{entries-at, entries-outside, permutations-entries}
 use Rattle.certificate.specs.Certificate.{contentsOf, WellFormed, wellFormed, permutationsBody, pointsBody, numbersBody, filePermutations, filePoints, fileNumbers, numberAt, imageAt}
 use Rattle.certificate.specs.Reader.{openedReply, openedContents}
-use Rattle.certificate.specs.Contract.{replyOf, contentsIn, handedOut, OpenedAs}
+use Rattle.certificate.specs.Contract.{replyOfOpened, contentsIn, handedOut, OpenedAs}
 use Rattle.certificate.specs.declared.Contents.{Contents}
 use Rattle.certificate.specs.declared.Opened.the-variants.{File, Refused}
 
@@ -51,18 +51,18 @@ module _ (n : ℕ) (body : List ℕ) (j i : ℕ) where
 -- ---- the reply
 
 pub opens : (file : List ℕ) (c : Contents) → wellFormed file ≡ true → contentsIn c ≡ contentsOf file → OpenedAs file (File c)
-unfolding openedReply openedContents handedOut replyOf
+unfolding openedReply openedContents handedOut replyOfOpened
 opens file c h e =
     record {
-      reply = ap (λ (b : Bool). unless (cond b sound (fault 14 (length file))) opened) (sym h);
+      reply = ap (λ (b : Bool). unless (cond b no-fault (fault 14 (length file))) opened) (sym h);
       contents = ap some e ∙ ap (λ (b : Bool). cond b (some (contentsOf file)) none) (sym h);
     }
 
 pub refuses : (file : List ℕ) → wellFormed file ≡ false → OpenedAs file (Refused 14 (length file))
-unfolding openedReply openedContents handedOut replyOf
+unfolding openedReply openedContents handedOut replyOfOpened
 refuses file h =
     record {
-      reply = ap (λ (b : Bool). unless (cond b sound (fault 14 (length file))) opened) (sym h);
+      reply = ap (λ (b : Bool). unless (cond b no-fault (fault 14 (length file))) opened) (sym h);
       contents = ap (λ (b : Bool). cond b (some (contentsOf file)) none) (sym h);
     }
 

@@ -14,7 +14,7 @@ use Rattle.math.specs.Laws.ListLaws.{and-split, and-join, here, has-in, in-has,
 use Rattle.math.specs.Lists.{_∈_, firstFailing, below, has, Distinct}
 use Rattle.math.specs.Laws.PartLaws.{distinct-by-index, distinct-earlier, same-failing-below}
 use Rattle.points.specs.Points.{Clause, Numbered, satisfies, numberedFrom}
-use Rattle.formula.specs.Reply.{Fault, fault, faultAt, sound}
+use Rattle.formula.specs.Reply.{Fault, fault, faultAt, no-fault}
 use Rattle.certificate.specs.Rows.{pointPasses, pointsFault, clauseNumbered, falsifies, numberPasses, numbersFault, roomFault}
 use Rattle.formula.specs.Laws.ReplyLaws.{tested}
 
@@ -23,7 +23,7 @@ not-of-false b e = rw e
 
 -- ---- row 16
 
-pub points-counted : (limit n count : ℕ) (points : List ℕ) → pointsFault limit n count points ≡ sound → (1 ≤ count) × (count ≤ limit)
+pub points-counted : (limit n count : ℕ) (points : List ℕ) → pointsFault limit n count points ≡ no-fault → (1 ≤ count) × (count ≤ limit)
 unfolding pointsFault
 points-counted limit n count points h =
     let w = and-split (leb 1 count) (leb count limit) (tested (leb 1 count && leb count limit) _ 16 0 h .0) in
@@ -179,6 +179,6 @@ pub too-short : (needed lent : ℕ) → lent < needed → roomFault needed lent 
 unfolding roomFault
 too-short needed lent h = rw (lt-leb needed lent h)
 
-pub long-enough : (needed lent : ℕ) → needed ≤ lent → roomFault needed lent ≡ sound
+pub long-enough : (needed lent : ℕ) → needed ≤ lent → roomFault needed lent ≡ no-fault
 unfolding roomFault
 long-enough needed lent h = rw (le-leb needed lent h)

@@ -11,7 +11,7 @@ use lib.Pow.{pow-mono}
 use lib.Seq.{length-take-le, take-at, drop-at, getD-take}
 use borrow.Author.Tests.{leb-true, eqb-true}
 use Rattle.math.specs.Laws.ListLaws.{and-split, in-getD}
-use Rattle.math.specs.Lists.{_∈_, count, Distinct}
+use Rattle.math.specs.Lists.{_∈_, Distinct}
 use Rattle.point_slices.specs.Laws.SliceLaws.{clauses-le}
 use Rattle.point_slices.specs.Slices.{pointsOf, clausesOf}
 use Rattle.permutation_theory.specs.Permutations.{Permutation, isPermutation}
@@ -20,7 +20,7 @@ use Rattle.formula.specs.Limits.{maxVariables, maxClauses, maxPermutations, max
 use Rattle.formula.specs.Problem.{Problem, problemOf}
 use Rattle.formula.specs.Refusals.{Fits, formulaFault, permutationFault, symmetryFault}
 use Rattle.formula.specs.Laws.RefusalLaws.{formula-passes}
-use Rattle.formula.specs.Reply.{unlessKept, sound, first, written}
+use Rattle.formula.specs.Reply.{unlessKept, no-fault, first, written}
 use Rattle.certificate.specs.Certificate.{FileContents, layout, certificateLength, Encodable}
 use Rattle.certificate.specs.Laws.CertificateLaws.{length-encode, contents-encode, encode-wellFormed, encode-permutations, encode-points, encode-numbers}
 use Rattle.formula.specs.Laws.ReplyLaws.{first-none, first-join, first-split, tested, each-passed, below-passed, not-refused, written-not-refused, unless-sound}
@@ -30,29 +30,29 @@ use Rattle.certificate.specs.Writer.{lengthNeeded, writeFault, writeRepl
 
 -- ---- the writer's rows
 
-module _ (f : Formula) (positive negative points numbers depths : List ℕ) (count : ℕ) (out : List ℕ) where
+module _ (f : Formula) (positive negative points falsified depths : List ℕ) (filled : ℕ) (out : List ℕ) where
   abbrev pb : Problem
   pb = problemOf f positive negative
 
   abbrev lent : ℕ
-  lent = capacity (length (pointsOf points)) (length numbers) (length depths)
+  lent = capacity (length (pointsOf points)) (length falsified) (length depths)
 
   pub record WriterPassed : Type 0 where
-    pub row10 : formulaFault f positive negative ≡ sound
-    pub row11 : permutationFault (pb .variables) (pb .permutations) ≡ sound
-    pub row12 : symmetryFault (pb .clauses) (pb .permutations) ≡ sound
-    pub row16 : pointsFault lent (pb .variables) count (pointsOf points) ≡ sound
-    pub row17 : numbersFault (pb .clauses) count (pointsOf points) numbers ≡ sound
-    pub row19 : roomFault (lengthNeeded pb count) (length out) ≡ sound
+    pub row10 : formulaFault f positive negative ≡ no-fault
+    pub row11 : permutationFault (pb .variables) (pb .permutations) ≡ no-fault
+    pub row12 : symmetryFault (pb .clauses) (pb .permutations) ≡ no-fault
+    pub row16 : pointsFault lent (pb .variables) filled (pointsOf points) ≡ no-fault
+    pub row17 : numbersFault (pb .clauses) filled (pointsOf points) falsified ≡ no-fault
+    pub row19 : roomFault (lengthNeeded pb filled) (length out) ≡ no-fault
 
   -- the writer's rows, in their order
-  pub write-rows : writeFault f positive negative points numbers depths count out
+  pub write-rows : writeFault f positive negative points falsified depths filled out
       ≡ first (formulaFault f positive negative ∷ permutationFault (pb .variables) (pb .permutations) ∷ symmetryFault (pb .clauses) (pb .permutations)
-      ∷ pointsFault lent (pb .variables) count (pointsOf points) ∷ numbersFault (pb .clauses) count (pointsOf points) numbers ∷ roomFault (lengthNeeded pb count) (length out) ∷ [])
+      ∷ pointsFault lent (pb .variables) filled (pointsOf points) ∷ numbersFault (pb .clauses) filled (pointsOf points) falsified ∷ roomFault (lengthNeeded pb filled) (length out) ∷ [])
   unfolding writeFault
   write-rows = refl
 
-  pub writer-passed : writeFault f positive negative points numbers depths count out ≡ sound → WriterPassed
+  pub writer-passed : writeFault f positive negative points falsified depths filled out ≡ no-fault → WriterPassed
   writer-passed h =
       let a = first-split _ _ (sym write-rows ∙ h) in
       let b = first-split _ _ (a .1) in
@@ -62,36 +62,36 @@ module _ (f : Formula) (positive negative points numbers depths : List ℕ) (cou
       let g = first-split _ _ (e .1) in
       record { row10 = a .0; row11 = b .0; row12 = c .0; row16 = d .0; row17 = e .0; row19 = g .0 }
 
-  pub passed-writer : WriterPassed → writeFault f positive negative points numbers depths count out ≡ sound
+  pub passed-writer : WriterPassed → writeFault f positive negative points falsified depths filled out ≡ no-fault
   passed-writer w =
       write-rows
       ∙ first-join _ _ (w .row10) (first-join _ _ (w .row11) (first-join _ _ (w .row12) (first-join _ _ (w .row16) (first-join _ _ (w .row17) (first-join _ _ (w .row19) first-none)))))
 
   -- the points and the clause numbers of the slots given
   abbrev xs : List ℕ
-  xs = take count (pointsOf points)
+  xs = take filled (pointsOf points)
 
   abbrev ks : List ℕ
-  ks = take count numbers
+  ks = take filled falsified
 
   -- row 16: the slots given are among those lent
-  pub few-slots : pointsFault lent (pb .variables) count (pointsOf points) ≡ sound → (count ≤ maxSlots) × (count ≤ length points) × (count ≤ length numbers)
+  pub few-slots : pointsFault lent (pb .variables) filled (pointsOf points) ≡ no-fault → (filled ≤ maxSlots) × (filled ≤ length points) × (filled ≤ length falsified)
   unfolding capacity
   few-slots h =
-      let w = points-counted lent (pb .variables) count (pointsOf points) h .1 in (omega arith, omega arith, omega arith)
+      let w = points-counted lent (pb .variables) filled (pointsOf points) h .1 in (omega arith, omega arith, omega arith)
 
   module _ (passed : WriterPassed) where
     limited : Fits (f .variables) (f .clauses) positive negative
     limited = formula-passes f positive negative (passed .row10) .0
 
-    few : (count ≤ maxSlots) × (count ≤ length points) × (count ≤ length numbers)
+    few : (filled ≤ maxSlots) × (filled ≤ length points) × (filled ≤ length falsified)
     few = few-slots (passed .row16)
 
-    length-xs : length xs ≡ count
-    length-xs = length-take-le count points (few .1)
+    length-xs : length xs ≡ filled
+    length-xs = length-take-le filled points (few .1)
 
-    length-ks : length ks ≡ count
-    length-ks = length-take-le count numbers (few .2)
+    length-ks : length ks ≡ filled
+    length-ks = length-take-le filled falsified (few .2)
 
     -- row 11
     permutations-fit : (length (pb .permutations) ≤ maxPermutations) × ((e : Permutation) → e ∈ pb .permutations → length (e .images) ≡ f .variables)
@@ -106,20 +106,20 @@ module _ (f : Formula) (positive negative points numbers depths : List ℕ) (cou
     pub slots-passed : ((x : ℕ) → x ∈ xs → x < 2 ^ f .variables) × Distinct xs
     unfolding pointsFault problemOf
     slots-passed =
-        let t = tested (leb 1 count && leb count lent) _ 16 0 (passed .row16) in
-        points-passed (f .variables) xs (λ i lt. let h : i < count = subst (λ (k : ℕ). i < k) length-xs lt in
-        point-passes-take (f .variables) points count i h ∙ below-passed 16 (pointPasses (f .variables) points) count (t .1) i h)
+        let t = tested (leb 1 filled && leb filled lent) _ 16 0 (passed .row16) in
+        points-passed (f .variables) xs (λ i lt. let h : i < filled = subst (λ (k : ℕ). i < k) length-xs lt in
+        point-passes-take (f .variables) points filled i h ∙ below-passed 16 (pointPasses (f .variables) points) filled (t .1) i h)
 
     -- row 17
     numbers-fit : (k : ℕ) → k ∈ ks → k ≤ maxClauses
     unfolding numbersFault problemOf
     numbers-fit k m =
         let w = in-getD 0 m in
-        let lt : w .0 < count = subst (λ (j : ℕ). w .0 < j) length-ks (w .1) in
-        let found = number-passed (pb .clauses) points numbers (w .0) (below-passed 17 (numberPasses (pb .clauses) points numbers) count (passed .row17) (w .0) lt) in
-        let r = clause-found (pb .clauses) (getD numbers (w .0) 0) (found .0) (found .1) in
-        let named : r .0 .number ≡ getD numbers (w .0) 0 = r .2 in
-        let here : getD ks (w .0) 0 ≡ getD numbers (w .0) 0 = getD-take count numbers (w .0) 0 lt in
+        let lt : w .0 < filled = subst (λ (j : ℕ). w .0 < j) length-ks (w .1) in
+        let found = number-passed (pb .clauses) points falsified (w .0) (below-passed 17 (numberPasses (pb .clauses) points falsified) filled (passed .row17) (w .0) lt) in
+        let r = clause-found (pb .clauses) (getD falsified (w .0) 0) (found .0) (found .1) in
+        let named : r .0 .number ≡ getD falsified (w .0) 0 = r .2 in
+        let here : getD ks (w .0) 0 ≡ getD falsified (w .0) 0 = getD-take filled falsified (w .0) 0 lt in
         let same : getD ks (w .0) 0 ≡ k = w .2 in
         let within = numbered-range 1 (clausesOf positive negative) (r .0) (r .1) in
         let size : length (clausesOf positive negative) ≤ length positive = clauses-le positive negative in
@@ -136,8 +136,8 @@ module _ (f : Formula) (positive negative points numbers depths : List ℕ) (cou
         let e = permutations-fit in
         let few-permutations : length (pb .permutations) ≤ maxPermutations = e .0 in
         let area : length (pb .permutations) * f .variables ≤ maxPermutations * maxVariables = mul-le-mul few-permutations few-variables in
-        let many : length xs ≡ count = length-xs in
-        let limit : count ≤ maxSlots = few .0 in
+        let many : length xs ≡ filled = length-xs in
+        let limit : filled ≤ maxSlots = few .0 in
         record {
           variablesFit = omega arith;
           clausesFit = omega arith;
@@ -149,17 +149,17 @@ module _ (f : Formula) (positive negative points numbers depths : List ℕ) (cou
           offsetsFit = omega arith;
         }
 
-    room : lengthNeeded pb count ≤ length out
+    room : lengthNeeded pb filled ≤ length out
     unfolding roomFault
-    room = leb-true (lengthNeeded pb count) (length out) (tested (leb (lengthNeeded pb count) (length out)) sound 19 (lengthNeeded pb count) (passed .row19) .0)
+    room = leb-true (lengthNeeded pb filled) (length out) (tested (leb (lengthNeeded pb filled) (length out)) no-fault 19 (lengthNeeded pb filled) (passed .row19) .0)
 
-    pub certificate-length : length (certificateOf pb points numbers count) ≡ lengthNeeded pb count
+    pub certificate-length : length (certificateOf pb points falsified filled) ≡ lengthNeeded pb filled
     unfolding certificateOf lengthNeeded
     certificate-length =
         length-encode (pb .variables) (pb .total) (pb .permutations) xs ks writer-encodable
         ∙ ap (certificateLength (pb .variables) (length (pb .permutations))) length-xs
 
-    certificate-reads : ReadsAs pb xs ks (certificateOf pb points numbers count)
+    certificate-reads : ReadsAs pb xs ks (certificateOf pb points falsified filled)
     unfolding certificateOf layout
     certificate-reads =
         let n = pb .variables in
@@ -177,39 +177,39 @@ module _ (f : Formula) (positive negative points numbers depths : List ℕ) (cou
         }
 
   -- the writer puts out exactly where its tests find nothing
-  pub output-written : writeFault f positive negative points numbers depths count out ≡ sound
-      → writeOutput f positive negative points numbers depths count out ≡ certificateOf pb points numbers count ++ drop (lengthNeeded pb count) out
+  pub output-written : writeFault f positive negative points falsified depths filled out ≡ no-fault
+      → writeOutput f positive negative points falsified depths filled out ≡ certificateOf pb points falsified filled ++ drop (lengthNeeded pb filled) out
   unfolding writeOutput
-  output-written h = ap (λ t. unlessKept t (certificateOf pb points numbers count ++ drop (lengthNeeded pb count) out) out) h
+  output-written h = ap (λ t. unlessKept t (certificateOf pb points falsified filled ++ drop (lengthNeeded pb filled) out) out) h
 
-  pub reply-written : writeFault f positive negative points numbers depths count out ≡ sound
-      → writeReply f positive negative points numbers depths count out ≡ written (lengthNeeded pb count)
+  pub reply-written : writeFault f positive negative points falsified depths filled out ≡ no-fault
+      → writeReply f positive negative points falsified depths filled out ≡ written (lengthNeeded pb filled)
   unfolding writeReply
-  reply-written h = unless-sound (writeFault f positive negative points numbers depths count out) h (written (lengthNeeded pb count))
+  reply-written h = unless-sound (writeFault f positive negative points falsified depths filled out) h (written (lengthNeeded pb filled))
 
-  pub written-sound : (size : ℕ) → writeReply f positive negative points numbers depths count out ≡ written size
-      → (writeFault f positive negative points numbers depths count out ≡ sound) × (size ≡ lengthNeeded pb count)
+  pub written-sound : (size : ℕ) → writeReply f positive negative points falsified depths filled out ≡ written size
+      → (writeFault f positive negative points falsified depths filled out ≡ no-fault) × (size ≡ lengthNeeded pb filled)
   unfolding writeReply
   written-sound size h =
-      let s = not-refused (writeFault f positive negative points numbers depths count out) (written (lengthNeeded pb count)) (written size) h (written-not-refused size) in
+      let s = not-refused (writeFault f positive negative points falsified depths filled out) (written (lengthNeeded pb filled)) (written size) h (written-not-refused size) in
       let r = reply-written s in
       (s, cc)
 
   -- D2.4: "a written certificate reads back to the same points and rules"
-  pub reads-back : (size : ℕ) → writeReply f positive negative points numbers depths count out ≡ written size
-      → ReadsAs pb xs ks (take size (writeOutput f positive negative points numbers depths count out))
+  pub reads-back : (size : ℕ) → writeReply f positive negative points falsified depths filled out ≡ written size
+      → ReadsAs pb xs ks (take size (writeOutput f positive negative points falsified depths filled out))
   reads-back size h =
       let w = written-sound size h in
       let passed = writer-passed (w .0) in
-      let front : take size (writeOutput f positive negative points numbers depths count out) ≡ certificateOf pb points numbers count =
-      ap (take size) (output-written (w .0)) ∙ take-at (certificateOf pb points numbers count) (drop (lengthNeeded pb count) out) size (certificate-length passed ∙ sym (w .1)) in
+      let front : take size (writeOutput f positive negative points falsified depths filled out) ≡ certificateOf pb points falsified filled =
+      ap (take size) (output-written (w .0)) ∙ take-at (certificateOf pb points falsified filled) (drop (lengthNeeded pb filled) out) size (certificate-length passed ∙ sym (w .1)) in
       rw front (certificate-reads passed)
 
   -- C6: "Output past the certificate is unchanged."
-  pub past-unchanged : (size : ℕ) → writeReply f positive negative points numbers depths count out ≡ written size
-      → drop size (writeOutput f positive negative points numbers depths count out) ≡ drop size out
+  pub past-unchanged : (size : ℕ) → writeReply f positive negative points falsified depths filled out ≡ written size
+      → drop size (writeOutput f positive negative points falsified depths filled out) ≡ drop size out
   past-unchanged size h =
       let w = written-sound size h in
       let passed = writer-passed (w .0) in
-      ap (drop size) (output-written (w .0)) ∙ drop-at (certificateOf pb points numbers count) (drop (lengthNeeded pb count) out) size (certificate-length passed ∙ sym (w .1))
+      ap (drop size) (output-written (w .0)) ∙ drop-at (certificateOf pb points falsified filled) (drop (lengthNeeded pb filled) out) size (certificate-length passed ∙ sym (w .1))
       ∙ ap (λ (k : ℕ). drop k out) (sym (w .1))

@@ -10,7 +10,7 @@ use Rattle.certificate_writer.proofs.put_certificate.Statement.{stateme
 use Rattle.certificate_writer.proofs.put_certificate.Tie as tie
 
 -- the room that is required, as a sum
-room : (c : tie.Start) → 32 + c .args .permutations * c .args .n + c .args .count * 8 + c .args .count * 4 ≤ length (c .args .out .now)
+room : (c : tie.Start) → 32 + c .args .permutations * c .args .n + c .args .filled * 8 + c .args .filled * 4 ≤ length (c .args .out .now)
 unfolding certificateLength
 room c = c .pre .room
 

@@ -24,7 +24,7 @@ length-needed-requires : tie.Need-length-needed-requires
 length-needed-requires c κs =
     let slots = c .before .before in
     let a = slots .before .before .before .before .before .before .before .before .before .args in
-    within-limits (a .f) (a .positive .now) (a .negative .now) (a .points .now) (a .falsified .now) (a .depths .now) (a .count) (a .out .now)
+    within-limits (a .f) (a .positive .now) (a .negative .now) (a .points .now) (a .falsified .now) (a .depths .now) (a .filled) (a .out .now)
     _ (slots .before .before .problem-refusal .ensures) _ (slots .before .room .ensures) _ (slots .slots-refusal .ensures) (c .enum-told .given .1)
 
 returns-2 : tie.Need-returns-2
@@ -45,14 +45,14 @@ slice-aggregate-put-certificate c =
 
 put-certificate-requires : tie.Need-put-certificate-requires
 put-certificate-requires c κs =
-    let roomy = c .before .before .before in
-    let fine = roomy .before .before in
+    let enough-room = c .before .before .before in
+    let fine = enough-room .before .before in
     let slots = fine .before .before in
     let start = slots .before .before .before .before .before .before .before .before .before in
     let a = start .args in
-    storable-of (a .f) (a .positive .now) (a .negative .now) (a .points .now) (a .falsified .now) (a .depths .now) (a .count) (a .out .now)
+    storable-of (a .f) (a .positive .now) (a .negative .now) (a .points .now) (a .falsified .now) (a .depths .now) (a .filled) (a .out .now)
     _ (slots .before .before .problem-refusal .ensures) _ (slots .before .room .ensures) _ (slots .slots-refusal .ensures) (fine .enum-told .given .1)
-    _ (roomy .before .length-needed .ensures) (roomy .if1 .left) (whole start)
+    _ (enough-room .before .length-needed .ensures) (enough-room .if1 .left) (whole start)
 
 same-length : tie.Need-same-length
 same-length c = c .before .before .put-certificate .kept .0
@@ -60,11 +60,11 @@ same-length c = c .before .before .put-certificate .kept .0
 returns-3 : tie.Need-returns-3
 returns-3 c =
     let stored = c .before .before in
-    let roomy = stored .before .before .before .before in
-    let fine = roomy .before .before in
+    let enough-room = stored .before .before .before .before in
+    let fine = enough-room .before .before in
     let slots = fine .before .before in
     wrote-all _ _ _ _ _ _ _ _ _ (slots .before .before .problem-refusal .ensures) _ (slots .before .room .ensures) _ (slots .slots-refusal .ensures) (fine .enum-told .given .1)
-    _ (roomy .before .length-needed .ensures) (roomy .if1 .left) _ (stored .put-certificate .ensures)
+    _ (enough-room .before .length-needed .ensures) (enough-room .if1 .left) _ (stored .put-certificate .ensures)
 
 pub write-spec : {M : Type 1} → statement M
 write-spec =

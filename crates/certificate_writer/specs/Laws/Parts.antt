@@ -12,18 +12,18 @@ use Rattle.certificate.specs.Rows.{pointsFault, numbersFault}
 -- N5: rows 16 and 17, of the first count slots, behind what was found before
 unfoldable pub slotsFault : Fault → ℕ → ℕ → List Numbered → ℕ → List ℕ → List ℕ → Fault
 unfolding first pointsFault numbersFault
-slotsFault earlier limit n clauses count points numbers =
-    first (earlier ∷ pointsFault limit n count points ∷ numbersFault clauses count points numbers ∷ [])
+slotsFault earlier limit n clauses filled points falsified =
+    first (earlier ∷ pointsFault limit n filled points ∷ numbersFault clauses filled points falsified ∷ [])
 
 -- C3: "Bodies follow without gaps": the contents, then the bytes of the permutations as they stand, the points and the clause numbers
 abbrev pub parts : ℕ → ℕ → ℕ → List ℕ → List ℕ → List ℕ → ℕ → List ℕ
-parts n m permutations images points numbers count =
-    joined (bytesOf fieldWidth) (fieldsOf (layout n m permutations count count)) ++ take (permutations * n) images
-    ++ joined (bytesOf pointWidth) (take count (pointsOf points)) ++ joined (bytesOf numberWidth) (take count numbers)
+parts n m permutations images points falsified filled =
+    joined (bytesOf fieldWidth) (fieldsOf (layout n m permutations filled filled)) ++ take (permutations * n) images
+    ++ joined (bytesOf pointWidth) (take filled (pointsOf points)) ++ joined (bytesOf numberWidth) (take filled falsified)
 
 -- what is to be stored is there, and the output has room for it
-pub record Storable (n permutations : ℕ) (images points numbers : List ℕ) (count : ℕ) (out : List ℕ) : Type 0 where
+pub record Storable (n permutations : ℕ) (images points falsified : List ℕ) (filled : ℕ) (out : List ℕ) : Type 0 where
   pub imagesHeld : permutations * n ≤ length images
-  pub pointsHeld : count ≤ length (pointsOf points)
-  pub numbersHeld : count ≤ length numbers
-  pub room : certificateLength n permutations count ≤ length out
+  pub pointsHeld : filled ≤ length (pointsOf points)
+  pub numbersHeld : filled ≤ length falsified
+  pub room : certificateLength n permutations filled ≤ length out

@@ -11,7 +11,7 @@ use Rattle.points.specs.Points.{Numbered}
 use Rattle.point_slices.specs.Slices.{pointsOf}
 use Rattle.permutation_theory.specs.Permutations.{Permutation, permutationsIn}
 use Rattle.permutation_images.specs.Laws.LoopLaws.{length-permutations}
-use Rattle.formula.specs.Reply.{Fault, sound}
+use Rattle.formula.specs.Reply.{Fault, no-fault}
 use Rattle.formula.specs.Laws.ReplyLaws.{IsFault, answers-first, answers-rest, first-last}
 use Rattle.certificate.specs.Bytes.{bytesOf, joined, fieldWidth, pointWidth, numberWidth}
 use Rattle.certificate.specs.Laws.BytesLaws.{length-bytesOf, length-joined, joined-permutations}
@@ -23,26 +23,26 @@ use Rattle.certificate_writer.specs.Laws.Parts.{slotsFault, parts, Stora
 
 -- ---- rows 16 and 17
 
-module _ (earlier : Fault) (limit n : ℕ) (clauses : List Numbered) (count : ℕ) (points numbers : List ℕ) where
+module _ (earlier : Fault) (limit n : ℕ) (clauses : List Numbered) (filled : ℕ) (points falsified : List ℕ) where
   abbrev sixteen : Fault
-  sixteen = pointsFault limit n count points
+  sixteen = pointsFault limit n filled points
 
   abbrev seventeen : Fault
-  seventeen = numbersFault clauses count points numbers
+  seventeen = numbersFault clauses filled points falsified
 
   -- what was found before is the answer
-  pub stops-earlier : IsFault earlier → earlier ≡ slotsFault earlier limit n clauses count points numbers
+  pub stops-earlier : IsFault earlier → earlier ≡ slotsFault earlier limit n clauses filled points falsified
   unfolding slotsFault
   stops-earlier h = answers-first earlier earlier (sixteen ∷ seventeen ∷ []) refl h
 
-  module _ (passed : earlier ≡ sound) (r : Fault) (tested : r ≡ sixteen) where
+  module _ (passed : earlier ≡ no-fault) (r : Fault) (tested : r ≡ sixteen) where
     -- else what row 16 finds
-    pub stops-16 : IsFault r → r ≡ slotsFault earlier limit n clauses count points numbers
+    pub stops-16 : IsFault r → r ≡ slotsFault earlier limit n clauses filled points falsified
     unfolding slotsFault
     stops-16 h = answers-rest r earlier (sixteen ∷ seventeen ∷ []) passed (answers-first r sixteen (seventeen ∷ []) tested h)
 
     -- and else what row 17 does
-    pub ends-17 : r ≡ sound → seventeen ≡ slotsFault earlier limit n clauses count points numbers
+    pub ends-17 : r ≡ no-fault → seventeen ≡ slotsFault earlier limit n clauses filled points falsified
     unfolding slotsFault
     ends-17 h =
         answers-rest seventeen earlier (sixteen ∷ seventeen ∷ []) passed
@@ -50,25 +50,25 @@ module _ (earlier : Fault) (limit n : ℕ) (clauses : List Numbered) (count : �
 
 -- ---- the stores
 
-module _ (n m a : ℕ) (images points numbers : List ℕ) (count : ℕ) (out : List ℕ) (storable : Storable n a images points numbers count out) where
+module _ (n m a : ℕ) (images points falsified : List ℕ) (filled : ℕ) (out : List ℕ) (storable : Storable n a images points falsified filled out) where
   abbrev contentsPart : List ℕ
-  contentsPart = joined (bytesOf fieldWidth) (fieldsOf (layout n m a count count))
+  contentsPart = joined (bytesOf fieldWidth) (fieldsOf (layout n m a filled filled))
 
   abbrev pointsPart : List ℕ
-  pointsPart = joined (bytesOf pointWidth) (take count (pointsOf points))
+  pointsPart = joined (bytesOf pointWidth) (take filled (pointsOf points))
 
   -- where the bodies begin
   begins-images : length contentsPart ≡ contentsLength
-  begins-images = length-contents (layout n m a count count)
+  begins-images = length-contents (layout n m a filled filled)
 
   begins-points : length (contentsPart ++ take (a * n) images) ≡ contentsLength + a * n
   begins-points = length-append contentsPart (take (a * n) images) ∙ ap₂ _+_ begins-images (length-take-le (a * n) images (storable .imagesHeld))
 
-  begins-numbers : length (contentsPart ++ take (a * n) images ++ pointsPart) ≡ contentsLength + a * n + count * pointWidth
+  begins-numbers : length (contentsPart ++ take (a * n) images ++ pointsPart) ≡ contentsLength + a * n + filled * pointWidth
   begins-numbers =
       length-append (contentsPart ++ take (a * n) images) pointsPart
-      ∙ ap₂ _+_ begins-points (length-joined (bytesOf pointWidth) pointWidth (take count points) (λ x _. length-bytesOf pointWidth x)
-      ∙ ap (λ (k : ℕ). k * pointWidth) (length-take-le count points (storable .pointsHeld)))
+      ∙ ap₂ _+_ begins-points (length-joined (bytesOf pointWidth) pointWidth (take filled points) (λ x _. length-bytesOf pointWidth x)
+      ∙ ap (λ (k : ℕ). k * pointWidth) (length-take-le filled points (storable .pointsHeld)))
 
   -- behind the parts stored so far, the next
   behind : (place : ℕ) (front part before after : List ℕ) → length front ≡ place → before ≡ spliced 0 front out → after ≡ spliced place part before → after ≡ spliced 0 (front ++ part) out
@@ -78,23 +78,23 @@ module _ (n m a : ℕ) (images points numbers : List ℕ) (count : ℕ) (out : L
       → one ≡ spliced 0 contentsPart out
       → two ≡ spliced contentsLength (take (a * n) images) one
       → three ≡ spliced (contentsLength + a * n) pointsPart two
-      → four ≡ spliced (contentsLength + a * n + count * pointWidth) (joined (bytesOf numberWidth) (take count numbers)) three
-      → four ≡ over (parts n m a images points numbers count) out
+      → four ≡ spliced (contentsLength + a * n + filled * pointWidth) (joined (bytesOf numberWidth) (take filled falsified)) three
+      → four ≡ over (parts n m a images points falsified filled) out
   certificate-stored one two three four e f g h =
       behind _ _ _ three four begins-numbers (behind _ _ _ two three begins-points (behind _ _ _ one two begins-images e f) g) h
-      ∙ spliced-front (parts n m a images points numbers count) out
+      ∙ spliced-front (parts n m a images points falsified filled) out
 
 -- the parts are those of the certificate of what they stand for
-pub parts-encode : (n m a : ℕ) (images points numbers : List ℕ) (count : ℕ) → count ≤ length points → count ≤ length numbers
-    → parts n m a images points numbers count ≡ encode n m (permutationsIn n a images) (take count (pointsOf points)) (take count numbers)
+pub parts-encode : (n m a : ℕ) (images points falsified : List ℕ) (filled : ℕ) → filled ≤ length points → filled ≤ length falsified
+    → parts n m a images points falsified filled ≡ encode n m (permutationsIn n a images) (take filled (pointsOf points)) (take filled falsified)
 unfolding encode
-parts-encode n m a images points numbers count enough-points enough-numbers =
+parts-encode n m a images points falsified filled enough-points enough-numbers =
     let es : List Permutation = permutationsIn n a images in
-    let xs : List ℕ = take count (pointsOf points) in
-    let ks : List ℕ = take count numbers in
+    let xs : List ℕ = take filled (pointsOf points) in
+    let ks : List ℕ = take filled falsified in
     let whole : FileContents → List ℕ → List ℕ =
     λ c body. joined (bytesOf fieldWidth) (fieldsOf c) ++ body ++ joined (bytesOf pointWidth) xs ++ joined (bytesOf numberWidth) ks in
     ap₂ whole
-    (ap (λ (j : ℕ). layout n m j count count) (sym (length-permutations n a images))
-    ∙ ap₂ (λ (i j : ℕ). layout n m (length es) i j) (sym (length-take-le count points enough-points)) (sym (length-take-le count numbers enough-numbers)))
+    (ap (λ (j : ℕ). layout n m j filled filled) (sym (length-permutations n a images))
+    ∙ ap₂ (λ (i j : ℕ). layout n m (length es) i j) (sym (length-take-le filled points enough-points)) (sym (length-take-le filled falsified enough-numbers)))
     (sym (joined-permutations n a images))

@@ -17,14 +17,14 @@ use Rattle.formula.specs.Limits.{maxVariables, maxPermutations, maxSlots, capac
 use Rattle.formula.specs.Problem.{problemOf}
 use Rattle.formula.specs.Laws.RefusalLaws.{formula-passes, passes-few, images-room}
 use Rattle.formula.specs.Refusals.{formulaFault, permutationFault, symmetryFault, problemFault, faultOf}
-use Rattle.formula.specs.Reply.{Fault, sound, fault, first, written}
+use Rattle.formula.specs.Reply.{Fault, no-fault, fault, first, written}
 use Rattle.formula.specs.Laws.ReplyLaws.{first-split, first-last, first-after, first-before, first-nested}
 use Rattle.certificate_writer.specs.declared.Written.the-variants.{Bytes, Refused}
 use Rattle.certificate.specs.Certificate.{certificateLength}
 use Rattle.certificate.specs.Laws.RowLaws.{too-short, long-enough}
 use Rattle.certificate.specs.Rows.{pointsFault, numbersFault, roomFault}
 use Rattle.certificate.specs.Writer.{lengthNeeded, writeFault, writeReply, certificateOf, writeOutput}
-use Rattle.certificate_writer.specs.Contract.{replyOf, Wrote}
+use Rattle.certificate_writer.specs.Contract.{replyOfWritten, Wrote}
 use Rattle.certificate.specs.Laws.WriterLaws.{WriterPassed, write-rows, passed-writer, few-slots, certificate-length, output-written, reply-written}
 use Rattle.check_distinct.specs.Laws.Indexing.{Counted}
 use Rattle.certificate_writer.specs.Laws.Parts.{slotsFault, parts, Storable}
@@ -32,7 +32,7 @@ use Rattle.certificate_writer.specs.Laws.PartsLaws.{parts-encode}
 
 -- what row 16 requires where nothing was found before: few variables, and a point for each slot lent
 pub slots-counted : (f : Formula) (positive negative : List ℕ) (earlier : Fault) → earlier ≡ problemFault f positive negative
-    → (points : List ℕ) (a b limit : ℕ) → limit ≡ capacity (length (pointsOf points)) a b → earlier ≡ sound → Counted maxSlots (f .variables) limit points
+    → (points : List ℕ) (a b limit : ℕ) → limit ≡ capacity (length (pointsOf points)) a b → earlier ≡ no-fault → Counted maxSlots (f .variables) limit points
 unfolding problemFault problemOf capacity
 slots-counted f positive negative earlier is points a b limit lent passed =
     let es = permutationsIn (f .variables) (f .permutations) (f .images) in
@@ -43,100 +43,100 @@ slots-counted f positive negative earlier is points a b limit lent passed =
       most = omega arith;
     }
 
-module _ (f : Formula) (positive negative points numbers depths : List ℕ) (count : ℕ) (out : List ℕ) where
+module _ (f : Formula) (positive negative points falsified depths : List ℕ) (filled : ℕ) (out : List ℕ) where
   abbrev perms : List Permutation
   perms = permutationsIn (f .variables) (f .permutations) (f .images)
 
   abbrev lent : ℕ
-  lent = capacity (length (pointsOf points)) (length numbers) (length depths)
+  lent = capacity (length (pointsOf points)) (length falsified) (length depths)
 
   -- N5: rows 10 to 12, 16 and 17, and row 19
   abbrev problemTests : List Fault
   problemTests = formulaFault f positive negative ∷ permutationFault (f .variables) perms ∷ symmetryFault (numbered (clausesOf positive negative)) perms ∷ []
 
   abbrev slotTests : List Fault
-  slotTests = pointsFault lent (f .variables) count (pointsOf points) ∷ numbersFault (numbered (clausesOf positive negative)) count (pointsOf points) numbers ∷ []
+  slotTests = pointsFault lent (f .variables) filled (pointsOf points) ∷ numbersFault (numbered (clausesOf positive negative)) filled (pointsOf points) falsified ∷ []
 
   abbrev roomTest : Fault
-  roomTest = roomFault (certificateLength (f .variables) (length perms) count) (length out)
+  roomTest = roomFault (certificateLength (f .variables) (length perms) filled) (length out)
 
-  rows : writeFault f positive negative points numbers depths count out ≡ first ((problemTests ++ slotTests) ++ roomTest ∷ [])
+  rows : writeFault f positive negative points falsified depths filled out ≡ first ((problemTests ++ slotTests) ++ roomTest ∷ [])
   unfolding problemOf lengthNeeded
-  rows = write-rows f positive negative points numbers depths count out
+  rows = write-rows f positive negative points falsified depths filled out
 
   -- N1: "Every row leaves all lent slices unchanged"
-  refused-by : (code place : ℕ) → writeFault f positive negative points numbers depths count out ≡ fault code place
-      → Wrote f positive negative points numbers depths count out (Refused code place) out
-  unfolding writeReply writeOutput replyOf
+  refused-by : (code place : ℕ) → writeFault f positive negative points falsified depths filled out ≡ fault code place
+      → Wrote f positive negative points falsified depths filled out (Refused code place) out
+  unfolding writeReply writeOutput replyOfWritten
   refused-by code place h = record { reply = rw h; output = rw h }
 
   module _ (earlier : Fault) (problem-tested : earlier ≡ problemFault f positive negative) (limit : ℕ) (limit-is : limit ≡ lent) (told : Checked)
-      (slots-tested : faultOf told ≡ slotsFault earlier limit (f .variables) (numbered (clausesOf positive negative)) count (pointsOf points) numbers) where
+      (slots-tested : faultOf told ≡ slotsFault earlier limit (f .variables) (numbered (clausesOf positive negative)) filled (pointsOf points) falsified) where
     all-tested : first (problemTests ++ slotTests) ≡ faultOf told
     unfolding problemFault problemOf slotsFault
     all-tested =
-        sym (slots-tested ∙ ap₂ (λ (t : Fault) (k : ℕ). slotsFault t k (f .variables) (numbered (clausesOf positive negative)) count (pointsOf points) numbers) problem-tested limit-is
+        sym (slots-tested ∙ ap₂ (λ (t : Fault) (k : ℕ). slotsFault t k (f .variables) (numbered (clausesOf positive negative)) filled (pointsOf points) falsified) problem-tested limit-is
         ∙ first-nested problemTests slotTests)
 
     -- refusals 10 to 17
-    pub wrote-faulty : (code place : ℕ) → told ≡ Faulty code place → Wrote f positive negative points numbers depths count out (Refused code place) out
+    pub wrote-faulty : (code place : ℕ) → told ≡ Faulty code place → Wrote f positive negative points falsified depths filled out (Refused code place) out
     wrote-faulty code place e = refused-by code place (rows ∙ first-before (problemTests ++ slotTests) (roomTest ∷ []) code place (all-tested ∙ ap faultOf e))
 
     module _ (fine : told ≡ Passed) where
-      all-sound : first (problemTests ++ slotTests) ≡ sound
+      all-sound : first (problemTests ++ slotTests) ≡ no-fault
       all-sound = all-tested ∙ ap faultOf fine
 
-      row10 : formulaFault f positive negative ≡ sound
+      row10 : formulaFault f positive negative ≡ no-fault
       row10 = first-split _ _ all-sound .0
 
-      past-10 : first (permutationFault (f .variables) perms ∷ symmetryFault (numbered (clausesOf positive negative)) perms ∷ slotTests) ≡ sound
+      past-10 : first (permutationFault (f .variables) perms ∷ symmetryFault (numbered (clausesOf positive negative)) perms ∷ slotTests) ≡ no-fault
       past-10 = first-split _ _ all-sound .1
 
-      row11 : permutationFault (f .variables) perms ≡ sound
+      row11 : permutationFault (f .variables) perms ≡ no-fault
       row11 = first-split _ _ past-10 .0
 
-      past-11 : first (symmetryFault (numbered (clausesOf positive negative)) perms ∷ slotTests) ≡ sound
+      past-11 : first (symmetryFault (numbered (clausesOf positive negative)) perms ∷ slotTests) ≡ no-fault
       past-11 = first-split _ _ past-10 .1
 
-      row12 : symmetryFault (numbered (clausesOf positive negative)) perms ≡ sound
+      row12 : symmetryFault (numbered (clausesOf positive negative)) perms ≡ no-fault
       row12 = first-split _ _ past-11 .0
 
-      past-12 : first slotTests ≡ sound
+      past-12 : first slotTests ≡ no-fault
       past-12 = first-split _ _ past-11 .1
 
-      row16 : pointsFault lent (f .variables) count (pointsOf points) ≡ sound
+      row16 : pointsFault lent (f .variables) filled (pointsOf points) ≡ no-fault
       row16 = first-split _ _ past-12 .0
 
-      past-16 : first (numbersFault (numbered (clausesOf positive negative)) count (pointsOf points) numbers ∷ []) ≡ sound
+      past-16 : first (numbersFault (numbered (clausesOf positive negative)) filled (pointsOf points) falsified ∷ []) ≡ no-fault
       past-16 = first-split _ _ past-12 .1
 
-      row17 : numbersFault (numbered (clausesOf positive negative)) count (pointsOf points) numbers ≡ sound
+      row17 : numbersFault (numbered (clausesOf positive negative)) filled (pointsOf points) falsified ≡ no-fault
       row17 = first-split _ _ past-16 .0
 
       few-permutations : f .permutations ≤ maxPermutations
       few-permutations = passes-few (f .variables) (f .permutations) (f .images) row11
 
-      enough : (count ≤ maxSlots) × (count ≤ length points) × (count ≤ length numbers)
+      enough : (filled ≤ maxSlots) × (filled ≤ length points) × (filled ≤ length falsified)
       unfolding problemOf
-      enough = few-slots f positive negative points numbers depths count out row16
+      enough = few-slots f positive negative points falsified depths filled out row16
 
       -- what the computation of the length requires
-      pub within-limits : (f .variables ≤ maxVariables) × (f .permutations ≤ maxPermutations) × (count ≤ maxSlots)
+      pub within-limits : (f .variables ≤ maxVariables) × (f .permutations ≤ maxPermutations) × (filled ≤ maxSlots)
       within-limits = (formula-passes f positive negative row10 .0 .few-variables, few-permutations, enough .0)
 
-      module _ (size : ℕ) (size-is : size ≡ certificateLength (f .variables) (f .permutations) count) where
-        size-needed : size ≡ certificateLength (f .variables) (length perms) count
-        size-needed = size-is ∙ ap (λ (a : ℕ). certificateLength (f .variables) a count) (sym (length-permutations (f .variables) (f .permutations) (f .images)))
+      module _ (size : ℕ) (size-is : size ≡ certificateLength (f .variables) (f .permutations) filled) where
+        size-needed : size ≡ certificateLength (f .variables) (length perms) filled
+        size-needed = size-is ∙ ap (λ (a : ℕ). certificateLength (f .variables) a filled) (sym (length-permutations (f .variables) (f .permutations) (f .images)))
 
         -- refusal 19
-        pub wrote-too-short : length out < size → Wrote f positive negative points numbers depths count out (Refused 19 size) out
+        pub wrote-too-short : length out < size → Wrote f positive negative points falsified depths filled out (Refused 19 size) out
         wrote-too-short h =
             refused-by 19 size (rows ∙ first-after (problemTests ++ slotTests) (roomTest ∷ []) all-sound
             ∙ first-last roomTest ∙ ap (λ (k : ℕ). roomFault k (length out)) (sym size-needed) ∙ too-short size (length out) h)
 
         module _ (room : size ≤ length out) where
           -- what the stores require
-          pub storable-of : length (f .images) ≡ 1024 → Storable (f .variables) (f .permutations) (f .images) points numbers count out
+          pub storable-of : length (f .images) ≡ 1024 → Storable (f .variables) (f .permutations) (f .images) points falsified filled out
           storable-of whole =
               record {
                 imagesHeld = images-room f positive negative (within-limits .0) whole few-permutations;
@@ -145,7 +145,7 @@ module _ (f : Formula) (positive negative points numbers depths : List ℕ) (cou
                 room = le-trans (le-of-eq (sym size-is)) room;
               }
 
-          all-passed : WriterPassed f positive negative points numbers depths count out
+          all-passed : WriterPassed f positive negative points falsified depths filled out
           unfolding problemOf lengthNeeded
           all-passed =
               record {
@@ -157,22 +157,22 @@ module _ (f : Formula) (positive negative points numbers depths : List ℕ) (cou
                 row19 = ap (λ (k : ℕ). roomFault k (length out)) (sym size-needed) ∙ long-enough size (length out) room;
               }
 
-          nothing-found : writeFault f positive negative points numbers depths count out ≡ sound
-          nothing-found = passed-writer f positive negative points numbers depths count out all-passed
+          nothing-found : writeFault f positive negative points falsified depths filled out ≡ no-fault
+          nothing-found = passed-writer f positive negative points falsified depths filled out all-passed
 
-          parts-are : parts (f .variables) (f .clauses) (f .permutations) (f .images) points numbers count ≡ certificateOf (problemOf f positive negative) points numbers count
+          parts-are : parts (f .variables) (f .clauses) (f .permutations) (f .images) points falsified filled ≡ certificateOf (problemOf f positive negative) points falsified filled
           unfolding certificateOf problemOf
-          parts-are = parts-encode (f .variables) (f .clauses) (f .permutations) (f .images) points numbers count (enough .1) (enough .2)
+          parts-are = parts-encode (f .variables) (f .clauses) (f .permutations) (f .images) points falsified filled (enough .1) (enough .2)
 
           -- a certificate
-          pub wrote-all : (after : List ℕ) → after ≡ over (parts (f .variables) (f .clauses) (f .permutations) (f .images) points numbers count) out
-              → Wrote f positive negative points numbers depths count out (Bytes size) after
-          unfolding over replyOf lengthNeeded problemOf
+          pub wrote-all : (after : List ℕ) → after ≡ over (parts (f .variables) (f .clauses) (f .permutations) (f .images) points falsified filled) out
+              → Wrote f positive negative points falsified depths filled out (Bytes size) after
+          unfolding over replyOfWritten lengthNeeded problemOf
           wrote-all after e =
               record {
-                reply = ap written size-needed ∙ sym (reply-written f positive negative points numbers depths count out nothing-found);
+                reply = ap written size-needed ∙ sym (reply-written f positive negative points falsified depths filled out nothing-found);
                 output =
                     e ∙ ap (λ l. over l out) parts-are
-                    ∙ ap (λ (k : ℕ). certificateOf (problemOf f positive negative) points numbers count ++ drop k out) (certificate-length f positive negative points numbers depths count out all-passed)
-                    ∙ sym (output-written f positive negative points numbers depths count out nothing-found);
+                    ∙ ap (λ (k : ℕ). certificateOf (problemOf f positive negative) points falsified filled ++ drop k out) (certificate-length f positive negative points falsified depths filled out all-passed)
+                    ∙ sym (output-written f positive negative points falsified depths filled out nothing-found);
               }

@@ -8,7 +8,7 @@ use lib.ListN.{length, take, drop}
 use Rattle.math.specs.Lists.{firstFailing, below}
 use Rattle.math.specs.Laws.ScanLaws.{onFrom}
 use Rattle.formula.specs.Limits.{maxVariables, maxSlots}
-use Rattle.formula.specs.Reply.{Fault, sound}
+use Rattle.formula.specs.Reply.{Fault, no-fault}
 use Rattle.certificate.specs.Rows.{pointPasses, pointsFault}
 use Rattle.point_index.specs.Laws.Index.{Indexed}
 use Rattle.point_index.specs.Laws.Looking.{AllZero}
@@ -50,7 +50,7 @@ pub record Sifts (heads n count : ℕ) (points : List ℕ) (k : ℕ) (links′ :
 -- the answer is row 16; where it is no fault the links are an index of all points
 pub record Refuses (heads n count limit : ℕ) (points : List ℕ) (r : Fault) (links′ : List ℕ) : Type 0 where
   pub tells : r ≡ pointsFault limit n count points
-  pub full : r ≡ sound → Indexed heads n (take count points) links′
+  pub full : r ≡ no-fault → Indexed heads n (take count points) links′
 
 -- there are `count` points, of few variables, and no more than an array has room for
 pub record Counted (room n count : ℕ) (points : List ℕ) : Type 0 where

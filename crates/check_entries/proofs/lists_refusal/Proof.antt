@@ -5,7 +5,7 @@ use Rattle.points.specs.Points.{numbered}
 use Rattle.point_slices.specs.Slices.{clausesOf}
 use Rattle.formula.specs.Limits.{maxSlots}
 use Rattle.formula.specs.Refusals.{faultOf}
-use Rattle.formula.specs.Reply.{sound}
+use Rattle.formula.specs.Reply.{no-fault}
 use Rattle.formula.specs.Laws.ReplyLaws.{IsFault}
 use Rattle.certificate.specs.Rows.{pointsFault, numbersFault}
 use Rattle.check_entries.specs.Laws.EntryLaws.{stops-16, stops-17, ends-18, ready-testable}
@@ -24,10 +24,10 @@ numbers-refusal-requires : tie.Need-numbers-refusal-requires
 numbers-refusal-requires c κs = search needs
 
 -- the second test is reached where refusal 16 found nothing
-passed : (c : tie.After-enum-told) → faultOf (c .before .before .before .before .points-refusal .result) ≡ sound
+passed : (c : tie.After-enum-told) → faultOf (c .before .before .before .before .points-refusal .result) ≡ no-fault
 passed c = ap faultOf (c .enum-told .given .1)
 
-sixteen : (c : tie.After-enum-told) → pointsFault maxSlots (c .before .before .before .before .before .before .before .before .before .before .before .before .args .n) (c .before .before .before .before .before .before .before .before .before .before .before .before .args .count) (c .before .before .before .before .before .before .before .before .before .before .before .before .args .points .now) ≡ sound
+sixteen : (c : tie.After-enum-told) → pointsFault maxSlots (c .before .before .before .before .before .before .before .before .before .before .before .before .args .n) (c .before .before .before .before .before .before .before .before .before .before .before .before .args .count) (c .before .before .before .before .before .before .before .before .before .before .before .before .args .points .now) ≡ no-fault
 sixteen c = sym (c .before .before .before .before .points-refusal .ensures .tells) ∙ passed c
 
 returns-2 : tie.Need-returns-2
@@ -40,7 +40,7 @@ flips-refusal-requires c κs = ready-testable (c .before .before .before .before
 
 -- and the third where refusal 17 did not either
 seventeen : (c : tie.After-enum-told3)
-    → numbersFault (numbered (clausesOf (c .before .before .before .before .before .before .before .before .before .before .before .before .before .before .before .args .positive .now) (c .before .before .before .before .before .before .before .before .before .before .before .before .before .before .before .args .negative .now))) (c .before .before .before .before .before .before .before .before .before .before .before .before .before .before .before .args .count) (c .before .before .before .before .before .before .before .before .before .before .before .before .before .before .before .args .points .now) (c .before .before .before .before .before .before .before .before .before .before .before .before .before .before .before .args .numbers .now) ≡ sound
+    → numbersFault (numbered (clausesOf (c .before .before .before .before .before .before .before .before .before .before .before .before .before .before .before .args .positive .now) (c .before .before .before .before .before .before .before .before .before .before .before .before .before .before .before .args .negative .now))) (c .before .before .before .before .before .before .before .before .before .before .before .before .before .before .before .args .count) (c .before .before .before .before .before .before .before .before .before .before .before .before .before .before .before .args .points .now) (c .before .before .before .before .before .before .before .before .before .before .before .before .before .before .before .args .numbers .now) ≡ no-fault
 seventeen c = sym (c .before .before .numbers-refusal .ensures) ∙ ap faultOf (c .enum-told3 .given .1)
 
 returns-3 : tie.Need-returns-3

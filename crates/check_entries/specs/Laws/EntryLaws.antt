@@ -12,7 +12,7 @@ use Rattle.math.specs.Laws.PartLaws.{over-front}
 use Rattle.points.specs.Points.{Numbered}
 use Rattle.permutation_theory.specs.Permutations.{Permutation}
 use Rattle.formula.specs.Limits.{maxSlots}
-use Rattle.formula.specs.Reply.{Fault, sound}
+use Rattle.formula.specs.Reply.{Fault, no-fault}
 use Rattle.formula.specs.Laws.ReplyLaws.{IsFault, answers-first, answers-rest, first-last}
 use Rattle.certificate.specs.Bytes.{numberFrom, numbersIn}
 use Rattle.certificate.specs.Laws.BytesLaws.{length-entries}
@@ -49,10 +49,10 @@ module _ (n : ℕ) (cs : List Numbered) (es : List Permutation) (points numbers 
   pub stops-16 : (r : Fault) → r ≡ pointsFault maxSlots n count points → IsFault r → r ≡ listsFault n cs es ps ns
   stops-16 r e h = answers-first r _ _ (e ∙ row16) h
 
-  pub stops-17 : (r : Fault) → pointsFault maxSlots n count points ≡ sound → r ≡ numbersFault cs count points numbers → IsFault r → r ≡ listsFault n cs es ps ns
+  pub stops-17 : (r : Fault) → pointsFault maxSlots n count points ≡ no-fault → r ≡ numbersFault cs count points numbers → IsFault r → r ≡ listsFault n cs es ps ns
   stops-17 r sixteen e h = answers-rest r _ _ (sym row16 ∙ sixteen) (answers-first r _ _ (e ∙ row17) h)
 
-  pub ends-18 : (r : Fault) → pointsFault maxSlots n count points ≡ sound → numbersFault cs count points numbers ≡ sound → r ≡ flipsFault n cs es ps numbers → r ≡ listsFault n cs es ps ns
+  pub ends-18 : (r : Fault) → pointsFault maxSlots n count points ≡ no-fault → numbersFault cs count points numbers ≡ no-fault → r ≡ flipsFault n cs es ps numbers → r ≡ listsFault n cs es ps ns
   ends-18 r sixteen seventeen e =
       answers-rest r _ _ (sym row16 ∙ sixteen) (answers-rest r _ _ (sym row17 ∙ seventeen) (e ∙ row18 ∙ sym (first-last (flipsFault n cs es ps ns))))
 
@@ -75,7 +75,7 @@ lent-ready d l filled same =
 
 -- where row 16 finds nothing it has left an index of the points
 pub ready-testable : {n permutations : ℕ} {images positive negative : List ℕ} {count : ℕ} {points : List ℕ} {heads : ℕ} {links : List ℕ}
-    → Ready n permutations images positive negative count points heads links → {f : Fault} {links′ : List ℕ} → Refuses heads n count maxSlots points f links′ → f ≡ sound
+    → Ready n permutations images positive negative count points heads links → {f : Fault} {links′ : List ℕ} → Refuses heads n count maxSlots points f links′ → f ≡ no-fault
     → Testable n permutations images positive negative count points heads links′
 ready-testable r w e =
     record { given = r .given; enough = r .indexable .enough; indexed = w .full e }

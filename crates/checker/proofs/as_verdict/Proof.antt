@@ -4,7 +4,7 @@ use borrow.Author.Needs.{needs}
 use Rattle.formula.specs.declared.Checked.{Checked}
 use Rattle.formula.specs.Refusals.{faultOf}
 use Rattle.formula.specs.Reply.{accepted, unless}
-use Rattle.checker.specs.Contract.{replyOf}
+use Rattle.checker.specs.Contract.{replyOfVerdict}
 use Rattle.checker.proofs.as_verdict.Statement.{statement}
 use Rattle.checker.proofs.as_verdict.Tie as tie
 
@@ -13,11 +13,11 @@ told : {r s : Checked} → r ≡ s → unless (faultOf r) accepted ≡ unless (f
 told e = ap (λ (r : Checked). unless (faultOf r) accepted) e
 
 returns : tie.Need-returns
-unfolding replyOf unless
+unfolding replyOfVerdict unless
 returns c = sym (told (c .enum-told .given .1))
 
 returns-2 : tie.Need-returns-2
-unfolding replyOf unless
+unfolding replyOfVerdict unless
 returns-2 c = sym (told (c .before .checked .given .1))
 
 pub as-verdict-spec : {M : Type 1} → statement M

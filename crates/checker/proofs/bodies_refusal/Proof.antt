@@ -8,7 +8,7 @@ use Rattle.points.specs.Points.{numbered}
 use Rattle.point_slices.specs.Slices.{clausesOf}
 use Rattle.permutation_theory.specs.Permutations.{permutationsIn}
 use Rattle.formula.specs.Refusals.{permutationFault, symmetryFault, faultOf}
-use Rattle.formula.specs.Reply.{sound}
+use Rattle.formula.specs.Reply.{no-fault}
 use Rattle.formula.specs.Laws.ReplyLaws.{IsFault}
 use Rattle.checker.specs.Laws.PartLaws.{Laid, laid, images-listed, images-proper, stops-11, stops-12, too-many-points, ends-decoded}
 use Rattle.checker.proofs.bodies_refusal.Statement.{statement}
@@ -37,7 +37,7 @@ returns c =
     (subst IsFault (sym (ap faultOf (c .enum-told2 .given .1))) tt)
 
 -- what follows is reached where refusal 11 found nothing
-eleven : (c : tie.After-enum-told) → permutationFault (c .before .before .before .before .before .before .before .before .before .before .args .c .variables) (permutationsIn (c .before .before .before .before .before .before .before .before .before .before .args .c .variables) (c .before .before .before .before .before .before .before .before .before .before .args .c .permutations) (take (c .before .before .before .before .before .before .before .before .before .before .args .c .«points_at» - c .before .before .before .before .before .before .before .before .before .before .args .c .«permutations_at») (drop (c .before .before .before .before .before .before .before .before .before .before .args .c .«permutations_at») (c .before .before .before .before .before .before .before .before .before .before .args .file .now)))) ≡ sound
+eleven : (c : tie.After-enum-told) → permutationFault (c .before .before .before .before .before .before .before .before .before .before .args .c .variables) (permutationsIn (c .before .before .before .before .before .before .before .before .before .before .args .c .variables) (c .before .before .before .before .before .before .before .before .before .before .args .c .permutations) (take (c .before .before .before .before .before .before .before .before .before .before .args .c .«points_at» - c .before .before .before .before .before .before .before .before .before .before .args .c .«permutations_at») (drop (c .before .before .before .before .before .before .before .before .before .before .args .c .«permutations_at») (c .before .before .before .before .before .before .before .before .before .before .args .file .now)))) ≡ no-fault
 eleven c = sym (c .before .before .permutations-refusal .ensures) ∙ ap faultOf (c .enum-told .given .1)
 
 symmetry-refusal-requires : tie.Need-symmetry-refusal-requires
@@ -53,7 +53,7 @@ returns-2 c =
 
 -- and what follows here where refusal 12 did not either
 twelve : (c : tie.After-enum-told3)
-    → symmetryFault (numbered (clausesOf (c .before .before .before .before .before .before .before .before .before .before .before .before .before .args .positive .now) (c .before .before .before .before .before .before .before .before .before .before .before .before .before .args .negative .now))) (permutationsIn (c .before .before .before .before .before .before .before .before .before .before .before .before .before .args .c .variables) (c .before .before .before .before .before .before .before .before .before .before .before .before .before .args .c .permutations) (take (c .before .before .before .before .before .before .before .before .before .before .before .before .before .args .c .«points_at» - c .before .before .before .before .before .before .before .before .before .before .before .before .before .args .c .«permutations_at») (drop (c .before .before .before .before .before .before .before .before .before .before .before .before .before .args .c .«permutations_at») (c .before .before .before .before .before .before .before .before .before .before .before .before .before .args .file .now)))) ≡ sound
+    → symmetryFault (numbered (clausesOf (c .before .before .before .before .before .before .before .before .before .before .before .before .before .args .positive .now) (c .before .before .before .before .before .before .before .before .before .before .before .before .before .args .negative .now))) (permutationsIn (c .before .before .before .before .before .before .before .before .before .before .before .before .before .args .c .variables) (c .before .before .before .before .before .before .before .before .before .before .before .before .before .args .c .permutations) (take (c .before .before .before .before .before .before .before .before .before .before .before .before .before .args .c .«points_at» - c .before .before .before .before .before .before .before .before .before .before .before .before .before .args .c .«permutations_at») (drop (c .before .before .before .before .before .before .before .before .before .before .before .before .before .args .c .«permutations_at») (c .before .before .before .before .before .before .before .before .before .before .before .before .before .args .file .now)))) ≡ no-fault
 twelve c = sym (c .before .before .symmetry-refusal .ensures) ∙ ap faultOf (c .enum-told3 .given .1)
 
 returns-3 : tie.Need-returns-3

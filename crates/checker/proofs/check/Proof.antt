@@ -2,7 +2,7 @@
 use mathlib.Core.Path.{_≡_, sym, ap, _∙_, subst}
 use borrow.Author.Needs.{needs}
 use Rattle.formula.specs.Refusals.{clausesFault, faultOf}
-use Rattle.formula.specs.Reply.{sound}
+use Rattle.formula.specs.Reply.{no-fault}
 use Rattle.formula.specs.Laws.ReplyLaws.{IsFault}
 use Rattle.checker.specs.Laws.PartLaws.{stops-10, ends-file, clauses-fit}
 use Rattle.checker.proofs.check.Statement.{statement}
@@ -22,7 +22,7 @@ returns c =
     }
 
 -- what follows is reached where refusal 10 found nothing
-ten : (c : tie.After-enum-told) → clausesFault (c .before .before .before .before .before .before .args .f) (c .before .before .before .before .before .before .args .positive .now) (c .before .before .before .before .before .before .args .negative .now) ≡ sound
+ten : (c : tie.After-enum-told) → clausesFault (c .before .before .before .before .before .before .args .f) (c .before .before .before .before .before .before .args .positive .now) (c .before .before .before .before .before .before .args .negative .now) ≡ no-fault
 ten c = sym (c .before .before .clauses-refusal .ensures) ∙ ap faultOf (c .enum-told .given .1)
 
 file-refusal-requires : tie.Need-file-refusal-requires

@@ -4,7 +4,7 @@ use mathlib.Core.Path.{_≡_, sym, ap, _∙_}
 use borrow.Author.Needs.{needs}
 use Rattle.formula.specs.Refusals.{faultOf}
 use Rattle.certificate.specs.Certificate.{contentsOf, wellFormed}
-use Rattle.certificate.specs.Contract.{replyOf, contentsIn, handedOut}
+use Rattle.certificate.specs.Contract.{replyOfOpened, contentsIn, handedOut}
 use Rattle.checker.specs.Laws.PartLaws.{stops-14, other-variables, other-clauses, ends-bodies, readable, opened-file}
 use Rattle.checker.proofs.file_refusal.Statement.{statement}
 use Rattle.checker.proofs.file_refusal.Tie as tie
@@ -34,8 +34,8 @@ bodies-refusal-requires c κs =
     readable _ _ _ _ _ _ (w .0) (w .1) (c .before .before .if1 .left) (c .if2 .left) (c .before .before .before .before .before .before .before .before .before .before .before .pre)
 
 returns-3 : tie.Need-returns-3
-unfolding replyOf
-returns-3 c = stops-14 _ _ _ _ _ _ _ (ap replyOf (sym (c .before .opened .given .1)) ∙ c .before .before .before .read .ensures .reply)
+unfolding replyOfOpened
+returns-3 c = stops-14 _ _ _ _ _ _ _ (ap replyOfOpened (sym (c .before .opened .given .1)) ∙ c .before .before .before .read .ensures .reply)
 
 returns-4 : tie.Need-returns-4
 returns-4 c =

@@ -19,7 +19,7 @@ use Rattle.formula.specs.declared.Formula.{Formula}
 use Rattle.formula.specs.Limits.{maxPermutations, maxSlots}
 use Rattle.formula.specs.Problem.{Problem, problemOf}
 use Rattle.formula.specs.Refusals.{clausesFault, permutationFault, symmetryFault}
-use Rattle.formula.specs.Reply.{accepted, sound, first, faultAt}
+use Rattle.formula.specs.Reply.{accepted, no-fault, first, faultAt}
 use Rattle.certificate.specs.Bytes.{numberFrom, pointWidth, numberWidth}
 use Rattle.certificate.specs.Laws.BytesLaws.{length-entries}
 use Rattle.certificate.specs.Certificate.{contentsOf, WellFormed, wellFormed, pointsBody, numbersBody, filePermutations, filePoints, fileNumbers}
@@ -35,11 +35,11 @@ use Rattle.check_theory.specs.Stable.{Transported, Stable}
 
 module _ (n : ℕ) (cs : List Numbered) (es : List Permutation) (ps ns : List ℕ) where
   pub record ListsPassed : Type 0 where
-    pub row11 : permutationFault n es ≡ sound
-    pub row12 : symmetryFault cs es ≡ sound
-    pub row16 : pointsFault maxSlots n (length ps) ps ≡ sound
-    pub row17 : numbersFault cs (length ps) ps ns ≡ sound
-    pub row18 : flipsFault n cs es ps ns ≡ sound
+    pub row11 : permutationFault n es ≡ no-fault
+    pub row12 : symmetryFault cs es ≡ no-fault
+    pub row16 : pointsFault maxSlots n (length ps) ps ≡ no-fault
+    pub row17 : numbersFault cs (length ps) ps ns ≡ no-fault
+    pub row18 : flipsFault n cs es ps ns ≡ no-fault
 
 -- ---- all rows of the checker
 
@@ -58,9 +58,9 @@ module _ (f : Formula) (positive negative file : List ℕ) where
   Lists = ListsPassed (pb .variables) (pb .clauses) (filePermutations file) (filePoints file) (fileNumbers file)
 
   pub record CheckerPassed : Type 0 where
-    pub row10 : clausesFault f positive negative ≡ sound
-    pub row14 : fileFault file ≡ sound
-    pub row15 : sizesFault (pb .variables) (pb .total) file ≡ sound
+    pub row10 : clausesFault f positive negative ≡ no-fault
+    pub row14 : fileFault file ≡ no-fault
+    pub row15 : sizesFault (pb .variables) (pb .total) file ≡ no-fault
     pub rows : Lists
 
   -- the checker's rows, in their order
@@ -72,7 +72,7 @@ module _ (f : Formula) (positive negative file : List ℕ) where
   unfolding checkFault
   check-rows = refl
 
-  pub checker-passed : checkFault f positive negative file ≡ sound → CheckerPassed
+  pub checker-passed : checkFault f positive negative file ≡ no-fault → CheckerPassed
   checker-passed h =
       let a = first-split _ _ (sym check-rows ∙ h) in
       let b = first-split _ _ (a .1) in
@@ -84,7 +84,7 @@ module _ (f : Formula) (positive negative file : List ℕ) where
       let l = first-split _ _ (k .1) in
       record { row10 = a .0; row14 = b .0; row15 = c .0; rows = record { row11 = d .0; row12 = e .0; row16 = g .0; row17 = k .0; row18 = l .0 } }
 
-  pub passed-checker : CheckerPassed → checkFault f positive negative file ≡ sound
+  pub passed-checker : CheckerPassed → checkFault f positive negative file ≡ no-fault
   passed-checker p =
       let r = p .rows in
       check-rows
@@ -179,10 +179,10 @@ module _ (f : Formula) (positive negative file : List ℕ) where
   unfolding checkReply fileFault sizesFault sameSizes
   accepts-sound h =
       let p = checker-passed f positive negative file (not-refused (checkFault f positive negative file) accepted accepted h accepted-not-refused) in
-      let w = wellFormed-sound file (tested (wellFormed file) sound 14 (length file) (p .row14) .0) in
-      let sizes = and-split _ _ (tested (sameSizes (problem .variables) (problem .total) file) sound 15 0 (p .row15) .0) in
+      let w = wellFormed-sound file (tested (wellFormed file) no-fault 14 (length file) (p .row14) .0) in
+      let sizes = and-split _ _ (tested (sameSizes (problem .variables) (problem .total) file) no-fault 15 0 (p .row15) .0) in
       record {
-        clausesSound = p .row10;
+        clausesPass = p .row10;
         inOrder = w;
         sameVariables = eqb-true (contentsOf file .variables) (problem .variables) (sizes .0);
         sameTotal = eqb-true (contentsOf file .clauses) (problem .total) (sizes .1);
@@ -195,8 +195,8 @@ module _ (f : Formula) (positive negative file : List ℕ) where
       unless-sound (checkFault f positive negative file)
       (passed-checker f positive negative file
       (record {
-        row10 = a .clausesSound;
-        row14 = test-passed (wellFormed file) sound 14 (length file) (wellFormed-complete file (a .inOrder)) refl;
-        row15 = test-passed (sameSizes (problem .variables) (problem .total) file) sound 15 0 (and-join _ _ (eq-eqb _ _ (a .sameVariables)) (eq-eqb _ _ (a .sameTotal))) refl;
+        row10 = a .clausesPass;
+        row14 = test-passed (wellFormed file) no-fault 14 (length file) (wellFormed-complete file (a .inOrder)) refl;
+        row15 = test-passed (sameSizes (problem .variables) (problem .total) file) no-fault 15 0 (and-join _ _ (eq-eqb _ _ (a .sameVariables)) (eq-eqb _ _ (a .sameTotal))) refl;
         rows = rows-of-stable (problem .variables) (problem .clauses) (filePermutations file) (filePoints file) (fileNumbers file) (own-numbers f positive negative file) (a .stable);
       })) accepted

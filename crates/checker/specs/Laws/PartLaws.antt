@@ -18,7 +18,7 @@ use Rattle.formula.specs.Limits.{maxSlots}
 use Rattle.formula.specs.Problem.{problemOf}
 use Rattle.formula.specs.Laws.RefusalLaws.{passes-few, passes-listed, permutation-passes, fits-sound, fits-below}
 use Rattle.formula.specs.Refusals.{Fits, fits, clausesFault, permutationFault, symmetryFault}
-use Rattle.formula.specs.Reply.{Fault, sound, fault, first, refused, opened, accepted, unless}
+use Rattle.formula.specs.Reply.{Fault, no-fault, fault, first, refused, opened, accepted, unless}
 use Rattle.formula.specs.Laws.ReplyLaws.{IsFault, answers-first, answers-rest, tested, opened-not-refused, refused-fault}
 use Rattle.certificate.specs.declared.Contents.{Contents}
 use Rattle.certificate.specs.Bytes.{numberFrom, numbersIn, pointWidth, numberWidth}
@@ -105,8 +105,8 @@ module _ (c : Contents) (positive negative file : List ℕ) (ok : Readable c pos
       → r ≡ bodiesFault (c .variables) cs es (filePoints file) (fileNumbers file)
   stops-11 r e h = answers-first r _ _ (e ∙ ap (permutationFault (c .variables)) listed-part) h
 
-  module _ (eleven : permutationFault (c .variables) (permutationsIn (c .variables) (c .permutations) images) ≡ sound) where
-    row11 : permutationFault (c .variables) es ≡ sound
+  module _ (eleven : permutationFault (c .variables) (permutationsIn (c .variables) (c .permutations) images) ≡ no-fault) where
+    row11 : permutationFault (c .variables) es ≡ no-fault
     row11 = ap (permutationFault (c .variables)) (sym listed-part) ∙ eleven
 
     pub images-listed : Listed (c .variables) (c .permutations) images
@@ -127,7 +127,7 @@ module _ (c : Contents) (positive negative file : List ℕ) (ok : Readable c pos
         → r ≡ bodiesFault (c .variables) cs es (filePoints file) (fileNumbers file)
     stops-12 r e h = answers-rest r _ _ row11 (answers-first r _ _ (e ∙ ap (symmetryFault cs) listed-part) h)
 
-    module _ (twelve : symmetryFault cs (permutationsIn (c .variables) (c .permutations) images) ≡ sound) where
+    module _ (twelve : symmetryFault cs (permutationsIn (c .variables) (c .permutations) images) ≡ no-fault) where
       -- the rows 16 to 18 of the lists are the rest
       pub ends-lists : (r : Fault) → r ≡ listsFault (c .variables) cs es (filePoints file) (fileNumbers file)
           → r ≡ bodiesFault (c .variables) cs es (filePoints file) (fileNumbers file)
@@ -163,15 +163,15 @@ module _ (n m : ℕ) (positive negative file : List ℕ) where
       answers-first (fault code place) (fileFault file) (sizesFault n m file ∷ rows) (refused-fault (fileFault file) opened opened-not-refused code place e) tt
 
   module _ (c : Contents) (formed : wellFormed file ≡ true) (same : contentsIn c ≡ contentsOf file) where
-    row14 : fileFault file ≡ sound
+    row14 : fileFault file ≡ no-fault
     unfolding fileFault
-    row14 = ap (λ (b : Bool). cond b sound (fault 14 (length file))) formed
+    row14 = ap (λ (b : Bool). cond b no-fault (fault 14 (length file))) formed
 
-    sizes : (a b : Bool) → eqb (c .variables) n ≡ a → eqb (c .clauses) m ≡ b → sizesFault n m file ≡ cond (a && b) sound (fault 15 0)
+    sizes : (a b : Bool) → eqb (c .variables) n ≡ a → eqb (c .clauses) m ≡ b → sizesFault n m file ≡ cond (a && b) no-fault (fault 15 0)
     unfolding sizesFault sameSizes contentsIn
     sizes a b p q =
-        ap (λ (k : FileContents). cond (eqb (k .variables) n && eqb (k .clauses) m) sound (fault 15 0)) (sym same)
-        ∙ ap₂ (λ (x y : Bool). cond (x && y) sound (fault 15 0)) p q
+        ap (λ (k : FileContents). cond (eqb (k .variables) n && eqb (k .clauses) m) no-fault (fault 15 0)) (sym same)
+        ∙ ap₂ (λ (x y : Bool). cond (x && y) no-fault (fault 15 0)) p q
 
     pub stops-15 : sizesFault n m file ≡ fault 15 0 → fault 15 0 ≡ fileRows n m positive negative file
     stops-15 e = answers-rest (fault 15 0) (fileFault file) (sizesFault n m file ∷ rows) row14 (answers-first (fault 15 0) (sizesFault n m file) rows (sym e) tt)
@@ -221,11 +221,11 @@ module _ (f : Formula) (positive negative file : List ℕ) where
   pub stops-10 : (r : Fault) → r ≡ clausesFault f positive negative → IsFault r → unless r accepted ≡ checkReply f positive negative file
   stops-10 r e h = answered r (answers-first r _ _ e h ∙ sym all-rows)
 
-  pub ends-file : (r : Fault) → clausesFault f positive negative ≡ sound → r ≡ fileRows (f .variables) (f .clauses) positive negative file
+  pub ends-file : (r : Fault) → clausesFault f positive negative ≡ no-fault → r ≡ fileRows (f .variables) (f .clauses) positive negative file
       → unless r accepted ≡ checkReply f positive negative file
   ends-file r ten e = answered r (answers-rest r _ _ ten e ∙ sym all-rows)
 
   -- what refusal 10 leaves certain
-  pub clauses-fit : clausesFault f positive negative ≡ sound → Fits (f .variables) (f .clauses) positive negative
+  pub clauses-fit : clausesFault f positive negative ≡ no-fault → Fits (f .variables) (f .clauses) positive negative
   unfolding clausesFault
-  clauses-fit h = fits-sound (f .variables) (f .clauses) positive negative (tested (fits (f .variables) (f .clauses) positive negative) sound 10 0 h .0)
+  clauses-fit h = fits-sound (f .variables) (f .clauses) positive negative (tested (fits (f .variables) (f .clauses) positive negative) no-fault 10 0 h .0)

@@ -7,7 +7,7 @@ use Rattle.formula.specs.declared.Formula.{Formula}
 use Rattle.formula.specs.Problem.{problemOf, Unsatisfiable}
 use Rattle.formula.specs.Laws.RefusalLaws.{fits-sound, fits-below}
 use Rattle.formula.specs.Refusals.{fits, clausesFault}
-use Rattle.formula.specs.Reply.{accepted, sound}
+use Rattle.formula.specs.Reply.{accepted, no-fault}
 use Rattle.formula.specs.Laws.ReplyLaws.{tested}
 use Rattle.certificate.specs.Certificate.{filePermutations, filePoints, fileNumbers}
 use Rattle.checker.specs.Checker.{checkReply}
@@ -15,12 +15,12 @@ use Rattle.checker.specs.Laws.CheckerLaws.{accepts-sound}
 use Rattle.check_theory.specs.Laws.Refutation.{stable-refutes}
 
 -- clauses that the checker's refusal 10 lets pass list none but the variables below n
-sound-below : (f : Formula) (positive negative : List ℕ) → clausesFault f positive negative ≡ sound
+sound-below : (f : Formula) (positive negative : List ℕ) → clausesFault f positive negative ≡ no-fault
     → ClausesBelow (problemOf f positive negative .variables) (problemOf f positive negative .clauses)
 unfolding clausesFault problemOf
 sound-below f positive negative h =
     fits-below (f .variables) (f .clauses) positive negative
-    (fits-sound (f .variables) (f .clauses) positive negative (tested (fits (f .variables) (f .clauses) positive negative) sound 10 0 h .0))
+    (fits-sound (f .variables) (f .clauses) positive negative (tested (fits (f .variables) (f .clauses) positive negative) no-fault 10 0 h .0))
 
 -- ---- D3.6: "An accepted certificate, whoever made it and whether its sheet is an accepted one or not, means that none of the 2^n choices meets
 -- the rules it was checked against."
@@ -29,4 +29,4 @@ pub accepted-refutes : (f : Formula) (positive negative file : List ℕ) → che
 accepted-refutes f positive negative file h =
     let a = accepts-sound f positive negative file h in
     stable-refutes (problemOf f positive negative .variables) (problemOf f positive negative .clauses) (filePermutations file) (filePoints file) (fileNumbers file)
-    (a .stable) (sound-below f positive negative (a .clausesSound))
+    (a .stable) (sound-below f positive negative (a .clausesPass))

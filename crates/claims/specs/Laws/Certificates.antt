@@ -14,7 +14,7 @@ use Rattle.math.specs.Bits.{flip}
 use Rattle.math.specs.Laws.ListLaws.{here, and-join, getD-in, map-out}
 use Rattle.math.specs.Lists.{_∈_, firstFailing, below, over}
 use Rattle.math.specs.Laws.PartLaws.{over-front, over-length}
-use Rattle.points.specs.Laws.PointLaws.{falsified}
+use Rattle.points.specs.Laws.PointLaws.{falsified as unsatisfied}
 use Rattle.points.specs.Points.{Numbered, Satisfies, satisfies, variables, FirstFalsified}
 use Rattle.point_slices.specs.Slices.{pointsOf, clausesOf}
 use Rattle.permutation_theory.specs.Permutations.{Covered}
@@ -23,11 +23,11 @@ use Rattle.formula.specs.Limits.{maxSlots, capacity}
 use Rattle.formula.specs.Problem.{Problem, problemOf}
 use Rattle.formula.specs.Laws.RefusalLaws.{formula-passes, permutation-passes, symmetry-passes, fits-complete}
 use Rattle.formula.specs.Refusals.{clausesFault, formulaFault, permutationFault, symmetryFault}
-use Rattle.formula.specs.Reply.{Reply, refused, unsatisfiable, written, accepted, sound, fault, first, faultAt, unless, unlessKept, Fault}
+use Rattle.formula.specs.Reply.{Reply, refused, unsatisfiable, written, accepted, no-fault, fault, first, faultAt, unless, unlessKept, Fault}
 use Rattle.formula.specs.Laws.ReplyLaws.{first-skips, first-stops, test-passed, passes-below, not-refused}
 use Rattle.search.specs.Laws.Accepted.{rows, answered}
-use Rattle.search_theory.specs.Laws.Answers.{ClosedSlots}
-use Rattle.search.specs.Laws.Answered.{Answered}
+use Rattle.search_theory.specs.Laws.Promised.{ClosedSlots}
+use Rattle.search.specs.Laws.WalkAnswers.{WalkAnswers}
 use Rattle.search.specs.Search.{lentBy, searchFault, searchReply, searchSlots, searchSlice}
 use Rattle.search.specs.Laws.Theorems.{search-closed, slots-filled}
 use Rattle.search_theory.specs.Walk.{Slot, slot, walked}
@@ -56,21 +56,21 @@ first-member cs x c f = subst (λ l. c ∈ l) (sym (f .place)) (Memᴰ·append-r
 unsatisfiable-not-refused : {k : ℕ} (code place : ℕ) → unsatisfiable k ≡ refused code place → ⊥
 unsatisfiable-not-refused code place e = let z : _≡_ {A = ℕ} 0 1 = cc in omega arith
 
-module _ (f : Formula) (positive negative points numbers depths : List ℕ) where
+module _ (f : Formula) (positive negative points falsified depths : List ℕ) where
   abbrev pb : Problem
   pb = problemOf f positive negative
 
   abbrev lent : ℕ
-  lent = lentBy points numbers depths
+  lent = lentBy points falsified depths
 
   abbrev l : List Slot
   l = searchSlots f positive negative lent
 
   module _ (k : ℕ) (reply : searchReply f positive negative lent ≡ unsatisfiable k) where
-    answer : Answered f positive negative lent (unsatisfiable k)
+    answer : WalkAnswers f positive negative lent (unsatisfiable k)
     answer = answered f positive negative lent (unsatisfiable k) reply unsatisfiable-not-refused
 
-    passed : searchFault f positive negative lent ≡ sound
+    passed : searchFault f positive negative lent ≡ no-fault
     unfolding searchReply
     passed = not-refused (searchFault f positive negative lent) (walked pb lent .reply) (unsatisfiable k) reply unsatisfiable-not-refused
 
@@ -101,27 +101,27 @@ module _ (f : Formula) (positive negative points numbers depths : List ℕ) wher
     abbrev points′ : List ℕ
     points′ = after (λ (s : Slot). s .point) points
 
-    abbrev numbers′ : List ℕ
-    numbers′ = after (λ (s : Slot). s .falsified) numbers
+    abbrev falsified′ : List ℕ
+    falsified′ = after (λ (s : Slot). s .falsified) falsified
 
     abbrev depths′ : List ℕ
     depths′ = after (λ (s : Slot). s .depth) depths
 
-    lent-parts : (lent ≤ length points) × (lent ≤ length numbers) × (lent ≤ length depths) × (lent ≤ maxSlots)
+    lent-parts : (lent ≤ length points) × (lent ≤ length falsified) × (lent ≤ length depths) × (lent ≤ maxSlots)
     unfolding capacity
     lent-parts = (omega arith, omega arith, omega arith, omega arith)
 
-    same-lent : lentBy points′ numbers′ depths′ ≡ lent
+    same-lent : lentBy points′ falsified′ depths′ ≡ lent
     same-lent =
         let e = after-length (λ (s : Slot). s .point) points (lent-parts .0) in
-        let g = after-length (λ (s : Slot). s .falsified) numbers (lent-parts .1) in
+        let g = after-length (λ (s : Slot). s .falsified) falsified (lent-parts .1) in
         let h = after-length (λ (s : Slot). s .depth) depths (lent-parts .2) in
-        ap (λ a. capacity a (length numbers′) (length depths′)) e ∙ ap (λ b. capacity (length points) b (length depths′)) g ∙ ap (capacity (length points) (length numbers)) h
+        ap (λ a. capacity a (length falsified′) (length depths′)) e ∙ ap (λ b. capacity (length points) b (length depths′)) g ∙ ap (capacity (length points) (length falsified)) h
 
     -- ---- the writer's tests
 
     -- the rows 10, 11 and 12 are the search's
-    sheet-passed : (formulaFault f positive negative ≡ sound) × (permutationFault (pb .variables) (pb .permutations) ≡ sound) × (symmetryFault (pb .clauses) (pb .permutations) ≡ sound)
+    sheet-passed : (formulaFault f positive negative ≡ no-fault) × (permutationFault (pb .variables) (pb .permutations) ≡ no-fault) × (symmetryFault (pb .clauses) (pb .permutations) ≡ no-fault)
     unfolding problemOf
     sheet-passed = let r = rows f positive negative lent passed in (r .0, r .1, r .2)
 
@@ -148,13 +148,13 @@ module _ (f : Formula) (positive negative points numbers depths : List ℕ) wher
     within : (i : ℕ) → i < k → i < length l
     within i lt = subst (λ m. i < m) counted lt
 
-    row16 : pointsFault (lentBy points′ numbers′ depths′) (pb .variables) k (pointsOf points′) ≡ sound
+    row16 : pointsFault (lentBy points′ falsified′ depths′) (pb .variables) k (pointsOf points′) ≡ no-fault
     unfolding pointsFault
     row16 =
         let some : 1 ≤ k = subst (λ m. 1 ≤ m) (sym counted) (closed .nonempty) in
-        let most : k ≤ lentBy points′ numbers′ depths′ = subst (λ m. m ≤ lentBy points′ numbers′ depths′) (sym counted) (le-trans few (le-of-eq (sym same-lent))) in
-        test-passed (leb 1 k && leb k (lentBy points′ numbers′ depths′)) (faultAt 16 (firstFailing (pointPasses (pb .variables) points′) (below k))) 16 0
-        (and-join (leb 1 k) (leb k (lentBy points′ numbers′ depths′)) (le-leb 1 k some) (le-leb k (lentBy points′ numbers′ depths′) most))
+        let most : k ≤ lentBy points′ falsified′ depths′ = subst (λ m. m ≤ lentBy points′ falsified′ depths′) (sym counted) (le-trans few (le-of-eq (sym same-lent))) in
+        test-passed (leb 1 k && leb k (lentBy points′ falsified′ depths′)) (faultAt 16 (firstFailing (pointPasses (pb .variables) points′) (below k))) 16 0
+        (and-join (leb 1 k) (leb k (lentBy points′ falsified′ depths′)) (le-leb 1 k some) (le-leb k (lentBy points′ falsified′ depths′) most))
         (passes-below 16 (pointPasses (pb .variables) points′) k each)
       where
         each : (i : ℕ) → i < k → pointPasses (pb .variables) points′ i ≡ true
@@ -163,19 +163,19 @@ module _ (f : Formula) (positive negative points numbers depths : List ℕ) wher
             ∙ ap (λ q. pointPasses (pb .variables) q i) (after-front (λ (s : Slot). s .point) points)
             ∙ points-pass (pb .variables) xs points-below (closed .distinct) i (lt-of-lt-of-le (within i lt) (le-of-eq (sym (length-map l (λ (s : Slot). s .point)))))
 
-    row17 : numbersFault cs k (pointsOf points′) numbers′ ≡ sound
+    row17 : numbersFault cs k (pointsOf points′) falsified′ ≡ no-fault
     unfolding numbersFault
-    row17 = passes-below 17 (numberPasses cs points′ numbers′) k each
+    row17 = passes-below 17 (numberPasses cs points′ falsified′) k each
       where
-        each : (i : ℕ) → i < k → numberPasses cs points′ numbers′ i ≡ true
+        each : (i : ℕ) → i < k → numberPasses cs points′ falsified′ i ≡ true
         each i lt =
             let t = getD l i (slot 0 0 0) in
             let m = closed .settled t (getD-in l i (slot 0 0 0) (within i lt)) .moved in
-            let number : getD numbers′ i 0 ≡ m .clause .number = front-at (λ (s : Slot). s .falsified) refl numbers i lt ∙ m .number in
+            let number : getD falsified′ i 0 ≡ m .clause .number = front-at (λ (s : Slot). s .falsified) refl falsified i lt ∙ m .number in
             let point : getD points′ i 0 ≡ t .point = front-at (λ (s : Slot). s .point) refl points i lt in
-            number-passes cs points′ numbers′ i (m .clause .clause)
+            number-passes cs points′ falsified′ i (m .clause .clause)
             (ap (clauseNumbered cs) number ∙ clause-of cs own-numbers (m .clause) (first-member cs (t .point) (m .clause) (m .first)))
-            (ap (satisfies (m .clause .clause)) point ∙ falsified (m .clause .clause) (t .point) (m .first .falsified))
+            (ap (satisfies (m .clause .clause)) point ∙ unsatisfied (m .clause .clause) (t .point) (m .first .falsified))
 
     -- ---- what the writer answers and puts out
 
@@ -184,20 +184,20 @@ module _ (f : Formula) (positive negative points numbers depths : List ℕ) wher
 
     module _ (out : List ℕ) where
       abbrev faults : Fault
-      faults = writeFault f positive negative points′ numbers′ depths′ k out
+      faults = writeFault f positive negative points′ falsified′ depths′ k out
 
       abbrev reply-of : Reply
-      reply-of = writeReply f positive negative points′ numbers′ depths′ k out
+      reply-of = writeReply f positive negative points′ falsified′ depths′ k out
 
       abbrev output : List ℕ
-      output = writeOutput f positive negative points′ numbers′ depths′ k out
+      output = writeOutput f positive negative points′ falsified′ depths′ k out
 
       -- C7: "there the writer refuses by 19 only"
       short-fault : length out < size → faults ≡ fault 19 size
       unfolding roomFault
       short-fault lt =
           let r = sheet-passed in
-          write-rows f positive negative points′ numbers′ depths′ k out
+          write-rows f positive negative points′ falsified′ depths′ k out
           ∙ first-skips _ _ (r .0) ∙ first-skips _ _ (r .1) ∙ first-skips _ _ (r .2) ∙ first-skips _ _ row16 ∙ first-skips _ _ row17
           ∙ first-stops (roomFault size (length out)) [] 19 size (rw (lt-leb size (length out) lt))
 
@@ -207,20 +207,20 @@ module _ (f : Formula) (positive negative points numbers depths : List ℕ) wher
 
       pub short-output : length out < size → output ≡ out
       unfolding writeOutput
-      short-output lt = ap (λ t. unlessKept t (certificateOf pb points′ numbers′ k ++ drop size out) out) (short-fault lt)
+      short-output lt = ap (λ t. unlessKept t (certificateOf pb points′ falsified′ k ++ drop size out) out) (short-fault lt)
 
-      no-fault : size ≤ length out → faults ≡ sound
+      long-passes : size ≤ length out → faults ≡ no-fault
       unfolding roomFault
-      no-fault le =
+      long-passes le =
           let r = sheet-passed in
-          passed-writer f positive negative points′ numbers′ depths′ k out
+          passed-writer f positive negative points′ falsified′ depths′ k out
           (record { row10 = r .0; row11 = r .1; row12 = r .2; row16 = row16; row17 = row17; row19 = rw (le-leb size (length out) le) })
 
       pub long-reply : size ≤ length out → reply-of ≡ written size
-      long-reply le = reply-written f positive negative points′ numbers′ depths′ k out (no-fault le)
+      long-reply le = reply-written f positive negative points′ falsified′ depths′ k out (long-passes le)
 
       pub long-rest : size ≤ length out → drop size output ≡ drop size out
-      long-rest le = past-unchanged f positive negative points′ numbers′ depths′ k out size (long-reply le)
+      long-rest le = past-unchanged f positive negative points′ falsified′ depths′ k out size (long-reply le)
 
     -- ---- the slots are a stable set, in the checker's form
 
@@ -255,19 +255,19 @@ module _ (f : Formula) (positive negative points numbers depths : List ℕ) wher
           transported = transported;
         }
 
-    clauses-sound : clausesFault f positive negative ≡ sound
+    clauses-sound : clausesFault f positive negative ≡ no-fault
     unfolding clausesFault
     clauses-sound = rw (fits-complete (f .variables) (f .clauses) positive negative (formula-passes f positive negative (sheet-passed .0) .0))
 
     -- D3.4: "Its certificate is then accepted."
     pub long-accepted : (out : List ℕ) → size ≤ length out → checkReply f positive negative (take size (output out)) ≡ accepted
     long-accepted out le =
-        let w = reads-back f positive negative points′ numbers′ depths′ k out size (long-reply out le) in
+        let w = reads-back f positive negative points′ falsified′ depths′ k out size (long-reply out le) in
         let same-points : filePoints (take size (output out)) ≡ xs = w .readsPoints ∙ after-front (λ (s : Slot). s .point) points in
-        let same-numbers : fileNumbers (take size (output out)) ≡ ks = w .readsNumbers ∙ after-front (λ (s : Slot). s .falsified) numbers in
+        let same-numbers : fileNumbers (take size (output out)) ≡ ks = w .readsNumbers ∙ after-front (λ (s : Slot). s .falsified) falsified in
         accepts-complete f positive negative (take size (output out))
         (record {
-          clausesSound = clauses-sound;
+          clausesPass = clauses-sound;
           inOrder = w .inOrder;
           sameVariables = w .readsVariables;
           sameTotal = w .readsTotal;

@@ -15,7 +15,7 @@ use Rattle.search.specs.Search.{searchReply}
 use Rattle.certificate.specs.Writer.{lengthNeeded}
 use Rattle.claims.specs.Cases.{Case, caseA-swap, caseA-3, caseA-4, caseB, certificateIn}
 use Rattle.claims.specs.Laws.CasesHold.{swap-accepted}
-use Rattle.claims.specs.Claim.{Sheet, from-text, by-value, problemIn, Slots, Answered, Meets, AtLeast, Certified}
+use Rattle.claims.specs.Claim.{Sheet, from-text, by-value, problemIn, Slots, SearchAnswers, Meets, AtLeast, Certified}
 use Rattle.claims.specs.Laws.Theorem.{claim}
 
 -- the sheet of a case, by value, and three slices of p places
@@ -23,7 +23,7 @@ abbrev sheetOf : Case → Sheet
 sheetOf c = by-value (c .formula) (c .positive) (c .negative)
 
 abbrev places : ℕ → Slots
-places p = record { points = replicate p 7; numbers = replicate p 7; depths = replicate p 7 }
+places p = record { points = replicate p 7; falsified = replicate p 7; depths = replicate p 7 }
 
 satisfiable-kept : {x d k : ℕ} (code place : ℕ) → satisfiable x d k ≡ refused code place → ⊥
 satisfiable-kept code place e = let z : _≡_ {A = ℕ} 0 1 = cc in omega arith
@@ -36,7 +36,7 @@ unknown-kept code place e = let z : _≡_ {A = ℕ} 0 1 = cc in omega arith
 
 -- ---- accepted sheets with each answer
 
-pub answered-B : Answered (sheetOf caseB) (places 5) (satisfiable 2 1 4)
+pub answered-B : SearchAnswers (sheetOf caseB) (places 5) (satisfiable 2 1 4)
 unfolding searchReply capacity bit flip
 answered-B = record { readable = tt; reply = refl; accepted = satisfiable-kept }
 
@@ -44,15 +44,15 @@ answered-B = record { readable = tt; reply = refl; accepted = satisfiable-kept }
 abbrev sheetText : Sheet
 sheetText = from-text satisfiable-text (0 ∷ 0 ∷ 9 ∷ []) (0 ∷ 0 ∷ [])
 
-pub answered-text : Answered sheetText (places 5) (satisfiable 2 1 4)
+pub answered-text : SearchAnswers sheetText (places 5) (satisfiable 2 1 4)
 unfolding searchReply capacity readReply readFormula readPositive readNegative bit flip
 answered-text = record { readable = refl; reply = refl; accepted = satisfiable-kept }
 
-pub answered-A : Answered (sheetOf caseA-swap) (places 4) (unsatisfiable 3)
+pub answered-A : SearchAnswers (sheetOf caseA-swap) (places 4) (unsatisfiable 3)
 unfolding searchReply capacity bit flip
 answered-A = record { readable = tt; reply = refl; accepted = unsatisfiable-kept }
 
-pub answered-A-3 : Answered (sheetOf caseA-3) (places 3) (unknown 1 3)
+pub answered-A-3 : SearchAnswers (sheetOf caseA-3) (places 3) (unknown 1 3)
 unfolding searchReply capacity bit flip
 answered-A-3 = record { readable = tt; reply = refl; accepted = unknown-kept }
 
@@ -83,6 +83,6 @@ pub bound-A : AtLeast (problemIn (sheetOf caseA-3)) 1
 bound-A = claim .bound (sheetOf caseA-3) (places 3) 1 3 answered-A-3
 
 -- 6: with 2 ^ 2 slots it is not left open
-pub roomy-A : (b k : ℕ) → Answered (sheetOf caseA-4) (places 4) (unknown b k) → ⊥
+pub enough-room-A : (b k : ℕ) → SearchAnswers (sheetOf caseA-4) (places 4) (unknown b k) → ⊥
 unfolding problemOf
-roomy-A b k = claim .roomy (sheetOf caseA-4) (places 4) b k (lit≤ tt) (lit≤ tt) (lit≤ tt) (lit≤ tt)
+enough-room-A b k = claim .enough-room (sheetOf caseA-4) (places 4) b k (lit≤ tt) (lit≤ tt) (lit≤ tt) (lit≤ tt)

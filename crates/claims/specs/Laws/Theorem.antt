@@ -10,26 +10,26 @@ use Rattle.search.specs.Laws.Theorems.{search-nearest, search-exactly, search-b
 use Rattle.certificate.specs.Writer.{lengthNeeded}
 use Rattle.checker.specs.Laws.Soundness.{accepted-refutes}
 use Rattle.claims.specs.Laws.Certificates.{short-reply, short-output, long-reply, long-rest, long-accepted}
-use Rattle.claims.specs.Claim.{Sheet, formulaIn, positiveIn, negativeIn, problemIn, Slots, lent, Answered, Certified, Claim}
+use Rattle.claims.specs.Claim.{Sheet, formulaIn, positiveIn, negativeIn, problemIn, Slots, lent, SearchAnswers, Certified, Claim}
 
 -- the certificate of an unsatisfiable sheet, whatever the slots held and whatever the output is
-certified : (s : Sheet) (l : Slots) (k : ℕ) → Answered s l (unsatisfiable k) → (out : List ℕ) → Certified s l k (lengthNeeded (problemIn s) k) out
+certified : (s : Sheet) (l : Slots) (k : ℕ) → SearchAnswers s l (unsatisfiable k) → (out : List ℕ) → Certified s l k (lengthNeeded (problemIn s) k) out
 certified s l k a out =
     let f = formulaIn s in
     let p = positiveIn s in
     let q = negativeIn s in
     record {
       too-short = λ h. (
-        short-reply f p q (l .points) (l .numbers) (l .depths) k (a .reply) out h,
-        short-output f p q (l .points) (l .numbers) (l .depths) k (a .reply) out h,
+        short-reply f p q (l .points) (l .falsified) (l .depths) k (a .reply) out h,
+        short-output f p q (l .points) (l .falsified) (l .depths) k (a .reply) out h,
       );
-      answers = long-reply f p q (l .points) (l .numbers) (l .depths) k (a .reply) out;
-      behind = long-rest f p q (l .points) (l .numbers) (l .depths) k (a .reply) out;
-      checks = long-accepted f p q (l .points) (l .numbers) (l .depths) k (a .reply) out;
+      answers = long-reply f p q (l .points) (l .falsified) (l .depths) k (a .reply) out;
+      behind = long-rest f p q (l .points) (l .falsified) (l .depths) k (a .reply) out;
+      checks = long-accepted f p q (l .points) (l .falsified) (l .depths) k (a .reply) out;
     }
 
 -- as many slots as three slices of that length give
-enough : (l : Slots) (m : ℕ) → m ≤ maxSlots → m ≤ length (l .points) → m ≤ length (l .numbers) → m ≤ length (l .depths) → m ≤ lent l
+enough : (l : Slots) (m : ℕ) → m ≤ maxSlots → m ≤ length (l .points) → m ≤ length (l .falsified) → m ≤ length (l .depths) → m ≤ lent l
 unfolding capacity
 enough l m a b c d = le-min a (le-min b (le-min c d))
 
@@ -45,6 +45,6 @@ claim =
       certified = certified;
       refutes = accepted-refutes;
       bound = λ s l b k a y m. search-bound (formulaIn s) (positiveIn s) (negativeIn s) (lent l) b k (a .reply) y (m .within) (m .satisfying);
-      roomy = λ s l b k few p q r a.
+      enough-room = λ s l b k few p q r a.
           search-room (formulaIn s) (positiveIn s) (negativeIn s) (lent l) (enough l (2 ^ problemIn s .variables) few p q r) b k (a .reply);
     }

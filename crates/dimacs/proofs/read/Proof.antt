@@ -2,7 +2,7 @@
 use mathlib.Core.Path.{sym, ap, _∙_}
 use native.Mathlib.Omega.{arith}
 use borrow.Author.Needs.{needs}
-use Rattle.dimacs_lines.specs.Laws.AnswerLaws.{answers-refused, answers-same}
+use Rattle.dimacs_lines.specs.Laws.ParsedLaws.{answers-refused, answers-same}
 use Rattle.dimacs.specs.Laws.ReadLaws.{answers-read, text-long, text-absent, text-malformed, text-sized, problem-place}
 use Rattle.dimacs_words.specs.declared.Class.the-variants.{Line}
 use Rattle.dimacs_words.specs.Laws.Scans.{belongs, Stretch}

@@ -2,7 +2,7 @@
 use mathlib.Core.Path.{sym}
 use native.Mathlib.Nat.{le-of-eq, le-trans, lt-of-le-of-lt}
 use borrow.Author.Needs.{needs}
-use Rattle.dimacs_lines.specs.Laws.AnswerLaws.{answers-refused, answers-same}
+use Rattle.dimacs_lines.specs.Laws.ParsedLaws.{answers-refused, answers-same}
 use Rattle.dimacs.specs.Laws.ReadLaws.{sizes-low, sizes-high, sizes-many, room-first, room-second, room-both}
 use Rattle.dimacs.proofs.read_sized.Statement.{statement}
 use Rattle.dimacs.proofs.read_sized.Tie as tie

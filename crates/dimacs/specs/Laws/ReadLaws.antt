@@ -13,7 +13,7 @@ use Rattle.dimacs.specs.declared.Found.the-variants.{Line as FoundLine, 
 use Rattle.dimacs_words.specs.declared.Class.the-variants.{Line as LineBytes}
 use Rattle.dimacs_format.specs.Reader.{refuses, andThen, walk, Sizes, problemWords, problemIn, withinLimits, lineStep, begin, atEnd, withRoom, withSizes, withProblem, fromProblem, withLines, reading, readReply, readFormula, readPositive, readNegative}
 use Rattle.dimacs.specs.Contract.{Read}
-use Rattle.dimacs_lines.specs.Laws.Answers.{Answers}
+use Rattle.dimacs_lines.specs.Laws.ParsedAs.{ParsedAs}
 use Rattle.dimacs.specs.Laws.ProblemScans.{ProblemFound}
 use Rattle.dimacs_words.specs.Laws.Scans.{belongs, Stretch, linesBehind}
 use Rattle.dimacs_format.specs.Text.{maxText, Line, piece, lines, begins, problemWord}
@@ -59,7 +59,7 @@ unfolding problemIn
 problem-anywhere start line = ap (λ l. cond (begins problemWord line) (problemWords l) none) (words-bytes start 0 line)
 
 pub answers-read : (text positive₀ negative₀ : List ℕ) (r : Parsed) (positive₁ negative₁ : List ℕ)
-    → Answers (reading text (length positive₀) (length negative₀)) positive₀ negative₀ r positive₁ negative₁ → Read text positive₀ negative₀ r positive₁ negative₁
+    → ParsedAs (reading text (length positive₀) (length negative₀)) positive₀ negative₀ r positive₁ negative₁ → Read text positive₀ negative₀ r positive₁ negative₁
 unfolding readReply readFormula readPositive readNegative
 answers-read text positive₀ negative₀ r positive₁ negative₁ a = record { reply = a .reply; formula = a .formula; positive = a .positive; negative = a .negative }
 

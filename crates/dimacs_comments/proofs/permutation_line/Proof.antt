@@ -10,7 +10,7 @@ use Rattle.dimacs_comments.proofs.permutation_line.Statement.{statement
 use Rattle.dimacs_comments.proofs.permutation_line.Tie as tie
 
 returns : tie.Need-returns
-returns c = permutation-over _ _ (c .before .before .before .args .line .now) (c .before .before .before .args .state .permutations) (c .before .before .before .args .table .now) (c .if1 .taken)
+returns c = permutation-over _ _ (c .before .before .before .args .line .now) (c .before .before .before .args .state .permutations) (c .before .before .before .args .images .now) (c .if1 .taken)
 
 -- the next permutation has its room
 room : (c : tie.Else1) → c .before .before .before .args .state .permutations * c .before .before .before .args .n + c .before .before .before .args .n ≤ 1024
@@ -26,12 +26,12 @@ read-permutation-requires : tie.Need-read-permutation-requires
 read-permutation-requires c κs = (c .before .before .before .before .before .pre .0, le-trans (room (c .before .before)) (le-of-eq (sym (c .before .before .before .before .before .pre .2 .places))))
 
 returns-2 : tie.Need-returns-2
-returns-2 c = permutation-bad _ _ (c .before .before .before .before .before .before .before .before .before .args .line .now) (c .before .before .before .before .before .before .before .before .before .args .state .permutations) (c .before .before .before .before .before .before .before .before .before .args .table .now) _ (c .before .before .before .read-permutation .result) (c .before .before .before .read-permutation .ensures) (c .before .before .before .before .before .before .if1 .left) (not-true _ (c .if2 .taken))
+returns-2 c = permutation-bad _ _ (c .before .before .before .before .before .before .before .before .before .args .line .now) (c .before .before .before .before .before .before .before .before .before .args .state .permutations) (c .before .before .before .before .before .before .before .before .before .args .images .now) _ (c .before .before .before .read-permutation .result) (c .before .before .before .read-permutation .ensures) (c .before .before .before .before .before .before .if1 .left) (not-true _ (c .if2 .taken))
 
 returns-3 : tie.Need-returns-3
 returns-3 c =
     let s = c .before .before .before .before .before .before .before .before .before .before in
-    let w = permutation-good _ _ (s .args .line .now) (s .args .state .permutations) (s .args .table .now) _ (c .before .before .before .before .read-permutation .result) (c .before .before .before .before .read-permutation .ensures) (c .before .before .before .before .before .before .before .if1 .left)
+    let w = permutation-good _ _ (s .args .line .now) (s .args .state .permutations) (s .args .images .now) _ (c .before .before .before .before .read-permutation .result) (c .before .before .before .before .read-permutation .ensures) (c .before .before .before .before .before .before .before .if1 .left)
     (not-false _ (c .before .if2 .left)) (s .pre .0) (s .pre .2) (c .before .before .before .before .read-permutation .kept .1 .1 .0) in
     (refl, refl, w .0, w .1)
 

@@ -23,12 +23,12 @@ store-numbers-requires c κs = search needs
 
 -- the part keeps its n bytes
 sized : (c : tie.After-store-numbers) → length (c .store-numbers .last .1 .1 .0) ≡ c .before .before .before .before .before .before .before .before .args .n
-sized c = c .store-numbers .kept .1 .1 .0 ∙ part-size (c .before .before .before .before .before .before .before .before .args .n) (c .before .before .before .before .before .before .before .before .args .at) (c .before .before .before .before .before .before .before .before .args .table .now) (c .before .before .before .before .before .before .before .before .pre .1)
+sized c = c .store-numbers .kept .1 .1 .0 ∙ part-size (c .before .before .before .before .before .before .before .before .args .n) (c .before .before .before .before .before .before .before .before .args .at) (c .before .before .before .before .before .before .before .before .args .images .now) (c .before .before .before .before .before .before .before .before .pre .1)
 
 returns-3 : tie.Need-returns-3
 returns-3 c =
     let s = c .before .before .before .before .before .before .before .before .before .before .before in
-    permutation-unstored _ (s .args .bytes .now) (s .args .at) (s .args .table .now) _ _ (add-sub-cancel-left (s .args .at) (s .args .n)) (s .pre .1) (sized (c .before .before .before))
+    permutation-unstored _ (s .args .bytes .now) (s .args .at) (s .args .images .now) _ _ (add-sub-cancel-left (s .args .at) (s .args .n)) (s .pre .1) (sized (c .before .before .before))
     (sym (c .before .before .before .before .before .before .is-blank .ensures) ∙ c .before .before .before .before .before .if2 .left) (c .before .before .before .before .before .before .before .before .if1 .left) (c .before .before .before .store-numbers .result) (c .before .before .before .store-numbers .ensures) (not-true _ (c .if3 .taken))
 
 is-permutation-requires : tie.Need-is-permutation-requires
@@ -37,7 +37,7 @@ is-permutation-requires c κs = search needs
 returns-4 : tie.Need-returns-4
 returns-4 c =
     let s = c .before .before .before .before .before .before .before .before .before .before .before .before .before .before in
-    permutation-stored _ (s .args .bytes .now) (s .args .at) (s .args .table .now) _ _ (add-sub-cancel-left (s .args .at) (s .args .n)) (s .pre .1) (sized (c .before .before .before .before .before .before))
+    permutation-stored _ (s .args .bytes .now) (s .args .at) (s .args .images .now) _ _ (add-sub-cancel-left (s .args .at) (s .args .n)) (s .pre .1) (sized (c .before .before .before .before .before .before))
     (sym (c .before .before .before .before .before .before .before .before .before .is-blank .ensures) ∙ c .before .before .before .before .before .before .before .before .if2 .left) (c .before .before .before .before .before .before .before .before .before .before .before .if1 .left) (c .before .before .before .before .before .before .store-numbers .result) (c .before .before .before .before .before .before .store-numbers .ensures) (not-false _ (c .before .before .before .if3 .left)) _ (c .is-permutation .ensures)
 
 pub read-permutation-spec : {M : Type 1} → statement M

@@ -21,7 +21,7 @@ use Rattle.dimacs_format.specs.Reader.{goes, refuses, walk, Sizes, wordStep, ta
 use Rattle.dimacs_format.specs.Input.{imagesOf}
 use Rattle.dimacs_words.specs.Laws.ScanLaws.{part-end}
 use Rattle.dimacs_comments.specs.Laws.CommentScans.{Permuting}
-use Rattle.dimacs_comments.specs.Laws.HandlerScans.{targetOf, Table}
+use Rattle.dimacs_comments.specs.Laws.HandlerScans.{targetOf, KeptImages}
 use Rattle.dimacs_clauses.specs.Laws.ClauseScans.{clausesFrom, takenOf, Few, Ready, Scanning}
 
 -- ---- a target line
@@ -109,8 +109,8 @@ module _ (n start : ℕ) (line : List ℕ) (k : ℕ) (old : List ℕ) where
     permutation-bad e =
         line-kept lt none (p .result ∙ ap (λ b. cond {A = Option Permutation} b (some (record { images = take n (drop (k * n) new) })) none) e)
 
-    pub permutation-good : r ≡ true → n ≤ 64 → Table n k old → length new ≡ length old
-        → Table n (k + 1) new × (permutationStep n (permutationsIn n k old) (piece start line) ≡ goes (permutationsIn n (k + 1) new))
+    pub permutation-good : r ≡ true → n ≤ 64 → KeptImages n k old → length new ≡ length old
+        → KeptImages n (k + 1) new × (permutationStep n (permutationsIn n k old) (piece start line) ≡ goes (permutationsIn n (k + 1) new))
     unfolding permutationKept
     permutation-good e few t size = (
       record {

@@ -18,10 +18,10 @@ abbrev pub targetOf : State → Option ℕ
 targetOf s = cond (s .targeted) (some (s .target)) none
 
 -- k permutations of n bytes each lie in the table; the unused bytes are 0
-pub record Table (n k : ℕ) (table : List ℕ) : Type 0 where
+pub record KeptImages (n k : ℕ) (images : List ℕ) : Type 0 where
   pub few : k ≤ 16
-  pub places : length table ≡ 1024
-  pub unused : drop (k * n) table ≡ replicate (1024 - k * n) 0
+  pub places : length images ≡ 1024
+  pub unused : drop (k * n) images ≡ replicate (1024 - k * n) 0
 
 -- what a target line leads to
 abbrev pub TargetTaken : ℕ → ℕ → List ℕ → State → Advanced → Type 0
@@ -32,7 +32,7 @@ TargetTaken n start line s (Refused code place) = targetStep n (targetOf s) (pie
 -- what a permutation line leads to
 abbrev pub PermutationTaken : ℕ → ℕ → List ℕ → State → List ℕ → List ℕ → Advanced → Type 0
 PermutationTaken n start line s old new (On t) =
-    (t .begun ≡ s .begun) × (targetOf t ≡ targetOf s) × Table n (t .permutations) new
+    (t .begun ≡ s .begun) × (targetOf t ≡ targetOf s) × KeptImages n (t .permutations) new
     × (permutationStep n (permutationsIn n (s .permutations) old) (piece start line) ≡ goes (permutationsIn n (t .permutations) new))
 PermutationTaken n start line s old new (Refused code place) = permutationStep n (permutationsIn n (s .permutations) old) (piece start line) ≡ refuses code place
 

@@ -14,7 +14,7 @@ use Rattle.formula.specs.Limits.{maxPermutations}
 use Rattle.formula.specs.Problem.{Problem, problemOf}
 use Rattle.formula.specs.Laws.RefusalLaws.{fits-complete, passes-permutation}
 use Rattle.formula.specs.Refusals.{Fits, fits, formulaFault, permutationFault}
-use Rattle.formula.specs.Reply.{parsed, sound}
+use Rattle.formula.specs.Reply.{parsed, no-fault}
 use Rattle.formula.specs.declared.Formula.{Formula}
 use Rattle.dimacs_format.specs.Input.{Input, imagePlaces, formulaOf, positives, negatives}
 use Rattle.dimacs_format.specs.Laws.InputLaws.{Proper, accepts-proper, proper-images, input-problem}
@@ -26,11 +26,11 @@ pub record Handed (f : Formula) (positive negative : List ℕ) : Type 0 where
   -- "V is 1 to 64 and becomes n, C is 0 to 4,096"; "bits n and up are 0": refusal 10 passes
   pub fits : Fits (f .variables) (f .clauses) (take (f .clauses) positive) (take (f .clauses) negative)
   pub target : f .target < 2 ^ f .variables
-  pub ten : formulaFault f (take (f .clauses) positive) (take (f .clauses) negative) ≡ sound
+  pub ten : formulaFault f (take (f .clauses) positive) (take (f .clauses) negative) ≡ no-fault
   -- "at most 16 such lines", "every number just one time": refusal 11 passes
   pub few-permutations : f .permutations ≤ maxPermutations
   pub permutations : (e : Permutation) → e ∈ permutationsIn (f .variables) (f .permutations) (f .images) → IsPermutation (f .variables) e
-  pub eleven : permutationFault (f .variables) (permutationsIn (f .variables) (f .permutations) (f .images)) ≡ sound
+  pub eleven : permutationFault (f .variables) (permutationsIn (f .variables) (f .permutations) (f .images)) ≡ no-fault
   -- "the reader makes unused bytes 0"
   pub places : length (f .images) ≡ imagePlaces
   pub unused : drop (f .permutations * f .variables) (f .images) ≡ replicate (imagePlaces - f .permutations * f .variables) 0

@@ -4,7 +4,7 @@ use mathlib.Core.Path.{refl, sym, ap}
 use lib.ListN.{length}
 use borrow.Author.Needs.{needs}
 use Rattle.dimacs_format.specs.Reader.{andThen, atEnd}
-use Rattle.dimacs_lines.specs.Laws.AnswerLaws.{slices-stand, answers-same}
+use Rattle.dimacs_lines.specs.Laws.ParsedLaws.{slices-stand, answers-same}
 use Rattle.dimacs_lines.proofs.collect.Statement.{statement}
 use Rattle.dimacs_lines.proofs.collect.Tie as tie
 

@@ -2,8 +2,8 @@
 use Prim.Native.Nat.{_-_}
 use native.Mathlib.Omega.{arith}
 use borrow.Author.Needs.{needs}
-use Rattle.dimacs_lines.specs.Laws.AnswerLaws.{copy-begins, copy-length, copy-goes-on, copy-ends}
-use Rattle.dimacs_lines.specs.Laws.Answers.{Copying}
+use Rattle.dimacs_lines.specs.Laws.ParsedLaws.{copy-begins, copy-length, copy-goes-on, copy-ends}
+use Rattle.dimacs_lines.specs.Laws.ParsedAs.{Copying}
 use Rattle.dimacs_lines.proofs.copy.Statement.{statement}
 use Rattle.dimacs_lines.proofs.copy.Tie as tie
 

@@ -36,7 +36,7 @@ begins-requires-3 : tie.Need-begins-requires-3
 begins-requires-3 c κs = search needs
 
 permutation-line-requires : tie.Need-permutation-line-requires
-permutation-line-requires c κs = (c .before .before .before .before .before .before .before .before .before .before .before .before .before .before .pre .0 .ready .variables, head-length permutationHead (c .before .before .before .before .before .before .before .before .before .before .before .before .before .before .args .line .now) (sym (c .before .before .begins3 .ensures) ∙ c .before .if3 .taken), c .before .before .before .before .before .before .before .before .before .before .before .before .before .before .pre .0 .images)
+permutation-line-requires c κs = (c .before .before .before .before .before .before .before .before .before .before .before .before .before .before .pre .0 .ready .variables, head-length permutationHead (c .before .before .before .before .before .before .before .before .before .before .before .before .before .before .args .line .now) (sym (c .before .before .begins3 .ensures) ∙ c .before .if3 .taken), c .before .before .before .before .before .before .before .before .before .before .before .before .before .before .pre .0 .kept)
 
 returns-3 : tie.Need-returns-3
 unfolding isComment isTargetLine isPermutationLine

@@ -10,11 +10,11 @@ use Rattle.dimacs_lines.proofs.read_lines.Statement.{statement}
 use Rattle.dimacs_lines.proofs.read_lines.Tie as tie
 
 abbrev Inv-loop : tie.InvT-loop
-Inv-loop text end n total positive₀ negative₀ table₀ state₀ last₀ positive negative table state last =
-    Passing (record { variables = n; total = total }) text end positive₀ negative₀ table₀ positive negative table state last
+Inv-loop text end n total positive₀ negative₀ table₀ state₀ last₀ positive negative images state last =
+    Passing (record { variables = n; total = total }) text end positive₀ negative₀ table₀ positive negative images state last
 
 abbrev μ-loop : tie.MeasureT-loop
-μ-loop text end n total positive₀ negative₀ table₀ state₀ last₀ positive negative table state last = length text - last
+μ-loop text end n total positive₀ negative₀ table₀ state₀ last₀ positive negative images state last = length text - last
 
 begin-requires : tie.Need-begin-requires Inv-loop μ-loop
 begin-requires c κs = search needs

@@ -10,10 +10,10 @@ use Rattle.dimacs_words.proofs.begins.Statement.{statement}
 use Rattle.dimacs_words.proofs.begins.Tie as tie
 
 abbrev Inv-loop : tie.InvT-loop
-Inv-loop bytes head i₀ i = (length head ≤ length bytes) × (begins head bytes ≡ beginsFrom i head bytes)
+Inv-loop head bytes i₀ i = (length head ≤ length bytes) × (begins head bytes ≡ beginsFrom i head bytes)
 
 abbrev μ-loop : tie.MeasureT-loop
-μ-loop bytes head i₀ i = length head - i
+μ-loop head bytes i₀ i = length head - i
 
 returns : tie.Need-returns Inv-loop μ-loop
 returns c = head-long _ _ (c .if1 .taken)

@@ -5,14 +5,14 @@ use Prim.Native.Nat.{ℕ}
 use borrow.Author.Needs.{needs}
 use Rattle.math.specs.Lists.{over}
 use Rattle.search.specs.declared.Outcome.{Outcome}
-use Rattle.search.specs.Contract.{replyOf}
+use Rattle.search.specs.Contract.{replyOfOutcome}
 use Rattle.export_words.specs.Words.{wordsOf}
 use Rattle.export_words.proofs.put_outcome.Statement.{statement}
 use Rattle.export_words.proofs.put_outcome.Tie as tie
 
 -- of equal answers the words are equal
-told : {r s : Outcome} (reply : List ℕ) → r ≡ s → over (wordsOf (replyOf r)) reply ≡ over (wordsOf (replyOf s)) reply
-told reply e = ap (λ (r : Outcome). over (wordsOf (replyOf r)) reply) e
+told : {r s : Outcome} (reply : List ℕ) → r ≡ s → over (wordsOf (replyOfOutcome r)) reply ≡ over (wordsOf (replyOfOutcome s)) reply
+told reply e = ap (λ (r : Outcome). over (wordsOf (replyOfOutcome r)) reply) e
 
 put-words-requires : tie.Need-put-words-requires
 put-words-requires c κs = search needs

@@ -5,14 +5,14 @@ use Prim.Native.Nat.{ℕ}
 use borrow.Author.Needs.{needs}
 use Rattle.math.specs.Lists.{over}
 use Rattle.dimacs_lines.specs.declared.Parse.{Parse}
-use Rattle.dimacs_lines.specs.Reply.{replyOf}
+use Rattle.dimacs_lines.specs.Reply.{replyOfParse}
 use Rattle.export_words.specs.Words.{wordsOf}
 use Rattle.export_words.proofs.put_parse.Statement.{statement}
 use Rattle.export_words.proofs.put_parse.Tie as tie
 
 -- of equal answers the words are equal
-told : {r s : Parse} (reply : List ℕ) → r ≡ s → over (wordsOf (replyOf r)) reply ≡ over (wordsOf (replyOf s)) reply
-told reply e = ap (λ (r : Parse). over (wordsOf (replyOf r)) reply) e
+told : {r s : Parse} (reply : List ℕ) → r ≡ s → over (wordsOf (replyOfParse r)) reply ≡ over (wordsOf (replyOfParse s)) reply
+told reply e = ap (λ (r : Parse). over (wordsOf (replyOfParse r)) reply) e
 
 put-words-requires : tie.Need-put-words-requires
 put-words-requires c κs = search needs

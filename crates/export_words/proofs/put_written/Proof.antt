@@ -5,14 +5,14 @@ use Prim.Native.Nat.{ℕ}
 use borrow.Author.Needs.{needs}
 use Rattle.math.specs.Lists.{over}
 use Rattle.certificate_writer.specs.declared.Written.{Written}
-use Rattle.certificate_writer.specs.Contract.{replyOf}
+use Rattle.certificate_writer.specs.Contract.{replyOfWritten}
 use Rattle.export_words.specs.Words.{wordsOf}
 use Rattle.export_words.proofs.put_written.Statement.{statement}
 use Rattle.export_words.proofs.put_written.Tie as tie
 
 -- of equal answers the words are equal
-told : {r s : Written} (reply : List ℕ) → r ≡ s → over (wordsOf (replyOf r)) reply ≡ over (wordsOf (replyOf s)) reply
-told reply e = ap (λ (r : Written). over (wordsOf (replyOf r)) reply) e
+told : {r s : Written} (reply : List ℕ) → r ≡ s → over (wordsOf (replyOfWritten r)) reply ≡ over (wordsOf (replyOfWritten s)) reply
+told reply e = ap (λ (r : Written). over (wordsOf (replyOfWritten r)) reply) e
 
 put-words-requires : tie.Need-put-words-requires
 put-words-requires c κs = search needs
@@ -24,7 +24,7 @@ same-length : tie.Need-same-length
 same-length c = c .before .before .put-words .kept .0
 
 returns : tie.Need-returns
-unfolding wordsOf replyOf
+unfolding wordsOf replyOfWritten
 returns c =
     let b = c .before .before .before .before .before in
     c .before .before .put-words .ensures ∙ told _ (sym (b .r .given .1))
@@ -33,7 +33,7 @@ same-length-2 : tie.Need-same-length-2
 same-length-2 c = c .before .before .put-words2 .kept .0
 
 returns-2 : tie.Need-returns-2
-unfolding wordsOf replyOf
+unfolding wordsOf replyOfWritten
 returns-2 c =
     let b = c .before .before .before .before .before in
     c .before .before .put-words2 .ensures ∙ told _ (sym (b .r2 .given .1))

@@ -3,8 +3,8 @@ use mathlib.Core.Bool.{Bool, true, false, cond}
 use mathlib.Core.Path.{_≡_, sym, ap}
 
 module _ {A : Type 0} {room : Bool} where
-  pub roomy : room ≡ true → (new old : A) → new ≡ cond room new old
-  roomy e new old = ap (λ (b : Bool). cond b new old) (sym e)
+  pub with-room : room ≡ true → (new old : A) → new ≡ cond room new old
+  with-room e new old = ap (λ (b : Bool). cond b new old) (sym e)
 
-  pub tight : room ≡ false → (new old : A) → old ≡ cond room new old
-  tight e new old = ap (λ (b : Bool). cond b new old) (sym e)
+  pub without-room : room ≡ false → (new old : A) → old ≡ cond room new old
+  without-room e new old = ap (λ (b : Bool). cond b new old) (sym e)

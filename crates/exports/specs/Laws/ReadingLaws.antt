@@ -10,50 +10,50 @@ use Rattle.math.specs.Lists.{over}
 use Rattle.formula.specs.declared.Formula.{Formula}
 use Rattle.formula.specs.Reply.{Reply}
 use Rattle.dimacs_lines.specs.declared.Parsed.{Parsed}
-use Rattle.dimacs_lines.specs.Reply.{replyOf}
+use Rattle.dimacs_lines.specs.Reply.{replyOfParse}
 use Rattle.dimacs.specs.Contract.{Read}
-use Rattle.exports.specs.Reading.{hasFormulaRoom, ReadTold}
-use Rattle.export_words.specs.Laws.RoomLaws.{roomy, tight}
+use Rattle.exports.specs.Reading.{hasFormulaRoom, ReadReturns}
+use Rattle.export_words.specs.Laws.RoomLaws.{with-room, without-room}
 use Rattle.export_words.specs.Words.{wordsOf, hasRoom, numbersOf}
 
 module _ (text positive negative numbers images reply : List ℕ) where
   rooms : {a b c : Bool} → hasRoom reply ≡ a → hasRoom numbers ≡ b → leb 1024 (length images) ≡ c → hasFormulaRoom numbers images reply ≡ (a && b && c)
   rooms p q r = rw (p, q, r)
 
-  nothing : hasFormulaRoom numbers images reply ≡ false → ReadTold text positive negative numbers images reply 0 positive negative numbers images reply
+  nothing : hasFormulaRoom numbers images reply ≡ false → ReadReturns text positive negative numbers images reply 0 positive negative numbers images reply
   nothing e =
       record {
-        told = tight e 1 0;
-        reply = tight e _ reply;
-        numbers = tight e _ numbers;
-        images = tight e _ images;
-        positive = tight e _ positive;
-        negative = tight e _ negative;
+        returned = without-room e 1 0;
+        reply = without-room e _ reply;
+        numbers = without-room e _ numbers;
+        images = without-room e _ images;
+        positive = without-room e _ positive;
+        negative = without-room e _ negative;
       }
 
-  pub without-reply : length reply < 4 → ReadTold text positive negative numbers images reply 0 positive negative numbers images reply
+  pub without-reply : length reply < 4 → ReadReturns text positive negative numbers images reply 0 positive negative numbers images reply
   without-reply lt = nothing (rooms (lt-leb 4 (length reply) lt) refl refl)
 
-  pub without-numbers : 4 ≤ length reply → length numbers < 4 → ReadTold text positive negative numbers images reply 0 positive negative numbers images reply
+  pub without-numbers : 4 ≤ length reply → length numbers < 4 → ReadReturns text positive negative numbers images reply 0 positive negative numbers images reply
   without-numbers le lt = nothing (rooms (le-leb 4 (length reply) le) (lt-leb 4 (length numbers) lt) refl)
 
   pub without-images : 4 ≤ length reply → 4 ≤ length numbers → length images < 1024
-      → ReadTold text positive negative numbers images reply 0 positive negative numbers images reply
+      → ReadReturns text positive negative numbers images reply 0 positive negative numbers images reply
   without-images le le′ lt = nothing (rooms (le-leb 4 (length reply) le) (le-leb 4 (length numbers) le′) (lt-leb 1024 (length images) lt))
 
   pub tells-reading : (r : Parsed) (positive₁ negative₁ numbers₁ images₁ reply₁ : List ℕ) → 4 ≤ length reply → 4 ≤ length numbers → 1024 ≤ length images
       → Read text positive negative r positive₁ negative₁
       → numbers₁ ≡ over (numbersOf (r .formula)) numbers
       → images₁ ≡ over (r .formula .images) images
-      → reply₁ ≡ over (wordsOf (replyOf (r .answer))) reply
-      → ReadTold text positive negative numbers images reply 1 positive₁ negative₁ numbers₁ images₁ reply₁
+      → reply₁ ≡ over (wordsOf (replyOfParse (r .answer))) reply
+      → ReadReturns text positive negative numbers images reply 1 positive₁ negative₁ numbers₁ images₁ reply₁
   tells-reading r positive₁ negative₁ numbers₁ images₁ reply₁ le le′ le″ s told-numbers told-images told-reply =
       let e = rooms (le-leb 4 (length reply) le) (le-leb 4 (length numbers) le′) (le-leb 1024 (length images) le″) in
       record {
-        told = roomy e 1 0;
-        reply = told-reply ∙ ap (λ (a : Reply). over (wordsOf a) reply) (s .reply) ∙ roomy e _ reply;
-        numbers = told-numbers ∙ ap (λ (f : Formula). over (numbersOf f) numbers) (s .formula) ∙ roomy e _ numbers;
-        images = told-images ∙ ap (λ (f : Formula). over (f .images) images) (s .formula) ∙ roomy e _ images;
-        positive = s .positive ∙ roomy e _ positive;
-        negative = s .negative ∙ roomy e _ negative;
+        returned = with-room e 1 0;
+        reply = told-reply ∙ ap (λ (a : Reply). over (wordsOf a) reply) (s .reply) ∙ with-room e _ reply;
+        numbers = told-numbers ∙ ap (λ (f : Formula). over (numbersOf f) numbers) (s .formula) ∙ with-room e _ numbers;
+        images = told-images ∙ ap (λ (f : Formula). over (f .images) images) (s .formula) ∙ with-room e _ images;
+        positive = s .positive ∙ with-room e _ positive;
+        negative = s .negative ∙ with-room e _ negative;
       }

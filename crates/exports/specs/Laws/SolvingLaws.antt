@@ -10,15 +10,15 @@ use Rattle.claims.specs.Claim.{from-text}
 use Rattle.solver.specs.declared.Solution.{Solution}
 use Rattle.solver.specs.Solver.{slotsOf, blank}
 use Rattle.solver.specs.Contract.{Solved}
-use Rattle.export_words.specs.Laws.RoomLaws.{roomy, tight}
+use Rattle.export_words.specs.Laws.RoomLaws.{with-room, without-room}
 use Rattle.export_words.specs.Replies.{solutionWords}
-use Rattle.exports.specs.Solving.{SolveTold}
+use Rattle.exports.specs.Solving.{SolveReturns}
 
 module _ (text points falsified depths out reply : List ℕ) where
-  pub tells-nothing : length reply < 4 → SolveTold text points falsified depths out reply 0 points falsified depths out reply
+  pub tells-nothing : length reply < 4 → SolveReturns text points falsified depths out reply 0 points falsified depths out reply
   tells-nothing lt =
       record {
-        told = tight (lt-leb 4 (length reply) lt) 1 0;
+        returned = without-room (lt-leb 4 (length reply) lt) 1 0;
         answered = λ le. absurd (let z : ⊥ = omega arith in z);
         unchanged = λ _. (refl, refl, refl, refl, refl);
       }
@@ -26,10 +26,10 @@ module _ (text points falsified depths out reply : List ℕ) where
   pub tells-solution : (r : Solution) (points₁ falsified₁ depths₁ out₁ reply₁ : List ℕ) → 4 ≤ length reply
       → Solved (from-text text blank blank) (slotsOf points falsified depths) out r points₁ falsified₁ depths₁ out₁
       → reply₁ ≡ over (solutionWords r) reply
-      → SolveTold text points falsified depths out reply 1 points₁ falsified₁ depths₁ out₁ reply₁
+      → SolveReturns text points falsified depths out reply 1 points₁ falsified₁ depths₁ out₁ reply₁
   tells-solution r points₁ falsified₁ depths₁ out₁ reply₁ le s w =
       record {
-        told = roomy (le-leb 4 (length reply) le) 1 0;
+        returned = with-room (le-leb 4 (length reply) le) 1 0;
         answered = λ _. record { solution = r; solved = s; words = w };
         unchanged = λ lt. absurd (let z : ⊥ = omega arith in z);
       }

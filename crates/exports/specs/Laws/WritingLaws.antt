@@ -8,28 +8,28 @@ use Rattle.math.specs.Lists.{over}
 use Rattle.formula.specs.declared.Formula.{Formula}
 use Rattle.formula.specs.Reply.{Reply}
 use Rattle.certificate_writer.specs.declared.Written.{Written}
-use Rattle.certificate_writer.specs.Contract.{replyOf, Wrote}
-use Rattle.export_words.specs.Laws.RoomLaws.{roomy, tight}
+use Rattle.certificate_writer.specs.Contract.{replyOfWritten, Wrote}
+use Rattle.export_words.specs.Laws.RoomLaws.{with-room, without-room}
 use Rattle.export_words.specs.Words.{wordsOf}
-use Rattle.exports.specs.Writing.{WriteTold}
+use Rattle.exports.specs.Writing.{WriteReturns}
 
-module _ (f : Formula) (positive negative points falsified depths : List ℕ) (count : ℕ) (out reply : List ℕ) where
-  pub tells-nothing : length reply < 4 → WriteTold f positive negative points falsified depths count out reply 0 out reply
+module _ (f : Formula) (positive negative points falsified depths : List ℕ) (filled : ℕ) (out reply : List ℕ) where
+  pub tells-nothing : length reply < 4 → WriteReturns f positive negative points falsified depths filled out reply 0 out reply
   tells-nothing lt =
       record {
-        told = tight (lt-leb 4 (length reply) lt) 1 0;
-        reply = tight (lt-leb 4 (length reply) lt) _ reply;
-        output = tight (lt-leb 4 (length reply) lt) _ out;
+        returned = without-room (lt-leb 4 (length reply) lt) 1 0;
+        reply = without-room (lt-leb 4 (length reply) lt) _ reply;
+        output = without-room (lt-leb 4 (length reply) lt) _ out;
       }
 
   pub tells-writing : (g : Formula) (r : Written) (out₁ reply₁ : List ℕ) → 4 ≤ length reply → g ≡ f
-      → Wrote g positive negative points falsified depths count out r out₁
-      → reply₁ ≡ over (wordsOf (replyOf r)) reply
-      → WriteTold f positive negative points falsified depths count out reply 1 out₁ reply₁
+      → Wrote g positive negative points falsified depths filled out r out₁
+      → reply₁ ≡ over (wordsOf (replyOfWritten r)) reply
+      → WriteReturns f positive negative points falsified depths filled out reply 1 out₁ reply₁
   tells-writing g r out₁ reply₁ le same wrote words =
-      let w = subst (λ h. Wrote h positive negative points falsified depths count out r out₁) same wrote in
+      let w = subst (λ h. Wrote h positive negative points falsified depths filled out r out₁) same wrote in
       record {
-        told = roomy (le-leb 4 (length reply) le) 1 0;
-        reply = words ∙ ap (λ (a : Reply). over (wordsOf a) reply) (w .reply) ∙ roomy (le-leb 4 (length reply) le) _ reply;
-        output = w .output ∙ roomy (le-leb 4 (length reply) le) _ out;
+        returned = with-room (le-leb 4 (length reply) le) 1 0;
+        reply = words ∙ ap (λ (a : Reply). over (wordsOf a) reply) (w .reply) ∙ with-room (le-leb 4 (length reply) le) _ reply;
+        output = w .output ∙ with-room (le-leb 4 (length reply) le) _ out;
       }

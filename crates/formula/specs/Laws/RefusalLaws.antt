@@ -21,7 +21,7 @@ use Rattle.permutation_theory.specs.Permutations.{Permutation, IsPermutation, i
 use Rattle.formula.specs.declared.Formula.{Formula}
 use Rattle.formula.specs.Limits.{maxVariables, maxClauses, maxPermutations}
 use Rattle.formula.specs.Refusals.{allBelow, Fits, fits, formulaFault, permutationFault, symmetryFault, problemFault}
-use Rattle.formula.specs.Reply.{Fault, sound, fault, faultAt}
+use Rattle.formula.specs.Reply.{Fault, no-fault, fault, faultAt}
 use Rattle.formula.specs.Laws.ReplyLaws.{IsFault, fault-not-sound, faultAt-sound, answers-first, answers-rest, first-last}
 
 -- ---- 10
@@ -75,11 +75,11 @@ pub few-enough : (n : ℕ) (es : List Permutation) → length es ≤ maxPermutat
 unfolding permutationFault
 few-enough n es h = rw (le-leb (length es) maxPermutations h)
 
-pub permutation-passes : (n : ℕ) (es : List Permutation) → permutationFault n es ≡ sound → (length es ≤ maxPermutations) × ((e : Permutation) → e ∈ es → IsPermutation n e)
+pub permutation-passes : (n : ℕ) (es : List Permutation) → permutationFault n es ≡ no-fault → (length es ≤ maxPermutations) × ((e : Permutation) → e ∈ es → IsPermutation n e)
 unfolding permutationFault
 permutation-passes n es h = by (leb (length es) maxPermutations) refl h
   where
-    by : (b : Bool) → leb (length es) maxPermutations ≡ b → cond b (faultAt 11 (firstFailing (isPermutation n) es)) (fault 11 17) ≡ sound
+    by : (b : Bool) → leb (length es) maxPermutations ≡ b → cond b (faultAt 11 (firstFailing (isPermutation n) es)) (fault 11 17) ≡ no-fault
         → (length es ≤ maxPermutations) × ((e : Permutation) → e ∈ es → IsPermutation n e)
     by true few h = (
       leb-true (length es) maxPermutations few,
@@ -87,7 +87,7 @@ permutation-passes n es h = by (leb (length es) maxPermutations) refl h
     )
     by false many h = absurd (fault-not-sound 11 17 h)
 
-pub passes-permutation : (n : ℕ) (es : List Permutation) → length es ≤ maxPermutations → ((e : Permutation) → e ∈ es → IsPermutation n e) → permutationFault n es ≡ sound
+pub passes-permutation : (n : ℕ) (es : List Permutation) → length es ≤ maxPermutations → ((e : Permutation) → e ∈ es → IsPermutation n e) → permutationFault n es ≡ no-fault
 unfolding permutationFault
 passes-permutation n es few each =
     rw (le-leb (length es) maxPermutations few)
@@ -95,20 +95,20 @@ passes-permutation n es few each =
 
 -- ---- 12
 
-pub symmetry-passes : (cs : List Numbered) (es : List Permutation) → symmetryFault cs es ≡ sound → (e : Permutation) → e ∈ es → Keeps e cs
+pub symmetry-passes : (cs : List Numbered) (es : List Permutation) → symmetryFault cs es ≡ no-fault → (e : Permutation) → e ∈ es → Keeps e cs
 unfolding symmetryFault
 symmetry-passes cs es h e m = keeps-sound cs e (none-failing (keeps cs) es (faultAt-sound 12 (firstFailing (keeps cs) es) h) e m)
 
-pub passes-symmetry : (cs : List Numbered) (es : List Permutation) → ((e : Permutation) → e ∈ es → Keeps e cs) → symmetryFault cs es ≡ sound
+pub passes-symmetry : (cs : List Numbered) (es : List Permutation) → ((e : Permutation) → e ∈ es → Keeps e cs) → symmetryFault cs es ≡ no-fault
 unfolding symmetryFault
 passes-symmetry cs es each = ap (faultAt 12) (all-passing (keeps cs) es (λ e m. keeps-complete cs e (each e m)))
 
 -- ---- what lets the loops over permutations run: after 10 and 11 the bytes hold them, few and each movable
 
-pub passes-few : (n k : ℕ) (bytes : List ℕ) → permutationFault n (permutationsIn n k bytes) ≡ sound → k ≤ maxPermutations
+pub passes-few : (n k : ℕ) (bytes : List ℕ) → permutationFault n (permutationsIn n k bytes) ≡ no-fault → k ≤ maxPermutations
 passes-few n k bytes h = le-trans (le-of-eq (sym (length-permutations n k bytes))) (permutation-passes n (permutationsIn n k bytes) h .0)
 
-pub passes-listed : (n k : ℕ) (bytes : List ℕ) → n ≤ maxVariables → k * n ≤ length bytes → permutationFault n (permutationsIn n k bytes) ≡ sound → Listed n k bytes
+pub passes-listed : (n k : ℕ) (bytes : List ℕ) → n ≤ maxVariables → k * n ≤ length bytes → permutationFault n (permutationsIn n k bytes) ≡ no-fault → Listed n k bytes
 passes-listed n k bytes few room h =
     let p = permutation-passes n (permutationsIn n k bytes) h in
     record { room = room; movable = λ e m. movable e (p .1 e m) }
@@ -137,21 +137,21 @@ module _ (f : Formula) (positive negative : List ℕ) where
   unfolding problemFault
   stops-10 r e h = answers-first r (formulaFault f positive negative) (eleven ∷ twelve ∷ []) e h
 
-  pub stops-11 : (r : Fault) → formulaFault f positive negative ≡ sound → r ≡ eleven → IsFault r → r ≡ problemFault f positive negative
+  pub stops-11 : (r : Fault) → formulaFault f positive negative ≡ no-fault → r ≡ eleven → IsFault r → r ≡ problemFault f positive negative
   unfolding problemFault
   stops-11 r ten e h = answers-rest r (formulaFault f positive negative) (eleven ∷ twelve ∷ []) ten (answers-first r eleven (twelve ∷ []) e h)
 
-  pub ends-12 : formulaFault f positive negative ≡ sound → eleven ≡ sound → twelve ≡ problemFault f positive negative
+  pub ends-12 : formulaFault f positive negative ≡ no-fault → eleven ≡ no-fault → twelve ≡ problemFault f positive negative
   unfolding problemFault
   ends-12 ten el =
       answers-rest twelve (formulaFault f positive negative) (eleven ∷ twelve ∷ []) ten (answers-rest twelve eleven (twelve ∷ []) el (sym (first-last twelve)))
 
   -- what is known once 10 has passed
-  pub formula-passes : formulaFault f positive negative ≡ sound → Fits (f .variables) (f .clauses) positive negative × (f .target < 2 ^ f .variables)
+  pub formula-passes : formulaFault f positive negative ≡ no-fault → Fits (f .variables) (f .clauses) positive negative × (f .target < 2 ^ f .variables)
   unfolding formulaFault
   formula-passes h = by (fits (f .variables) (f .clauses) positive negative && ltb (f .target) (2 ^ f .variables)) refl h
     where
-      by : (b : Bool) → fits (f .variables) (f .clauses) positive negative && ltb (f .target) (2 ^ f .variables) ≡ b → cond b sound (fault 10 0) ≡ sound
+      by : (b : Bool) → fits (f .variables) (f .clauses) positive negative && ltb (f .target) (2 ^ f .variables) ≡ b → cond b no-fault (fault 10 0) ≡ no-fault
           → Fits (f .variables) (f .clauses) positive negative × (f .target < 2 ^ f .variables)
       by true e h =
           let both = and-split (fits (f .variables) (f .clauses) positive negative) (ltb (f .target) (2 ^ f .variables)) e in
@@ -162,7 +162,7 @@ module _ (f : Formula) (positive negative : List ℕ) where
   pub images-room : f .variables ≤ maxVariables → length (f .images) ≡ 1024 → f .permutations ≤ maxPermutations → f .permutations * f .variables ≤ length (f .images)
   images-room few size h = le-trans (mul-le-mul h few) (le-of-eq (sym size))
 
-  pub formula-listed : formulaFault f positive negative ≡ sound → eleven ≡ sound → length (f .images) ≡ 1024 → Listed (f .variables) (f .permutations) (f .images)
+  pub formula-listed : formulaFault f positive negative ≡ no-fault → eleven ≡ no-fault → length (f .images) ≡ 1024 → Listed (f .variables) (f .permutations) (f .images)
   formula-listed ten el size =
       let few = formula-passes ten .0 .few-variables in
       passes-listed (f .variables) (f .permutations) (f .images) few (images-room few size (passes-few (f .variables) (f .permutations) (f .images) el)) el

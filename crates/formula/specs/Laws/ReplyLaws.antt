@@ -7,17 +7,17 @@ use Prim.Native.Nat.{ℕ, zero, suc, _<_}
 use native.Mathlib.Omega.{arith}
 use Rattle.math.specs.Lists.{_∈_, firstFailing, below}
 use Rattle.math.specs.Laws.PartLaws.{none-failing, none-failing-below, all-passing, all-passing-below}
-use Rattle.formula.specs.Reply.{Fault, sound, fault, faultAt, first, Reply, refused, accepted, written, opened, unless}
+use Rattle.formula.specs.Reply.{Fault, no-fault, fault, faultAt, first, Reply, refused, accepted, written, opened, unless}
 
 -- whether the test found nothing
 abbrev isSound : Fault → Bool
-isSound sound = true
+isSound no-fault = true
 isSound (fault code place) = false
 
-pub fault-not-sound : (code place : ℕ) → fault code place ≡ sound → ⊥
+pub fault-not-sound : (code place : ℕ) → fault code place ≡ no-fault → ⊥
 fault-not-sound code place e = true≢false (ap isSound (sym e))
 
-pub first-skips : (f : Fault) (fs : List Fault) → f ≡ sound → first (f ∷ fs) ≡ first fs
+pub first-skips : (f : Fault) (fs : List Fault) → f ≡ no-fault → first (f ∷ fs) ≡ first fs
 unfolding first
 first-skips f fs e = ap (λ f. first (f ∷ fs)) e
 
@@ -28,30 +28,30 @@ first-stops f fs code place e = ap (λ f. first (f ∷ fs)) e
 -- the last test alone
 pub first-last : (f : Fault) → first (f ∷ []) ≡ f
 unfolding first
-first-last sound = refl
+first-last no-fault = refl
 first-last (fault code place) = refl
 
 -- a fault that is one
 abbrev pub IsFault : Fault → Type 0
-IsFault sound = ⊥
+IsFault no-fault = ⊥
 IsFault (fault code place) = Unit {0}
 
 -- a function that tests in order answers the first fault, or what the tests behind it answer
 pub answers-first : (r t : Fault) (ts : List Fault) → r ≡ t → IsFault r → r ≡ first (t ∷ ts)
-answers-first sound t ts e h = absurd h
+answers-first no-fault t ts e h = absurd h
 answers-first (fault code place) t ts e h = sym (first-stops t ts code place (sym e))
 
-pub answers-rest : (r t : Fault) (ts : List Fault) → t ≡ sound → r ≡ first ts → r ≡ first (t ∷ ts)
+pub answers-rest : (r t : Fault) (ts : List Fault) → t ≡ no-fault → r ≡ first ts → r ≡ first (t ∷ ts)
 answers-rest r t ts passed e = e ∙ sym (first-skips t ts passed)
 
 -- ---- a fault by number
 
-pub faultAt-sound : (code k : ℕ) → faultAt code k ≡ sound → k ≡ 0
+pub faultAt-sound : (code k : ℕ) → faultAt code k ≡ no-fault → k ≡ 0
 unfolding faultAt
 faultAt-sound code zero h = refl
 faultAt-sound code (suc k) h = absurd (fault-not-sound code (suc k) h)
 
-pub fault-zero : (code k : ℕ) → k ≡ 0 → sound ≡ faultAt code k
+pub fault-zero : (code k : ℕ) → k ≡ 0 → no-fault ≡ faultAt code k
 unfolding faultAt
 fault-zero code k e = sym (ap (faultAt code) e)
 
@@ -62,76 +62,76 @@ fault-pos code (suc k) r e ne = ap (fault code) e
 
 -- ---- tests one after the other
 
-pub first-none : first [] ≡ sound
+pub first-none : first [] ≡ no-fault
 unfolding first
 first-none = refl
 
-pub first-split : (t : Fault) (ts : List Fault) → first (t ∷ ts) ≡ sound → (t ≡ sound) × (first ts ≡ sound)
+pub first-split : (t : Fault) (ts : List Fault) → first (t ∷ ts) ≡ no-fault → (t ≡ no-fault) × (first ts ≡ no-fault)
 unfolding first
-first-split sound ts h = (refl, h)
+first-split no-fault ts h = (refl, h)
 first-split (fault code place) ts h = absurd (fault-not-sound code place h)
 
-pub first-join : (t : Fault) (ts : List Fault) → t ≡ sound → first ts ≡ sound → first (t ∷ ts) ≡ sound
+pub first-join : (t : Fault) (ts : List Fault) → t ≡ no-fault → first ts ≡ no-fault → first (t ∷ ts) ≡ no-fault
 unfolding first
 first-join t ts p q = rw p q
 
 -- ---- tests behind others
 
-pub first-after : (fs gs : List Fault) → first fs ≡ sound → first (fs ++ gs) ≡ first gs
+pub first-after : (fs gs : List Fault) → first fs ≡ no-fault → first (fs ++ gs) ≡ first gs
 unfolding first
 first-after [] gs h = refl
-first-after (sound ∷ fs) gs h = first-after fs gs h
+first-after (no-fault ∷ fs) gs h = first-after fs gs h
 first-after (fault code place ∷ fs) gs h = absurd (fault-not-sound code place h)
 
 pub first-before : (fs gs : List Fault) (code place : ℕ) → first fs ≡ fault code place → first (fs ++ gs) ≡ fault code place
 unfolding first
 first-before [] gs code place h = absurd (fault-not-sound code place (sym h))
-first-before (sound ∷ fs) gs code place h = first-before fs gs code place h
+first-before (no-fault ∷ fs) gs code place h = first-before fs gs code place h
 first-before (fault c p ∷ fs) gs code place h = h
 
 -- what tests found, in front of others
 pub first-nested : (fs gs : List Fault) → first (first fs ∷ gs) ≡ first (fs ++ gs)
 unfolding first
 first-nested [] gs = refl
-first-nested (sound ∷ fs) gs = first-nested fs gs
+first-nested (no-fault ∷ fs) gs = first-nested fs gs
 first-nested (fault code place ∷ fs) gs = refl
 
 -- ---- one test
 
-pub tested : (b : Bool) (t : Fault) (code place : ℕ) → cond b t (fault code place) ≡ sound → (b ≡ true) × (t ≡ sound)
+pub tested : (b : Bool) (t : Fault) (code place : ℕ) → cond b t (fault code place) ≡ no-fault → (b ≡ true) × (t ≡ no-fault)
 tested true t code place h = (refl, h)
 tested false t code place h = absurd (fault-not-sound code place h)
 
-pub test-passed : (b : Bool) (t : Fault) (code place : ℕ) → b ≡ true → t ≡ sound → cond b t (fault code place) ≡ sound
+pub test-passed : (b : Bool) (t : Fault) (code place : ℕ) → b ≡ true → t ≡ no-fault → cond b t (fault code place) ≡ no-fault
 test-passed b t code place p q = rw p q
 
 -- ---- a test of each of several things
 
 module _ {A : Type 0} (code : ℕ) (t : A → Bool) (xs : List A) where
-  pub each-passed : faultAt code (firstFailing t xs) ≡ sound → (x : A) → x ∈ xs → t x ≡ true
+  pub each-passed : faultAt code (firstFailing t xs) ≡ no-fault → (x : A) → x ∈ xs → t x ≡ true
   each-passed h = none-failing t xs (faultAt-sound code (firstFailing t xs) h)
 
-  pub passes-each : ((x : A) → x ∈ xs → t x ≡ true) → faultAt code (firstFailing t xs) ≡ sound
+  pub passes-each : ((x : A) → x ∈ xs → t x ≡ true) → faultAt code (firstFailing t xs) ≡ no-fault
   passes-each h = sym (fault-zero code (firstFailing t xs) (all-passing t xs h))
 
 module _ (code : ℕ) (t : ℕ → Bool) (k : ℕ) where
-  pub below-passed : faultAt code (firstFailing t (below k)) ≡ sound → (i : ℕ) → i < k → t i ≡ true
+  pub below-passed : faultAt code (firstFailing t (below k)) ≡ no-fault → (i : ℕ) → i < k → t i ≡ true
   below-passed h = none-failing-below t k (faultAt-sound code (firstFailing t (below k)) h)
 
-  pub passes-below : ((i : ℕ) → i < k → t i ≡ true) → faultAt code (firstFailing t (below k)) ≡ sound
+  pub passes-below : ((i : ℕ) → i < k → t i ≡ true) → faultAt code (firstFailing t (below k)) ≡ no-fault
   passes-below h = sym (fault-zero code (firstFailing t (below k)) (all-passing-below t k h))
 
 -- ---- the reply
 
 -- a reply that is no refusal
-pub unless-sound : (t : Fault) → t ≡ sound → (r : Reply) → unless t r ≡ r
+pub unless-sound : (t : Fault) → t ≡ no-fault → (r : Reply) → unless t r ≡ r
 unfolding unless
 unless-sound t e r = rw e
 
 -- no fault was found where the reply is not a refusal
-pub not-refused : (t : Fault) (r s : Reply) → unless t r ≡ s → ((code place : ℕ) → s ≡ refused code place → ⊥) → t ≡ sound
+pub not-refused : (t : Fault) (r s : Reply) → unless t r ≡ s → ((code place : ℕ) → s ≡ refused code place → ⊥) → t ≡ no-fault
 unfolding unless
-not-refused sound r s h ne = refl
+not-refused no-fault r s h ne = refl
 not-refused (fault code place) r s h ne = absurd (ne code place (sym h))
 
 pub accepted-not-refused : (code place : ℕ) → accepted ≡ refused code place → ⊥
@@ -146,7 +146,7 @@ opened-not-refused code place e = let z : _≡_ {A = ℕ} 0 1 = cc in omega arit
 -- a refusal is the fault that was found
 pub refused-fault : (t : Fault) (r : Reply) → ((code place : ℕ) → r ≡ refused code place → ⊥) → (code place : ℕ) → refused code place ≡ unless t r → fault code place ≡ t
 unfolding unless
-refused-fault sound r ne code place e = absurd (ne code place (sym e))
+refused-fault no-fault r ne code place e = absurd (ne code place (sym e))
 refused-fault (fault c p) r ne code place e =
     let a : code ≡ c = cc in
     let b : place ≡ p = cc in

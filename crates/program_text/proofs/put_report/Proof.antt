@@ -4,14 +4,14 @@ use mathlib.Core.Path.{_≡_, sym, subst}
 use Prim.Native.Nat.{ℕ}
 use borrow.Author.Needs.{needs}
 use Rattle.search.specs.declared.Outcome.{Outcome}
-use Rattle.search.specs.Contract.{replyOf}
+use Rattle.search.specs.Contract.{replyOfOutcome}
 use Rattle.program_text.specs.Report.{reportOf, Printed}
 use Rattle.program_text.proofs.put_report.Statement.{statement}
 use Rattle.program_text.proofs.put_report.Tie as tie
 
 -- of equal answers the texts are equal
-printed-for : {r s : Outcome} (n : ℕ) (out₀ : List ℕ) (count : ℕ) (out₁ : List ℕ) → r ≡ s → Printed (reportOf n (replyOf s)) out₀ count out₁ → Printed (reportOf n (replyOf r)) out₀ count out₁
-printed-for n out₀ count out₁ e p = subst (λ (q : Outcome). Printed (reportOf n (replyOf q)) out₀ count out₁) (sym e) p
+printed-for : {r s : Outcome} (n : ℕ) (out₀ : List ℕ) (count : ℕ) (out₁ : List ℕ) → r ≡ s → Printed (reportOf n (replyOfOutcome s)) out₀ count out₁ → Printed (reportOf n (replyOfOutcome r)) out₀ count out₁
+printed-for n out₀ count out₁ e p = subst (λ (q : Outcome). Printed (reportOf n (replyOfOutcome q)) out₀ count out₁) (sym e) p
 
 put-satisfiable-requires : tie.Need-put-satisfiable-requires
 put-satisfiable-requires c κs = search needs

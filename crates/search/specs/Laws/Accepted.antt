@@ -12,28 +12,28 @@ use Rattle.formula.specs.Limits.{maxSlots, capacity}
 use Rattle.formula.specs.Problem.{problemOf}
 use Rattle.formula.specs.Laws.RefusalLaws.{fits-below, formula-passes, permutation-passes, symmetry-passes}
 use Rattle.formula.specs.Refusals.{formulaFault, permutationFault, symmetryFault}
-use Rattle.formula.specs.Reply.{Reply, refused, Fault, sound}
+use Rattle.formula.specs.Reply.{Reply, refused, Fault, no-fault}
 use Rattle.formula.specs.Laws.ReplyLaws.{first-split, first-last, fault-not-sound, not-refused, unless-sound}
-use Rattle.search.specs.Laws.Answered.{Answered}
+use Rattle.search.specs.Laws.WalkAnswers.{WalkAnswers}
 use Rattle.search.specs.Search.{slotFault, searchFault, searchReply, searchSlots}
 use Rattle.search_theory.specs.Laws.Invariants.{Ready}
 use Rattle.search_theory.specs.Walk.{start, Walks, walked}
 use Rattle.search_theory.specs.Laws.WalkLaws.{walked-walks}
 
-lent-slot : (k : ℕ) → slotFault k ≡ sound → 1 ≤ k
+lent-slot : (k : ℕ) → slotFault k ≡ no-fault → 1 ≤ k
 unfolding slotFault
 lent-slot zero e = absurd (fault-not-sound 13 0 e)
 lent-slot (suc k) e = suc-le-suc zero-le
 
 -- ---- "The number of slots P is the shortest length lent, at most 65,536 used."
 
-pub lent-few : (points numbers depths : ℕ) → capacity points numbers depths ≤ maxSlots
+pub lent-few : (points falsified depths : ℕ) → capacity points falsified depths ≤ maxSlots
 unfolding capacity
-lent-few points numbers depths = omega arith
+lent-few points falsified depths = omega arith
 
-pub lent-enough : (k points numbers depths : ℕ) → k ≤ maxSlots → k ≤ points → k ≤ numbers → k ≤ depths → k ≤ capacity points numbers depths
+pub lent-enough : (k points falsified depths : ℕ) → k ≤ maxSlots → k ≤ points → k ≤ falsified → k ≤ depths → k ≤ capacity points falsified depths
 unfolding capacity
-lent-enough k points numbers depths few a b c = omega arith
+lent-enough k points falsified depths few a b c = omega arith
 
 -- ---- no refusal
 
@@ -47,8 +47,8 @@ module _ (f : Formula) (positive negative : List ℕ) (lent : ℕ) where
   abbrev row12 : Fault
   row12 = symmetryFault (numbered (clausesOf positive negative)) perms
 
-  pub rows : searchFault f positive negative lent ≡ sound
-      → (formulaFault f positive negative ≡ sound) × (row11 ≡ sound) × (row12 ≡ sound) × (slotFault lent ≡ sound)
+  pub rows : searchFault f positive negative lent ≡ no-fault
+      → (formulaFault f positive negative ≡ no-fault) × (row11 ≡ no-fault) × (row12 ≡ no-fault) × (slotFault lent ≡ no-fault)
   unfolding searchFault
   rows h =
       let a = first-split (formulaFault f positive negative) (row11 ∷ row12 ∷ slotFault lent ∷ []) h in
@@ -57,7 +57,7 @@ module _ (f : Formula) (positive negative : List ℕ) (lent : ℕ) where
       (a .0, b .0, c .0, sym (first-last (slotFault lent)) ∙ c .1)
 
   -- "In the mission an accepted sheet is one that neither reader nor builder refuses"
-  pub ready-of-faults : searchFault f positive negative lent ≡ sound → Ready (problemOf f positive negative)
+  pub ready-of-faults : searchFault f positive negative lent ≡ no-fault → Ready (problemOf f positive negative)
   unfolding problemOf
   ready-of-faults h =
       let r = rows h in
@@ -70,11 +70,11 @@ module _ (f : Formula) (positive negative : List ℕ) (lent : ℕ) where
             (symmetry-passes (numbered (clausesOf positive negative)) perms (r .2) e m) below;
       }
 
-  pub lent-of-faults : searchFault f positive negative lent ≡ sound → 1 ≤ lent
+  pub lent-of-faults : searchFault f positive negative lent ≡ no-fault → 1 ≤ lent
   lent-of-faults h = lent-slot lent (rows h .3)
 
   -- a reply that is no refusal is the search's
-  pub answered : (r : Reply) → searchReply f positive negative lent ≡ r → ((code place : ℕ) → r ≡ refused code place → ⊥) → Answered f positive negative lent r
+  pub answered : (r : Reply) → searchReply f positive negative lent ≡ r → ((code place : ℕ) → r ≡ refused code place → ⊥) → WalkAnswers f positive negative lent r
   unfolding searchReply searchSlots
   answered r e ok =
       let pb = problemOf f positive negative in

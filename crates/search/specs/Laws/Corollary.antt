@@ -10,13 +10,13 @@ use Rattle.point_slices.specs.Slices.{pointsOf}
 use Rattle.formula.specs.declared.Formula.{Formula}
 use Rattle.formula.specs.Limits.{maxSlots}
 use Rattle.formula.specs.Problem.{problemOf, Unsatisfiable as NoneSatisfies}
-use Rattle.formula.specs.Reply.{Reply, refused, satisfiable, unsatisfiable, unknown, parsed, written, opened, accepted, sound}
+use Rattle.formula.specs.Reply.{Reply, refused, satisfiable, unsatisfiable, unknown, parsed, written, opened, accepted, no-fault}
 use Rattle.formula.specs.Laws.ReplyLaws.{not-refused}
-use Rattle.search_theory.specs.Laws.Answers.{LowerBound, Nearest, HandedBack, ClosedSlots, reported}
+use Rattle.search_theory.specs.Laws.Promised.{LowerBound, Nearest, HandedBack, ClosedSlots, reported}
 use Rattle.search_theory.specs.Walk.{Slot, walked}
 use Rattle.search.specs.Laws.Accepted.{answered}
 use Rattle.search.specs.Search.{lentBy, searchFault, searchReply, searchSlots, searchSlice}
-use Rattle.search.specs.Contract.{replyOf, Searched}
+use Rattle.search.specs.Contract.{replyOfOutcome, Searched}
 use Rattle.search.specs.declared.Outcome.{Outcome}
 use Rattle.search.specs.declared.Outcome.the-variants.{Satisfiable, Unsatisfiable, Unknown, Refused}
 use Rattle.search.specs.Laws.Theorems.{slots-reported, search-nearest, search-slot, search-exactly, search-closed, search-bound, search-room-lent}
@@ -34,13 +34,13 @@ outcomeOf (written size) = Unsatisfiable 0
 outcomeOf opened = Unsatisfiable 0
 outcomeOf accepted = Unsatisfiable 0
 
-outcome-back : (r : Outcome) → outcomeOf (replyOf r) ≡ r
+outcome-back : (r : Outcome) → outcomeOf (replyOfOutcome r) ≡ r
 outcome-back (Satisfiable x d k) = refl
 outcome-back (Unsatisfiable k) = refl
 outcome-back (Unknown b k) = refl
 outcome-back (Refused code place) = refl
 
-same-outcome : (r q : Outcome) → replyOf r ≡ replyOf q → r ≡ q
+same-outcome : (r q : Outcome) → replyOfOutcome r ≡ replyOfOutcome q → r ≡ q
 same-outcome r q e = sym (outcome-back r) ∙ ap outcomeOf e ∙ outcome-back q
 
 -- ---- the slices as the search leaves them
@@ -55,7 +55,7 @@ left-of part l k old new e h =
     let n : length (map part l) ≡ k = length-map l part ∙ sym e in
     record { front = ap (take k) h ∙ over-front k (map part l) old n; behind = ap (drop k) h ∙ over-rest k (map part l) old n }
 
-kept-slice : (part : Slot → ℕ) (f : Formula) (positive negative : List ℕ) (lent : ℕ) (old : List ℕ) → searchFault f positive negative lent ≡ sound
+kept-slice : (part : Slot → ℕ) (f : Formula) (positive negative : List ℕ) (lent : ℕ) (old : List ℕ) → searchFault f positive negative lent ≡ no-fault
     → searchSlice part f positive negative lent old ≡ over (map part (searchSlots f positive negative lent)) old
 unfolding searchSlice
 kept-slice part f positive negative lent old h = rw h
@@ -70,49 +70,49 @@ module _ (f : Formula) (positive negative points₀ falsified₀ depths₀ : Lis
   slotsOf = searchSlots f positive negative lent
 
   -- the reply of the definition is what the outcome says
-  replied : (q : Outcome) → r ≡ q → searchReply f positive negative lent ≡ replyOf q
-  replied q e = sym (call .reply) ∙ ap replyOf e
+  replied : (q : Outcome) → r ≡ q → searchReply f positive negative lent ≡ replyOfOutcome q
+  replied q e = sym (call .reply) ∙ ap replyOfOutcome e
 
   -- it is no refusal
   abbrev pub NotRefused : Type 0
   NotRefused = (code place : ℕ) → r ≡ Refused code place → ⊥
 
   module _ (ok : NotRefused) where
-    not-refusal : (code place : ℕ) → replyOf r ≡ refused code place → ⊥
+    not-refusal : (code place : ℕ) → replyOfOutcome r ≡ refused code place → ⊥
     not-refusal code place e = ok code place (same-outcome r (Refused code place) e)
 
-    clean : searchFault f positive negative lent ≡ sound
+    clean : searchFault f positive negative lent ≡ no-fault
     unfolding searchReply
     clean =
-        not-refused (searchFault f positive negative lent) (walked (problemOf f positive negative) lent .reply) (replyOf r)
+        not-refused (searchFault f positive negative lent) (walked (problemOf f positive negative) lent .reply) (replyOfOutcome r)
         (sym (call .reply)) not-refusal
 
     -- the number reported is that of the slots filled
-    pub outcome-reported : reported (replyOf r) ≡ length slotsOf
+    pub outcome-reported : reported (replyOfOutcome r) ≡ length slotsOf
     outcome-reported =
-        let a = answered f positive negative lent (replyOf r) (sym (call .reply)) not-refusal in
+        let a = answered f positive negative lent (replyOfOutcome r) (sym (call .reply)) not-refusal in
         slots-reported (problemOf f positive negative) lent (a .ready) (a .room) (a .walks)
 
-    left : (part : Slot → ℕ) (old new : List ℕ) → new ≡ searchSlice part f positive negative lent old → Left part slotsOf (reported (replyOf r)) old new
-    left part old new e = left-of part slotsOf (reported (replyOf r)) old new outcome-reported (e ∙ kept-slice part f positive negative lent old clean)
+    left : (part : Slot → ℕ) (old new : List ℕ) → new ≡ searchSlice part f positive negative lent old → Left part slotsOf (reported (replyOfOutcome r)) old new
+    left part old new e = left-of part slotsOf (reported (replyOfOutcome r)) old new outcome-reported (e ∙ kept-slice part f positive negative lent old clean)
 
     -- and each slice holds its part of them
-    pub points-left : Left (λ (s : Slot). s .point) slotsOf (reported (replyOf r)) (pointsOf points₀) (pointsOf points₁)
+    pub points-left : Left (λ (s : Slot). s .point) slotsOf (reported (replyOfOutcome r)) (pointsOf points₀) (pointsOf points₁)
     points-left = left (λ (s : Slot). s .point) (pointsOf points₀) (pointsOf points₁) (call .points)
 
-    pub falsified-left : Left (λ (s : Slot). s .falsified) slotsOf (reported (replyOf r)) falsified₀ falsified₁
+    pub falsified-left : Left (λ (s : Slot). s .falsified) slotsOf (reported (replyOfOutcome r)) falsified₀ falsified₁
     falsified-left = left (λ (s : Slot). s .falsified) falsified₀ falsified₁ (call .falsified)
 
-    pub depths-left : Left (λ (s : Slot). s .depth) slotsOf (reported (replyOf r)) depths₀ depths₁
+    pub depths-left : Left (λ (s : Slot). s .depth) slotsOf (reported (replyOfOutcome r)) depths₀ depths₁
     depths-left = left (λ (s : Slot). s .depth) depths₀ depths₁ (call .depths)
 
     -- D3.3: "Unless 'no room' is said, 'cannot be met' is said exactly when none of the 2^n choices meets the rules."
     pub outcome-exactly : ((b k : ℕ) → r ≡ Unknown b k → ⊥)
         → ((k : ℕ) → r ≡ Unsatisfiable k → NoneSatisfies (problemOf f positive negative)) × (NoneSatisfies (problemOf f positive negative) → r ≡ Unsatisfiable (length slotsOf))
     outcome-exactly known =
-        let w = search-exactly f positive negative lent (replyOf r) (sym (call .reply)) not-refusal
+        let w = search-exactly f positive negative lent (replyOfOutcome r) (sym (call .reply)) not-refusal
         (λ b k e. known b k (same-outcome r (Unknown b k) e)) in
-        (λ k e. w .0 k (ap replyOf e), λ none. same-outcome r (Unsatisfiable (length slotsOf)) (w .1 none))
+        (λ k e. w .0 k (ap replyOfOutcome e), λ none. same-outcome r (Unsatisfiable (length slotsOf)) (w .1 none))
 
   -- D3.1: "A choice handed back meets the rules, and every other choice that meets them differs from the client's wish in at least as many
   -- names." D3.2: "The reported changes are the number of names in which the one handed back differs."

@@ -17,11 +17,11 @@ use Rattle.formula.specs.Limits.{capacity}
 use Rattle.formula.specs.Problem.{problemOf}
 use Rattle.formula.specs.Laws.RefusalLaws.{formula-passes, formula-listed, permutation-passes, passes-few}
 use Rattle.formula.specs.Refusals.{formulaFault, permutationFault, symmetryFault, problemFault, faultOf}
-use Rattle.formula.specs.Reply.{Reply, Fault, sound, fault}
+use Rattle.formula.specs.Reply.{Reply, Fault, no-fault, fault}
 use Rattle.formula.specs.Laws.ReplyLaws.{first-last, first-after, first-before, unless-sound}
 use Rattle.search.specs.Laws.Accepted.{rows, ready-of-faults, lent-of-faults, lent-few}
 use Rattle.search.specs.Search.{slotFault, searchFault, lentBy, searchReply, searchSlots, searchSlice}
-use Rattle.search.specs.Contract.{replyOf, Searched}
+use Rattle.search.specs.Contract.{replyOfOutcome, Searched}
 use Rattle.search_expansion.specs.declared.Frame.{Frame}
 use Rattle.search.specs.declared.Outcome.{Outcome}
 use Rattle.search.specs.declared.Outcome.the-variants.{Refused}
@@ -51,21 +51,21 @@ module _ (f : Formula) (positive negative : List ℕ) where
   unfolding searchFault problemFault problemOf
   fault-refused lent code place h = first-before tests (slotFault lent ∷ []) code place h
 
-  fault-passed : (lent : ℕ) → problemFault f positive negative ≡ sound → searchFault f positive negative lent ≡ slotFault lent
+  fault-passed : (lent : ℕ) → problemFault f positive negative ≡ no-fault → searchFault f positive negative lent ≡ slotFault lent
   unfolding searchFault problemFault problemOf
   fault-passed lent h = first-after tests (slotFault lent ∷ []) h ∙ first-last (slotFault lent)
 
   -- the rows 10 to 12 passed, and a slot lent
-  fault-none : (lent : ℕ) → problemFault f positive negative ≡ sound → (lent ≡ 0 → ⊥) → searchFault f positive negative lent ≡ sound
+  fault-none : (lent : ℕ) → problemFault f positive negative ≡ no-fault → (lent ≡ 0 → ⊥) → searchFault f positive negative lent ≡ no-fault
   unfolding slotFault
   fault-none lent h ne = fault-passed lent h ∙ by lent ne
     where
-      by : (k : ℕ) → (k ≡ 0 → ⊥) → slotFault k ≡ sound
+      by : (k : ℕ) → (k ≡ 0 → ⊥) → slotFault k ≡ no-fault
       by zero ne = absurd (ne refl)
       by (suc k) ne = refl
 
   -- the problem of the frame is the formula's, once refusal 10 has passed
-  framed-is : (lent : ℕ) → formulaFault f positive negative ≡ sound → framed (frameOf f lent) (f .images) positive negative ≡ problemOf f positive negative
+  framed-is : (lent : ℕ) → formulaFault f positive negative ≡ no-fault → framed (frameOf f lent) (f .images) positive negative ≡ problemOf f positive negative
   unfolding problemOf
   framed-is lent h =
       ap (λ t. record {
@@ -77,11 +77,11 @@ module _ (f : Formula) (positive negative : List ℕ) where
       }) (formula-passes f positive negative h .0 .positive-length)
 
   -- where no row refuses, the reply and each slice are those of the walk
-  reply-of : (lent : ℕ) (r : Reply) → searchFault f positive negative lent ≡ sound → walked (problemOf f positive negative) lent .reply ≡ r → r ≡ searchReply f positive negative lent
+  reply-of : (lent : ℕ) (r : Reply) → searchFault f positive negative lent ≡ no-fault → walked (problemOf f positive negative) lent .reply ≡ r → r ≡ searchReply f positive negative lent
   unfolding searchReply
   reply-of lent r h e = sym (unless-sound (searchFault f positive negative lent) h (walked (problemOf f positive negative) lent .reply) ∙ e)
 
-  slice-of : (part : Slot → ℕ) (lent : ℕ) (l : List Slot) (old now : List ℕ) → searchFault f positive negative lent ≡ sound → walked (problemOf f positive negative) lent .slots ≡ l
+  slice-of : (part : Slot → ℕ) (lent : ℕ) (l : List Slot) (old now : List ℕ) → searchFault f positive negative lent ≡ no-fault → walked (problemOf f positive negative) lent .slots ≡ l
       → now ≡ over (map part l) old → now ≡ searchSlice part f positive negative lent old
   unfolding searchSlice searchSlots
   slice-of part lent l old now h e q = q ∙ ap (λ u. over (map part u) old) (sym e) ∙ rw h refl
@@ -102,7 +102,7 @@ module _ (f : Formula) (positive negative : List ℕ) where
       searched-faulty code place e = refused-by code place (fault-refused lent code place (sym tested ∙ ap faultOf e))
 
       module _ (passed : checked ≡ Passed) (k : ℕ) (room : k ≡ lentBy points falsified depths) where
-        none : problemFault f positive negative ≡ sound
+        none : problemFault f positive negative ≡ no-fault
         none = sym tested ∙ ap faultOf passed
 
         -- R13
@@ -111,7 +111,7 @@ module _ (f : Formula) (positive negative : List ℕ) where
         searched-none-lent z = refused-by 13 0 (fault-passed lent none ∙ ap slotFault (sym room ∙ z))
 
         module _ (ne : k ≡ 0 → ⊥) where
-          clean : searchFault f positive negative k ≡ sound
+          clean : searchFault f positive negative k ≡ no-fault
           clean = fault-none k none ne
 
           searchable-of : length (f .images) ≡ 1024 → Searchable (frameOf f k) (f .images) positive negative
@@ -137,11 +137,11 @@ module _ (f : Formula) (positive negative : List ℕ) where
           pub startable-of : length (f .images) ≡ 1024 → Searchable (frameOf f k) (f .images) positive negative × Lends k (memory points falsified depths)
           startable-of size = (searchable-of size, subst (λ j. Lends j (memory points falsified depths)) (sym room) (lent-room points falsified depths))
 
-          pub searched-of : (q : Reply) (r : Outcome) (m : Memory) → replyOf r ≡ q
+          pub searched-of : (q : Reply) (r : Outcome) (m : Memory) → replyOfOutcome r ≡ q
               → Ended (framed (frameOf f k) (f .images) positive negative) k (memory points falsified depths) [] (slot (f .target) 0 0 ∷ []) q m
               → Searched f positive negative points falsified depths r (m .points) (m .falsified) (m .depths)
           searched-of q r m same e =
-              let passed-here = subst (λ j. searchFault f positive negative j ≡ sound) room clean in
+              let passed-here = subst (λ j. searchFault f positive negative j ≡ no-fault) room clean in
               let in-problem = subst (λ pb. Walks pb k (start pb) q (e .slots)) (framed-is k (rows f positive negative k clean .0)) (e .walks) in
               let in-room = subst (λ j. Walks (problemOf f positive negative) j (start (problemOf f positive negative)) q (e .slots)) room in-problem in
               let w = walks-walked (problemOf f positive negative) lent (lent-of-faults f positive negative lent passed-here) in-room in

@@ -15,8 +15,8 @@ use Rattle.formula.specs.Laws.AlikeLaws.{same-problem}
 use Rattle.formula.specs.Problem.{Problem, problemOf, Unsatisfiable}
 use Rattle.formula.specs.Reply.{Reply, refused, satisfiable, unsatisfiable, unknown}
 use Rattle.search.specs.Laws.Accepted.{answered, lent-enough}
-use Rattle.search_theory.specs.Laws.Answers.{LowerBound, Nearest, HandedBack, ClosedSlots, reported}
-use Rattle.search.specs.Laws.Answered.{Answered}
+use Rattle.search_theory.specs.Laws.Promised.{LowerBound, Nearest, HandedBack, ClosedSlots, reported}
+use Rattle.search.specs.Laws.WalkAnswers.{WalkAnswers}
 use Rattle.formula.specs.Laws.Alike.{Alike}
 use Rattle.search_theory.specs.Laws.Bound.{unknown-bound}
 use Rattle.search.specs.Search.{lentBy, searchReply, searchSlots, searchSlice}
@@ -83,13 +83,13 @@ module _ (f : Formula) (positive negative : List ℕ) (lent : ℕ) where
   abbrev slots : List Slot
   slots = searchSlots f positive negative lent
 
-  satisfiable-answered : (x d k : ℕ) → searchReply f positive negative lent ≡ satisfiable x d k → Answered f positive negative lent (satisfiable x d k)
+  satisfiable-answered : (x d k : ℕ) → searchReply f positive negative lent ≡ satisfiable x d k → WalkAnswers f positive negative lent (satisfiable x d k)
   satisfiable-answered x d k e = answered f positive negative lent (satisfiable x d k) e (λ code place p. let z : _≡_ {A = ℕ} 0 1 = cc in omega arith)
 
-  unsatisfiable-answered : (k : ℕ) → searchReply f positive negative lent ≡ unsatisfiable k → Answered f positive negative lent (unsatisfiable k)
+  unsatisfiable-answered : (k : ℕ) → searchReply f positive negative lent ≡ unsatisfiable k → WalkAnswers f positive negative lent (unsatisfiable k)
   unsatisfiable-answered k e = answered f positive negative lent (unsatisfiable k) e (λ code place p. let z : _≡_ {A = ℕ} 0 1 = cc in omega arith)
 
-  unknown-answered : (b k : ℕ) → searchReply f positive negative lent ≡ unknown b k → Answered f positive negative lent (unknown b k)
+  unknown-answered : (b k : ℕ) → searchReply f positive negative lent ≡ unknown b k → WalkAnswers f positive negative lent (unknown b k)
   unknown-answered b k e = answered f positive negative lent (unknown b k) e (λ code place p. let z : _≡_ {A = ℕ} 0 1 = cc in omega arith)
 
   -- D3.1: "A choice handed back meets the rules, and every other choice that meets them differs from the client's wish in at least as many names."

@@ -14,12 +14,12 @@ use Rattle.search_expansion.proofs.expand.Statement.{statement}
 use Rattle.search_expansion.proofs.expand.Tie as tie
 
 abbrev Inv-loop : tie.InvT-loop
-Inv-loop g images moved points₀ falsified₀ depths₀ links₀ heads filled x d listed n left₀ v₀ held₀ points falsified depths links left v held =
-    Trying (permutationsIn (g .variables) (g .permutations) images) (g .room) x d (g .variables) listed filled heads (filled + g .variables) (memory points₀ falsified₀ depths₀) links₀ left v held
+Inv-loop g images moved points₀ falsified₀ depths₀ links₀ heads filled x d listed n left₀ v₀ filled₀ points falsified depths links left v filledNow =
+    Trying (permutationsIn (g .variables) (g .permutations) images) (g .room) x d (g .variables) listed filled heads (filled + g .variables) (memory points₀ falsified₀ depths₀) links₀ left v filledNow
     (memory points falsified depths) links
 
 abbrev μ-loop : tie.MeasureT-loop
-μ-loop g images moved points₀ falsified₀ depths₀ links₀ heads filled x d listed n left₀ v₀ held₀ points falsified depths links left v held = length (members (g .variables) left)
+μ-loop g images moved points₀ falsified₀ depths₀ links₀ heads filled x d listed n left₀ v₀ filled₀ points falsified depths links left v filledNow = length (members (g .variables) left)
 
 next-variable-requires : tie.Need-next-variable-requires Inv-loop μ-loop
 next-variable-requires c κs = search needs

@@ -13,8 +13,8 @@ use Rattle.search_theory.specs.Walk.{Slot, Expansion, full, Fills}
 
 -- what lets a flip of x be tried, of a point at depth d, with k slots filled: the links are an index of their points, with two links for each
 -- head, and each slice has room for `capacity` slots
-pub record Fillable (n count : ℕ) (images moved : List ℕ) (capacity x d k heads : ℕ) (links : List ℕ) (m : Memory) : Type 0 where
-  pub coverable : Coverable heads n k (m .points) links count images moved x
+pub record Fillable (n count : ℕ) (images moved : List ℕ) (capacity x d filled heads : ℕ) (links : List ℕ) (m : Memory) : Type 0 where
+  pub coverable : Coverable heads n filled (m .points) links count images moved x
   pub room : Lends capacity m
   pub most : capacity ≤ maxSlots
   pub shallow : d < maxSlots
@@ -25,9 +25,9 @@ abbrev pub Headed : ℕ → ℕ → ℕ → Type 0
 Headed b capacity heads = (j : ℕ) → j < b → j < capacity → j < heads
 
 -- the links are an index of the points of k slots, at most one more than k₀
-pub record Follows (heads n k₀ k : ℕ) (points links : List ℕ) : Type 0 where
-  pub indexed : Indexed heads n (take k points) links
-  pub one : k ≤ suc k₀
+pub record Follows (heads n filled₀ filled : ℕ) (points links : List ℕ) : Type 0 where
+  pub indexed : Indexed heads n (take filled points) links
+  pub one : filled ≤ suc filled₀
 
 module _ (es : List Permutation) (capacity x d : ℕ) where
   -- how the filling ends, with the flips vs still to come and the slots w waiting: as `Fills` says if there was room so far, else there
@@ -37,17 +37,17 @@ module _ (es : List Permutation) (capacity x d : ℕ) where
 
   -- the memory m holds the slots `known` and some that wait, k together, and whatever comes of the flips vs from there comes of the
   -- flips vs₀ from the waiting slots w₀
-  pub record Reaches (old : Memory) (known w₀ : List Slot) (vs₀ : List ℕ) (roomy : Bool) (vs : List ℕ) (k : ℕ) (m : Memory) : Type 0 where
+  pub record Reaches (old : Memory) (known w₀ : List Slot) (vs₀ : List ℕ) (enough : Bool) (vs : List ℕ) (filled : ℕ) (m : Memory) : Type 0 where
     pub waiting : List Slot
     pub holds : Holds old (known ++ waiting) m
-    pub number : length (known ++ waiting) ≡ k
-    pub onward : (r : Expansion) → Onward known roomy vs waiting r → Fills es capacity known x d vs₀ w₀ r
+    pub number : length (known ++ waiting) ≡ filled
+    pub onward : (r : Expansion) → Onward known enough vs waiting r → Fills es capacity known x d vs₀ w₀ r
 
   -- from k₀ slots in the memory m₀, whichever they are and whatever is behind them, and the flips vs₀ to come
   abbrev pub Advances : List ℕ → ℕ → Memory → Bool → List ℕ → ℕ → Memory → Type 0
-  Advances vs₀ k₀ m₀ roomy vs k m =
-      (old : Memory) (known w₀ : List Slot) → Holds old (known ++ w₀) m₀ → length (known ++ w₀) ≡ k₀ → Reaches old known w₀ vs₀ roomy vs k m
+  Advances vs₀ filled₀ m₀ enough vs filled m =
+      (old : Memory) (known w₀ : List Slot) → Holds old (known ++ w₀) m₀ → length (known ++ w₀) ≡ filled₀ → Reaches old known w₀ vs₀ enough vs filled m
 
   -- the flip of one variable is tried, whichever are to come
   abbrev pub Tries : ℕ → ℕ → Memory → Bool → ℕ → Memory → Type 0
-  Tries v k₀ m₀ roomy k m = (vs : List ℕ) → Advances (v ∷ vs) k₀ m₀ roomy vs k m
+  Tries v filled₀ m₀ enough filled m = (vs : List ℕ) → Advances (v ∷ vs) filled₀ m₀ enough vs filled m

@@ -13,11 +13,11 @@ use Rattle.search_expansion.specs.Laws.Memory.{Memory, SameLengths}
 
 -- the loop over the variables of the set `listed`: those of `left` are still to be tried, v the lowest of them, and the links are an index of
 -- the points of the slots filled, which with those left are at most b
-pub record Trying (es : List Permutation) (capacity x d n listed k₀ heads b : ℕ) (m₀ : Memory) (links₀ : List ℕ) (left v k : ℕ) (m : Memory) (links : List ℕ) : Type 0 where
+pub record Trying (es : List Permutation) (capacity x d n listed filled₀ heads b : ℕ) (m₀ : Memory) (links₀ : List ℕ) (left v filled : ℕ) (m : Memory) (links : List ℕ) : Type 0 where
   pub within : left < 2 ^ n
   pub next : NextVariable left v
   pub lengths : SameLengths m₀ m
   pub linked : length links ≡ length links₀
-  pub advances : Advances es capacity x d (members n listed) k₀ m₀ true (members n left) k m
-  pub indexed : Indexed heads n (take k (m .points)) links
-  pub bounded : k + length (members n left) ≤ b
+  pub advances : Advances es capacity x d (members n listed) filled₀ m₀ true (members n left) filled m
+  pub indexed : Indexed heads n (take filled (m .points)) links
+  pub bounded : filled + length (members n left) ≤ b

@@ -20,23 +20,23 @@ use Rattle.search_expansion.specs.Laws.FillingLaws.{lengths-refl, length
 use Rattle.search_expansion.specs.Laws.Memory.{Memory, SameLengths}
 use Rattle.search_expansion.specs.Laws.Trying.{Trying}
 
-module _ (es : List Permutation) (capacity x d n listed k₀ heads : ℕ) (m₀ : Memory) (links₀ : List ℕ) (few : n ≤ maxVariables) where
+module _ (es : List Permutation) (capacity x d n listed filled₀ heads : ℕ) (m₀ : Memory) (links₀ : List ℕ) (few : n ≤ maxVariables) where
   -- k slots are filled, with these links, and the variables of `left` are to be tried, v first
   abbrev Now : ℕ → ℕ → ℕ → Memory → List ℕ → Type 0
-  Now left v k m links = Trying es capacity x d n listed k₀ heads (k₀ + n) m₀ links₀ left v k m links
+  Now left v filled m links = Trying es capacity x d n listed filled₀ heads (filled₀ + n) m₀ links₀ left v filled m links
 
-  pub trying-begins : (v : ℕ) → listed < 2 ^ n → NextVariable listed v → Indexed heads n (take k₀ (m₀ .points)) links₀ → Now listed v k₀ m₀ links₀
+  pub trying-begins : (v : ℕ) → listed < 2 ^ n → NextVariable listed v → Indexed heads n (take filled₀ (m₀ .points)) links₀ → Now listed v filled₀ m₀ links₀
   trying-begins v lt next t =
       let less = members-few n listed in
-      record { within = lt; next = next; lengths = lengths-refl m₀; linked = refl; advances = advances-begins es capacity x d (members n listed) k₀ m₀; indexed = t; bounded = omega arith }
+      record { within = lt; next = next; lengths = lengths-refl m₀; linked = refl; advances = advances-begins es capacity x d (members n listed) filled₀ m₀; indexed = t; bounded = omega arith }
 
-  module _ {left v k : ℕ} {m : Memory} {links : List ℕ} (t : Now left v k m links) where
+  module _ {left v filled : ℕ} {m : Memory} {links : List ℕ} (t : Now left v filled m links) where
     -- the variables left: v first
     first : v < n → members n left ≡ v ∷ members n (flip left v)
     first lt = members-next n left v (next-lowest n left v few (t .next) lt) lt
 
-    forward : v < n → Advances es capacity x d (members n listed) k₀ m₀ true (v ∷ members n (flip left v)) k m
-    forward lt = subst (λ vs. Advances es capacity x d (members n listed) k₀ m₀ true vs k m) (first lt) (t .advances)
+    forward : v < n → Advances es capacity x d (members n listed) filled₀ m₀ true (v ∷ members n (flip left v)) filled m
+    forward lt = subst (λ vs. Advances es capacity x d (members n listed) filled₀ m₀ true vs filled m) (first lt) (t .advances)
 
     fewer : (left′ : ℕ) → v < n → left′ ≡ flip left v → suc (length (members n left′)) ≡ length (members n left)
     fewer left′ lt q = ap (λ s. suc (length (members n s))) q ∙ sym (ap length (first lt))
@@ -45,7 +45,7 @@ module _ (es : List Permutation) (capacity x d n listed k₀ heads : ℕ) (m₀ 
     trying-less left′ lt q = le-of-eq (fewer left′ lt q)
 
     -- what lets the next flip be tried
-    pub trying-fillable : {count : ℕ} {images moved : List ℕ} → Fillable n count images moved capacity x d k₀ heads links₀ m₀ → Fillable n count images moved capacity x d k heads links m
+    pub trying-fillable : {count : ℕ} {images moved : List ℕ} → Fillable n count images moved capacity x d filled₀ heads links₀ m₀ → Fillable n count images moved capacity x d filled heads links m
     trying-fillable f =
         let c = f .coverable in
         record {
@@ -57,15 +57,15 @@ module _ (es : List Permutation) (capacity x d n listed k₀ heads : ℕ) (m₀ 
         }
 
     -- the next slot has a head, if there is one
-    pub trying-headed : v < n → Headed (k₀ + n) capacity heads → Headed (k + 1) capacity heads
+    pub trying-headed : v < n → Headed (filled₀ + n) capacity heads → Headed (filled + 1) capacity heads
     trying-headed lt headed j below =
         let less = fewer (flip left v) lt refl in
         let bounded = t .bounded in
         headed j (omega arith)
 
-    pub trying-goes-on : {roomy : Bool} {k′ v′ : ℕ} {m′ : Memory} {links′ : List ℕ} → v < n → Tries es capacity x d v k m roomy k′ m′ → Follows heads n k k′ (m′ .points) links′ → roomy ≡ true
-        → SameLengths m m′ → length links′ ≡ length links → (left′ : ℕ) → left′ ≡ flip left v → NextVariable left′ v′ → Now left′ v′ k′ m′ links′
-    trying-goes-on {k′ = k′} {v′ = v′} {m′ = m′} {links′ = links′} lt tried follows e same linked left′ q next =
+    pub trying-goes-on : {enough : Bool} {filled′ v′ : ℕ} {m′ : Memory} {links′ : List ℕ} → v < n → Tries es capacity x d v filled m enough filled′ m′ → Follows heads n filled filled′ (m′ .points) links′ → enough ≡ true
+        → SameLengths m m′ → length links′ ≡ length links → (left′ : ℕ) → left′ ≡ flip left v → NextVariable left′ v′ → Now left′ v′ filled′ m′ links′
+    trying-goes-on {filled′ = filled′} {v′ = v′} {m′ = m′} {links′ = links′} lt tried follows e same linked left′ q next =
         let less = fewer left′ lt q in
         let bounded = t .bounded in
         let one = follows .one in
@@ -74,18 +74,18 @@ module _ (es : List Permutation) (capacity x d n listed k₀ heads : ℕ) (m₀ 
           next = next;
           lengths = lengths-trans (t .lengths) same;
           linked = linked ∙ t .linked;
-          advances = subst (λ (s : ℕ). Advances es capacity x d (members n listed) k₀ m₀ true (members n s) k′ m′) (sym q)
-              (advances-on es capacity x d (forward lt) (subst (λ b. Tries es capacity x d v k m b k′ m′) e tried (members n (flip left v))));
+          advances = subst (λ (s : ℕ). Advances es capacity x d (members n listed) filled₀ m₀ true (members n s) filled′ m′) (sym q)
+              (advances-on es capacity x d (forward lt) (subst (λ b. Tries es capacity x d v filled m b filled′ m′) e tried (members n (flip left v))));
           indexed = follows .indexed;
           bounded = omega arith;
         }
 
-    pub trying-stops : {roomy : Bool} {k′ : ℕ} {m′ : Memory} → v < n → Tries es capacity x d v k m roomy k′ m′ → roomy ≡ false
-        → Advances es capacity x d (members n listed) k₀ m₀ false [] k′ m′
-    trying-stops {k′ = k′} {m′ = m′} lt tried e =
+    pub trying-stops : {enough : Bool} {filled′ : ℕ} {m′ : Memory} → v < n → Tries es capacity x d v filled m enough filled′ m′ → enough ≡ false
+        → Advances es capacity x d (members n listed) filled₀ m₀ false [] filled′ m′
+    trying-stops {filled′ = filled′} {m′ = m′} lt tried e =
         advances-stuck es capacity x d []
-        (advances-on es capacity x d (forward lt) (subst (λ b. Tries es capacity x d v k m b k′ m′) e tried (members n (flip left v))))
+        (advances-on es capacity x d (forward lt) (subst (λ b. Tries es capacity x d v filled m b filled′ m′) e tried (members n (flip left v))))
 
-    pub trying-ends : n ≤ v → Advances es capacity x d (members n listed) k₀ m₀ true [] k m
+    pub trying-ends : n ≤ v → Advances es capacity x d (members n listed) filled₀ m₀ true [] filled m
     trying-ends ge =
-        subst (λ vs. Advances es capacity x d (members n listed) k₀ m₀ true vs k m) (next-none n left v few (t .next) (t .within) ge) (t .advances)
+        subst (λ vs. Advances es capacity x d (members n listed) filled₀ m₀ true vs filled m) (next-none n left v few (t .next) (t .within) ge) (t .advances)

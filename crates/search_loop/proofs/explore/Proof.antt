@@ -17,12 +17,12 @@ use Rattle.search_loop.proofs.explore.Statement.{statement}
 use Rattle.search_loop.proofs.explore.Tie as tie
 
 abbrev Inv-loop : tie.InvT-loop
-Inv-loop g images positive negative points₀ falsified₀ depths₀ links₀ heads from held moved₀ seen₀ at₀ filled₀ points falsified depths links moved seen at filled =
-    Exploring (framed g images positive negative) (g .room) (g .variables) heads from held (memory points₀ falsified₀ depths₀) links₀ at filled (memory points falsified depths) links
+Inv-loop g images positive negative points₀ falsified₀ depths₀ links₀ heads from given moved₀ seen₀ at₀ filled₀ points falsified depths links moved seen at filled =
+    Exploring (framed g images positive negative) (g .room) (g .variables) heads from given (memory points₀ falsified₀ depths₀) links₀ at filled (memory points falsified depths) links
     × (length moved ≡ 16) × Imaged (g .variables) (g .permutations) images seen moved
 
 abbrev μ-loop : tie.MeasureT-loop
-μ-loop g images positive negative points₀ falsified₀ depths₀ links₀ heads from held moved₀ seen₀ at₀ filled₀ points falsified depths links moved seen at filled = g .room - at
+μ-loop g images positive negative points₀ falsified₀ depths₀ links₀ heads from given moved₀ seen₀ at₀ filled₀ points falsified depths links moved seen at filled = g .room - at
 
 loop-holds : tie.Need-loop-holds Inv-loop μ-loop
 loop-holds c =
@@ -113,8 +113,8 @@ loop-again c =
       c .before .before .before .before .before .before .before .before .before .before .before .before .before .before .before .before .before .before .move-images .ensures,
     )
 
-cast-slots : tie.Need-cast-slots Inv-loop μ-loop
-cast-slots c = omega (arith, few (c .before), c .before .before .before .before .before .before .before .before .before .pre .0 .most)
+cast-filled : tie.Need-cast-filled Inv-loop μ-loop
+cast-filled c = omega (arith, few (c .before), c .before .before .before .before .before .before .before .before .before .pre .0 .most)
 
 same-length-9 : tie.Need-same-length-9 Inv-loop μ-loop
 same-length-9 c = c .before .loop .inv .0 .lengths .points-length
@@ -159,7 +159,7 @@ explore-spec =
     (λ c. search needs)
     loop-less
     loop-again
-    cast-slots
+    cast-filled
     same-length-9
     same-length-10
     same-length-11

@@ -12,57 +12,57 @@ use borrow.Author.Tests.{ltb-true, lt-ltb}
 use Rattle.math.specs.Laws.ListLaws.{and-split, and-join}
 use Rattle.formula.specs.Problem.{Problem}
 use Rattle.formula.specs.Reply.{Reply, unsatisfiable}
-use Rattle.search_step.specs.declared.Answer.{Answer}
+use Rattle.search_step.specs.declared.Conclusion.{Conclusion}
 use Rattle.search_step.specs.declared.Step.{Step}
 use Rattle.search_step.specs.declared.Step.the-variants.{Ends, Goes}
 use Rattle.search_expansion.specs.Laws.Filling.{Headed}
 use Rattle.search_expansion.specs.Laws.FillingLaws.{lengths-refl, lengths-trans}
 use Rattle.search_expansion.specs.Laws.Memory.{Memory, Holds, SameLengths}
-use Rattle.search_step.specs.Laws.Stepping.{answerOf, Linked, StillLinked, Midway, After, Steps}
-use Rattle.search_loop.specs.Laws.Exploring.{Walking, Exploring, Answers}
+use Rattle.search_step.specs.Laws.Stepping.{replyOfConclusion, Linked, StillLinked, Midway, After, Steps}
+use Rattle.search_loop.specs.Laws.Exploring.{Walking, Exploring, Concludes}
 use Rattle.search_theory.specs.Walk.{state, Walks, none-left}
 
 -- no more slots are filled than there are
-pub midway-room : {pb : Problem} {capacity i k : ℕ} {m : Memory} → Midway pb capacity i k m → k ≤ capacity
-midway-room at = le-trans (le-of-eq (sym (at .stands .filled))) (at .stands .invariants .filled .room)
+pub midway-room : {pb : Problem} {capacity i filled : ℕ} {m : Memory} → Midway pb capacity i filled m → filled ≤ capacity
+midway-room at = le-trans (le-of-eq (sym (at .stands .number))) (at .stands .invariants .filled .room)
 
 module _ (pb : Problem) (capacity : ℕ) where
-  pub walking-begins : (i k : ℕ) (m : Memory) → Walking pb capacity i k m i k m
-  walking-begins i k m old p w st = record { front = p; back = w; stands = st; onward = λ r l t. t }
+  pub walking-begins : (i filled : ℕ) (m : Memory) → Walking pb capacity i filled m i filled m
+  walking-begins i filled m old p w st = record { front = p; back = w; stands = st; onward = λ r l t. t }
 
-  module _ {i₀ k₀ : ℕ} {m₀ : Memory} {i k : ℕ} {m : Memory} (a : Walking pb capacity i₀ k₀ m₀ i k m) where
+  module _ {i₀ filled₀ : ℕ} {m₀ : Memory} {i filled : ℕ} {m : Memory} (a : Walking pb capacity i₀ filled₀ m₀ i filled m) where
     -- there are slots at which the search stands
-    pub walking-midway : Midway pb capacity i₀ k₀ m₀ → Midway pb capacity i k m
+    pub walking-midway : Midway pb capacity i₀ filled₀ m₀ → Midway pb capacity i filled m
     walking-midway h = let b = a (h .old) (h .front) (h .back) (h .stands) in record { old = h .old; front = b .front; back = b .back; stands = b .stands }
 
     -- steps follow one another
-    pub walking-on : {i′ k′ : ℕ} {m′ : Memory} → Walking pb capacity i k m i′ k′ m′ → Walking pb capacity i₀ k₀ m₀ i′ k′ m′
+    pub walking-on : {i′ filled′ : ℕ} {m′ : Memory} → Walking pb capacity i filled m i′ filled′ m′ → Walking pb capacity i₀ filled₀ m₀ i′ filled′ m′
     walking-on next old p w st =
         let b = a old p w st in
         let c = next old (b .front) (b .back) (b .stands) in
         record { front = c .front; back = c .back; stands = c .stands; onward = λ r l t. b .onward r l (c .onward r l t) }
 
     -- and an answer follows them
-    pub walking-answers : {r : Reply} {m′ : Memory} → Answers pb capacity i k m r m′ → Answers pb capacity i₀ k₀ m₀ r m′
+    pub walking-answers : {r : Reply} {m′ : Memory} → Concludes pb capacity i filled m r m′ → Concludes pb capacity i₀ filled₀ m₀ r m′
     walking-answers {r} next old p w st =
         let b = a old p w st in
         let c = next old (b .front) (b .back) (b .stands) in
         record { slots = c .slots; holds = c .holds; walks = b .onward r (c .slots) (c .walks) }
 
-    module _ {step : Step} {m′ : Memory} (s : Steps pb capacity i k m step m′) where
-      pub walking-goes-on : (k′ : ℕ) → step ≡ Goes k′ → Walking pb capacity i₀ k₀ m₀ (i + 1) k′ m′
-      walking-goes-on k′ e = walking-on (λ old p w st. subst (λ x. After pb capacity old p w i x m′) e (s old p w st))
+    module _ {step : Step} {m′ : Memory} (s : Steps pb capacity i filled m step m′) where
+      pub walking-goes-on : (filled′ : ℕ) → step ≡ Goes filled′ → Walking pb capacity i₀ filled₀ m₀ (i + 1) filled′ m′
+      walking-goes-on filled′ e = walking-on (λ old p w st. subst (λ x. After pb capacity old p w i x m′) e (s old p w st))
 
-      pub walking-stops : (o : Answer) → step ≡ Ends o → Answers pb capacity i₀ k₀ m₀ (answerOf o) m′
+      pub walking-stops : (o : Conclusion) → step ≡ Ends o → Concludes pb capacity i₀ filled₀ m₀ (replyOfConclusion o) m′
       walking-stops o e = walking-answers (λ old p w st. subst (λ x. After pb capacity old p w i x m′) e (s old p w st))
 
     -- W9: "None left: answer cannot be met, with slots filled."
-    pub walking-ends : k ≤ i → Answers pb capacity i₀ k₀ m₀ (unsatisfiable k) m
+    pub walking-ends : filled ≤ i → Concludes pb capacity i₀ filled₀ m₀ (unsatisfiable filled) m
     walking-ends le = walking-answers by
       where
-        by : Answers pb capacity i k m (unsatisfiable k) m
+        by : Concludes pb capacity i filled m (unsatisfiable filled) m
         by old p [] st =
-            let e : length p ≡ k = ap length (sym (append-nil p)) ∙ st .filled in
+            let e : length p ≡ filled = ap length (sym (append-nil p)) ∙ st .number in
             record {
               slots = p;
               holds = subst (λ l. Holds old l m) (append-nil p) (st .holds);
@@ -70,37 +70,37 @@ module _ (pb : Problem) (capacity : ℕ) where
             }
         by old p (s ∷ w) st =
             let e : length (p ++ s ∷ w) ≡ length p + length (s ∷ w) = length-append p (s ∷ w) in
-            let z : ⊥ = omega (arith, st .processed, st .filled) in
+            let z : ⊥ = omega (arith, st .processed, st .number) in
             absurd z
 
     -- the search pauses nowhere but where more slots can be lent than have heads
     pub walking-pauses : (heads most : ℕ) (outgrown : Bool) → outgrown ≡ ltb heads capacity && ltb heads most → outgrown ≡ true
-        → Walking pb capacity i₀ k₀ m₀ i k m × (heads < capacity)
+        → Walking pb capacity i₀ filled₀ m₀ i filled m × (heads < capacity)
     walking-pauses heads most b test e = (a, ltb-true heads capacity (and-split (ltb heads capacity) (ltb heads most) (sym test ∙ e) .0))
 
   -- ---- the loop with its index
 
-  module _ (n heads i₀ k₀ : ℕ) (m₀ : Memory) (links₀ : List ℕ) (at : Midway pb capacity i₀ k₀ m₀) (l : Linked n heads k₀ (m₀ .points) links₀) where
-    pub exploring-begins : Exploring pb capacity n heads i₀ k₀ m₀ links₀ i₀ k₀ m₀ links₀
-    exploring-begins = record { lengths = lengths-refl m₀; same-links = refl; walking = walking-begins i₀ k₀ m₀; indexed = l .indexed }
+  module _ (n heads i₀ filled₀ : ℕ) (m₀ : Memory) (links₀ : List ℕ) (at : Midway pb capacity i₀ filled₀ m₀) (l : Linked n heads filled₀ (m₀ .points) links₀) where
+    pub exploring-begins : Exploring pb capacity n heads i₀ filled₀ m₀ links₀ i₀ filled₀ m₀ links₀
+    exploring-begins = record { lengths = lengths-refl m₀; same-links = refl; walking = walking-begins i₀ filled₀ m₀; indexed = l .indexed }
 
-    module _ {i k : ℕ} {m : Memory} {links : List ℕ} (e : Exploring pb capacity n heads i₀ k₀ m₀ links₀ i k m links) where
-      pub exploring-linked : Linked n heads k (m .points) links
+    module _ {i filled : ℕ} {m : Memory} {links : List ℕ} (e : Exploring pb capacity n heads i₀ filled₀ m₀ links₀ i filled m links) where
+      pub exploring-linked : Linked n heads filled (m .points) links
       exploring-linked = record { indexed = e .indexed; linked = le-trans (l .linked) (le-of-eq (sym (e .same-links))) }
 
-      pub exploring-midway : Midway pb capacity i k m
+      pub exploring-midway : Midway pb capacity i filled m
       exploring-midway = walking-midway (e .walking) at
 
-      pub exploring-room : k ≤ capacity
+      pub exploring-room : filled ≤ capacity
       exploring-room = midway-room exploring-midway
 
-      pub exploring-goes-on : {step : Step} {m′ : Memory} {links′ : List ℕ} → Steps pb capacity i k m step m′ → StillLinked n heads step (m′ .points) links′ → (k′ : ℕ) → step ≡ Goes k′
-          → SameLengths m m′ → length links′ ≡ length links → Exploring pb capacity n heads i₀ k₀ m₀ links₀ (i + 1) k′ m′ links′
-      exploring-goes-on {m′ = m′} {links′ = links′} s still k′ q same linked =
+      pub exploring-goes-on : {step : Step} {m′ : Memory} {links′ : List ℕ} → Steps pb capacity i filled m step m′ → StillLinked n heads step (m′ .points) links′ → (filled′ : ℕ) → step ≡ Goes filled′
+          → SameLengths m m′ → length links′ ≡ length links → Exploring pb capacity n heads i₀ filled₀ m₀ links₀ (i + 1) filled′ m′ links′
+      exploring-goes-on {m′ = m′} {links′ = links′} s still filled′ q same linked =
           record {
             lengths = lengths-trans (e .lengths) same;
             same-links = linked ∙ e .same-links;
-            walking = walking-goes-on (e .walking) s k′ q;
+            walking = walking-goes-on (e .walking) s filled′ q;
             indexed = subst (λ (x : Step). StillLinked n heads x (m′ .points) links′) q still;
           }
 

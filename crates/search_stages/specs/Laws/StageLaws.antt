@@ -19,10 +19,10 @@ use Rattle.search_expansion.specs.declared.Frame.{Frame}
 use Rattle.search_expansion.specs.Laws.FillingLaws.{held-points}
 use Rattle.search_expansion.specs.Laws.Memory.{Memory, Holds, Lends}
 use Rattle.search_loop.specs.declared.Stage.{Stage}
-use Rattle.search_loop.specs.declared.Stage.the-variants.{Answered, Paused}
-use Rattle.search_step.specs.declared.Answer.{Answer}
-use Rattle.search_step.specs.Laws.Stepping.{answerOf, framed, Searchable, Linked, Stands, Midway, Ended}
-use Rattle.search_loop.specs.Laws.Exploring.{Walking, Explores, Answers}
+use Rattle.search_loop.specs.declared.Stage.the-variants.{Concluded, Paused}
+use Rattle.search_step.specs.declared.Conclusion.{Conclusion}
+use Rattle.search_step.specs.Laws.Stepping.{replyOfConclusion, framed, Searchable, Linked, Stands, Midway, Ended}
+use Rattle.search_loop.specs.Laws.Exploring.{Walking, Explores, Concludes}
 use Rattle.search_loop.specs.Laws.WalkingLaws.{walking-begins, walking-midway, walking-answers, midway-room}
 
 module _ (g : Frame) (images positive negative : List ℕ) (ok : Searchable g images positive negative) where
@@ -31,23 +31,23 @@ module _ (g : Frame) (images positive negative : List ℕ) (ok : Searchable g im
 
   -- ---- the index of the filled points
 
-  module _ {heads i k : ℕ} {m : Memory} {links : List ℕ} (at : Midway pb (g .room) i k m) (room : Lends (g .room) m) (blank : Links heads links) (few : k ≤ heads) where
-    enough : k ≤ length (m .points)
+  module _ {heads i filled : ℕ} {m : Memory} {links : List ℕ} (at : Midway pb (g .room) i filled m) (room : Lends (g .room) m) (blank : Links heads links) (few : filled ≤ heads) where
+    enough : filled ≤ length (m .points)
     enough = le-trans (midway-room at) (room .points-room)
 
-    pub stage-indexable : Indexable heads (g .variables) k (m .points) links
+    pub stage-indexable : Indexable heads (g .variables) filled (m .points) links
     stage-indexable =
         links-indexable blank (record { few = ok .few; enough = enough; most = few })
 
-    held : take k (m .points) ≡ pointsIn (at .front ++ at .back)
-    held = held-points k (at .stands .holds) (at .stands .filled)
+    held : take filled (m .points) ≡ pointsIn (at .front ++ at .back)
+    held = held-points filled (at .stands .holds) (at .stands .number)
 
-    narrow : (x : ℕ) → x ∈ take k (m .points) → x < 2 ^ g .variables
+    narrow : (x : ℕ) → x ∈ take filled (m .points) → x < 2 ^ g .variables
     narrow x here =
         let w = map-out (λ (s : Slot). s .point) (at .front ++ at .back) (subst (λ (l : List ℕ). x ∈ l) held here) in
         subst (λ (y : ℕ). y < 2 ^ g .variables) (sym (w .2)) (at .stands .invariants .filled .below (w .0) (w .1))
 
-    pub stage-linked : {first : ℕ} {links′ : List ℕ} → Sifts heads (g .variables) k (m .points) first links′ → length links′ ≡ length links → Linked (g .variables) heads k (m .points) links′
+    pub stage-linked : {first : ℕ} {links′ : List ℕ} → Sifts heads (g .variables) filled (m .points) first links′ → length links′ ≡ length links → Linked (g .variables) heads filled (m .points) links′
     stage-linked s same =
         record {
           indexed = sifts-full enough narrow (subst Distinct (sym held) (at .stands .invariants .filled .distinct)) s;
@@ -56,23 +56,23 @@ module _ (g : Frame) (images positive negative : List ℕ) (ok : Searchable g im
 
   -- ---- stages behind one another
 
-  module _ (heads i k : ℕ) (m : Memory) where
+  module _ (heads i filled : ℕ) (m : Memory) where
     -- too few links: the stage pauses where it is
-    pub stage-outgrown : Midway pb (g .room) i k m → heads < k → Explores pb (g .room) heads i k m (Paused i k) m
-    stage-outgrown at lt = (walking-begins pb (g .room) i k m, le-trans lt (midway-room at))
+    pub stage-outgrown : Midway pb (g .room) i filled m → heads < filled → Explores pb (g .room) heads i filled m (Paused i filled) m
+    stage-outgrown at lt = (walking-begins pb (g .room) i filled m, le-trans lt (midway-room at))
 
-    module _ (stage : Stage) (m′ : Memory) (e : Explores pb (g .room) heads i k m stage m′) where
-      pub stage-answered : (a : Answer) → stage ≡ Answered a → Answers pb (g .room) i k m (answerOf a) m′
-      stage-answered a q = subst (λ (s : Stage). Explores pb (g .room) heads i k m s m′) q e
+    module _ (stage : Stage) (m′ : Memory) (e : Explores pb (g .room) heads i filled m stage m′) where
+      pub stage-answered : (a : Conclusion) → stage ≡ Concluded a → Concludes pb (g .room) i filled m (replyOfConclusion a) m′
+      stage-answered a q = subst (λ (s : Stage). Explores pb (g .room) heads i filled m s m′) q e
 
-      module _ (i′ k′ : ℕ) (q : stage ≡ Paused i′ k′) where
-        paused : Walking pb (g .room) i k m i′ k′ m′ × (heads < g .room)
-        paused = subst (λ (s : Stage). Explores pb (g .room) heads i k m s m′) q e
+      module _ (i′ filled′ : ℕ) (q : stage ≡ Paused i′ filled′) where
+        paused : Walking pb (g .room) i filled m i′ filled′ m′ × (heads < g .room)
+        paused = subst (λ (s : Stage). Explores pb (g .room) heads i filled m s m′) q e
 
-        pub stage-midway : Midway pb (g .room) i k m → Midway pb (g .room) i′ k′ m′
+        pub stage-midway : Midway pb (g .room) i filled m → Midway pb (g .room) i′ filled′ m′
         stage-midway at = walking-midway pb (g .room) (paused .0) at
 
-        pub stage-followed : {r : Reply} {m″ : Memory} → Answers pb (g .room) i′ k′ m′ r m″ → Answers pb (g .room) i k m r m″
+        pub stage-followed : {r : Reply} {m″ : Memory} → Concludes pb (g .room) i′ filled′ m′ r m″ → Concludes pb (g .room) i filled m r m″
         stage-followed next = walking-answers pb (g .room) (paused .0) next
 
         -- with a head for each slot that can be lent there is no pause
@@ -83,10 +83,10 @@ module _ (g : Frame) (images positive negative : List ℕ) (ok : Searchable g im
 
   module _ {old m : Memory} (h : Holds old (slot (g .target) 0 0 ∷ []) m) where
     begun : Stands pb (g .room) old [] (slot (g .target) 0 0 ∷ []) 0 1 m
-    begun = record { holds = h; processed = refl; filled = refl; invariants = invariants-start pb (g .room) (ok .ready) (ok .some) }
+    begun = record { holds = h; processed = refl; number = refl; invariants = invariants-start pb (g .room) (ok .ready) (ok .some) }
 
     pub begun-midway : Midway pb (g .room) 0 1 m
     begun-midway = record { old = old; front = []; back = slot (g .target) 0 0 ∷ []; stands = begun }
 
-    pub begun-ends : {r : Reply} {m′ : Memory} → Answers pb (g .room) 0 1 m r m′ → Ended pb (g .room) old [] (slot (g .target) 0 0 ∷ []) r m′
+    pub begun-ends : {r : Reply} {m′ : Memory} → Concludes pb (g .room) 0 1 m r m′ → Ended pb (g .room) old [] (slot (g .target) 0 0 ∷ []) r m′
     begun-ends a = a old [] (slot (g .target) 0 0 ∷ []) begun

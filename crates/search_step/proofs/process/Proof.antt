@@ -63,8 +63,8 @@ returns-2 c =
     let flips = c .before .before .before .before .before .before .before .before .before .expand .ensures in
     (read-goes _ _ _ _ (c .before .before .before .before .before .before .before .before .before .before .before .before .before .before .before .before .before .before .before .before .before .before .before .before .before .before .before .before .before .pre .0) (c .before .before .before .before .before .before .before .before .before .before .before .before .before .before .before .before .before .before .before .before .before .before .before .before .before .before .before .before .before .pre .2) (read (c .before .before .before .before .before .before .before .before .before .before .before .before .before .before)) (flips .0) (c .if2 .taken), flips .1)
 
-cast-total : tie.Need-cast-total
-cast-total c =
+cast-filled-2 : tie.Need-cast-filled-2
+cast-filled-2 c =
     omega (arith, read-room _ _ _ _ (c .before .before .before .before .before .before .before .before .before .before .before .before .before .before .before .before .before .before .before .before .before .before .before .before .before .before .before .before .before .pre .0) (c .before .before .before .before .before .before .before .before .before .before .before .before .before .before .before .before .before .before .before .before .before .before .before .before .before .before .before .before .before .pre .2) (read (c .before .before .before .before .before .before .before .before .before .before .before .before .before .before)) (c .before .before .before .before .before .before .before .before .before .expand .ensures .0) (c .before .before .before .before .before .before .before .before .before .before .before .before .before .before .before .before .before .before .before .before .before .before .before .before .before .before .before .before .before .pre .3), c .before .before .before .before .before .before .before .before .before .before .before .before .before .before .before .before .before .before .before .before .before .before .before .before .before .before .before .before .before .pre .0 .most)
 
 same-length-7 : tie.Need-same-length-7
@@ -97,7 +97,7 @@ process-spec =
     (λ c. search needs)
     (λ c. search needs)
     returns-2
-    cast-total
+    cast-filled-2
     (λ c. search needs)
     same-length-7
     (λ c. search needs)

@@ -23,7 +23,7 @@ use Rattle.formula.specs.Limits.{maxSlots}
 use Rattle.formula.specs.Problem.{Problem}
 use Rattle.formula.specs.Reply.{satisfiable, unknown}
 use Rattle.search_expansion.specs.declared.Frame.{Frame}
-use Rattle.search_step.specs.declared.Answer.the-variants.{Unknown}
+use Rattle.search_step.specs.declared.Conclusion.the-variants.{Unknown}
 use Rattle.search_step.specs.declared.Step.the-variants.{Ends, Goes}
 use Rattle.permutation_coverage.specs.Laws.Coverage.{Imaged}
 use Rattle.search_expansion.specs.Laws.Filling.{Fillable, Advances}
@@ -73,7 +73,7 @@ module _ (g : Frame) (images positive negative : List ℕ) (ok : Searchable g im
   numberedIn i number m = memory (m .points) (set (m .falsified) i number) (m .depths)
 
   -- a slot is taken, at the front of those that wait, and its point falsifies a clause first, the one of that number
-  pub record Taken (old : Memory) (p w : List Slot) (i k x d number : ℕ) (m₀ : Memory) : Type 0 where
+  pub record Taken (old : Memory) (p w : List Slot) (i filled x d number : ℕ) (m₀ : Memory) : Type 0 where
     pub taken : Slot
     pub rest : List Slot
     pub falsified : Numbered
@@ -82,39 +82,39 @@ module _ (g : Frame) (images positive negative : List ℕ) (ok : Searchable g im
     pub depth : d ≡ taken .depth
     pub first : FirstFalsified (pb .clauses) (taken .point) falsified
     pub place : falsified .clause ≡ getD cs (number - 1) noLiterals
-    pub stands : Stands pb (g .room) old p (taken ∷ rest) i k m₀
+    pub stands : Stands pb (g .room) old p (taken ∷ rest) i filled m₀
     pub holds : Holds old ((p ++ withNumber taken falsified ∷ []) ++ rest) (numberedIn i number m₀)
 
-  module _ {old : Memory} {p : List Slot} {i k : ℕ} {m₀ : Memory} where
+  module _ {old : Memory} {p : List Slot} {i filled : ℕ} {m₀ : Memory} where
     -- before the last of the filled slots one waits
-    one-waits : i < k → Stands pb (g .room) old p [] i k m₀ → ⊥
+    one-waits : i < filled → Stands pb (g .room) old p [] i filled m₀ → ⊥
     one-waits lt st =
         let a : length (p ++ []) ≡ length p = ap length (append-nil p) in
-        omega (arith, st .processed, st .filled)
+        omega (arith, st .processed, st .number)
 
-    module _ (x number : ℕ) (read : x ≡ getD (m₀ .points) i 0) (found : number ≡ numberOf (firstFalsified (numbered cs) x)) (lt : i < k) where
+    module _ (x number : ℕ) (read : x ≡ getD (m₀ .points) i 0) (found : number ≡ numberOf (firstFalsified (numbered cs) x)) (lt : i < filled) where
       -- the point read is the first waiting slot's
-      point-of : (s : Slot) (w : List Slot) → Stands pb (g .room) old p (s ∷ w) i k m₀ → x ≡ s .point
+      point-of : (s : Slot) (w : List Slot) → Stands pb (g .room) old p (s ∷ w) i filled m₀ → x ≡ s .point
       point-of s w st = read ∙ slot-read (λ (s : Slot). s .point) p w s (old .points) (m₀ .points) i (st .holds .points-held) (st .processed)
 
       -- W5: "it meets all rules: answer met .., with the choice, its changes .. and the number of slots filled"
-      pub step-met : (w : List Slot) (d : ℕ) → number ≡ 0 → d ≡ distance 64 x (g .target) → Stands pb (g .room) old p w i k m₀
-          → Ended pb (g .room) old p w (satisfiable x d k) m₀
+      pub step-met : (w : List Slot) (d : ℕ) → number ≡ 0 → d ≡ distance 64 x (g .target) → Stands pb (g .room) old p w i filled m₀
+          → Ended pb (g .room) old p w (satisfiable x d filled) m₀
       step-met [] d z far st = absurd (one-waits lt st)
       step-met (s ∷ w) d z far st =
           let same = point-of s w st in
           let below : s .point < 2 ^ g .variables = st .invariants .filled .below s (Memᴰ·append-right p (here s w)) in
           let near : d ≡ distance (g .variables) (s .point) (g .target) =
           far ∙ ap (λ y. distance 64 y (g .target)) same ∙ distance-wider (g .variables) 64 (s .point) (g .target) below (ok .ready .target-below) (ok .few) in
-          let all = st .filled in
-          let e : satisfiable (s .point) (distance (g .variables) (s .point) (g .target)) (length (p ++ s ∷ w)) ≡ satisfiable x d k = cc in
+          let all = st .number in
+          let e : satisfiable (s .point) (distance (g .variables) (s .point) (g .target)) (length (p ++ s ∷ w)) ≡ satisfiable x d filled = cc in
           record {
             slots = p ++ s ∷ w;
             holds = st .holds;
             walks = subst (λ r. Walks pb (g .room) (state p (s ∷ w)) r (p ++ s ∷ w)) e (met (subst (SatisfiesAll (pb .clauses)) same (number-none x cs number found z)));
           }
 
-      pub taken-of : (w : List Slot) (d : ℕ) → (number ≡ 0 → ⊥) → d ≡ getD (m₀ .depths) i 0 → Stands pb (g .room) old p w i k m₀ → Taken old p w i k x d number m₀
+      pub taken-of : (w : List Slot) (d : ℕ) → (number ≡ 0 → ⊥) → d ≡ getD (m₀ .depths) i 0 → Stands pb (g .room) old p w i filled m₀ → Taken old p w i filled x d number m₀
       taken-of [] d ne deep st = absurd (one-waits lt st)
       taken-of (s ∷ w) d ne deep st =
           let same = point-of s w st in
@@ -133,10 +133,10 @@ module _ (g : Frame) (images positive negative : List ℕ) (ok : Searchable g im
           }
 
   -- the point of the next slot is one of n digits, as those of all filled slots are
-  pub next-narrow : {i k : ℕ} {m₀ : Memory} → i < k → Midway pb (g .room) i k m₀ → getD (m₀ .points) i 0 < 2 ^ g .variables
-  next-narrow {i} {k} {m₀} lt at = by (at .front) (at .back) (at .stands)
+  pub next-narrow : {i filled : ℕ} {m₀ : Memory} → i < filled → Midway pb (g .room) i filled m₀ → getD (m₀ .points) i 0 < 2 ^ g .variables
+  next-narrow {i} {filled} {m₀} lt at = by (at .front) (at .back) (at .stands)
     where
-      by : (p w : List Slot) → Stands pb (g .room) (at .old) p w i k m₀ → getD (m₀ .points) i 0 < 2 ^ g .variables
+      by : (p w : List Slot) → Stands pb (g .room) (at .old) p w i filled m₀ → getD (m₀ .points) i 0 < 2 ^ g .variables
       by p [] st = absurd (one-waits lt st)
       by p (s ∷ w) st =
           subst (λ (y : ℕ). y < 2 ^ g .variables) (sym (slot-read (λ (t : Slot). t .point) p w s (at .old .points) (m₀ .points) i (st .holds .points-held) (st .processed)))
@@ -144,17 +144,17 @@ module _ (g : Frame) (images positive negative : List ℕ) (ok : Searchable g im
 
   -- ---- the slot that is taken, and its flips
 
-  module _ {old : Memory} {p w : List Slot} {i k x d number : ℕ} {m₀ : Memory} (t : Taken old p w i k x d number m₀) where
+  module _ {old : Memory} {p w : List Slot} {i filled x d number : ℕ} {m₀ : Memory} (t : Taken old p w i filled x d number m₀) where
     abbrev known : List Slot
     known = p ++ withNumber (t .taken) (t .falsified) ∷ []
 
     -- a slot's depth is at most its index
-    pub taken-shallow : i < k → d < maxSlots
+    pub taken-shallow : i < filled → d < maxSlots
     taken-shallow lt =
         let st = t .stands in
         let at = getD-at p (t .taken) (t .rest) (slot 0 0 0) i (st .processed) in
         let e : slotAt (p ++ t .taken ∷ t .rest) i .depth ≡ d = ap (λ (s : Slot). s .depth) at ∙ sym (t .depth) in
-        omega (arith, st .invariants .filled .depth-index i (subst (λ (j : ℕ). i < j) (sym (st .filled)) lt), ok .most, st .filled, st .invariants .filled .room)
+        omega (arith, st .invariants .filled .depth-index i (subst (λ (j : ℕ). i < j) (sym (st .number)) lt), ok .most, st .number, st .invariants .filled .room)
 
     -- the variables of the clause: a set of variables below n
     clause-listed : (c : Clause) (s : ℕ) → c ≡ getD cs (number - 1) noLiterals → s ≡ listed c → s ≡ listed (t .falsified .clause)
@@ -168,17 +168,17 @@ module _ (g : Frame) (images positive negative : List ℕ) (ok : Searchable g im
         (or-lt (g .variables) (t .falsified .clause .positive) (t .falsified .clause .negative) (b .positive-below) (b .negative-below))
 
     -- the flips are tried, and the memory holds the slots that wait then
-    pub record Flipped (roomy : Bool) (k′ : ℕ) (m : Memory) : Type 0 where
+    pub record Flipped (enough : Bool) (filled′ : ℕ) (m : Memory) : Type 0 where
       pub waiting : List Slot
       pub holds : Holds old (known ++ waiting) m
-      pub counted : length (known ++ waiting) ≡ k′
-      pub fills : Fills (pb .permutations) (g .room) known (t .taken .point) (t .taken .depth) (variables (g .variables) (t .falsified .clause)) (t .rest) (ended roomy waiting)
+      pub counted : length (known ++ waiting) ≡ filled′
+      pub fills : Fills (pb .permutations) (g .room) known (t .taken .point) (t .taken .depth) (variables (g .variables) (t .falsified .clause)) (t .rest) (ended enough waiting)
 
-    pub flipped-of : {roomy : Bool} {k′ : ℕ} {m : Memory} (c : Clause) (s : ℕ) → c ≡ getD cs (number - 1) noLiterals → s ≡ listed c
-        → Advances (pb .permutations) (g .room) x d (members (g .variables) s) k (numberedIn i number m₀) roomy [] k′ m → Flipped roomy k′ m
+    pub flipped-of : {enough : Bool} {filled′ : ℕ} {m : Memory} (c : Clause) (s : ℕ) → c ≡ getD cs (number - 1) noLiterals → s ≡ listed c
+        → Advances (pb .permutations) (g .room) x d (members (g .variables) s) filled (numberedIn i number m₀) enough [] filled′ m → Flipped enough filled′ m
     unfolding variables
-    flipped-of {roomy = roomy} c s e l adv =
-        let a = adv old known (t .rest) (t .holds) (length-moved p (t .rest) (withNumber (t .taken) (t .falsified)) (t .taken) ∙ t .stands .filled) in
+    flipped-of {enough = enough} c s e l adv =
+        let a = adv old known (t .rest) (t .holds) (length-moved p (t .rest) (withNumber (t .taken) (t .falsified)) (t .taken) ∙ t .stands .number) in
         let f = advances-ends (pb .permutations) (g .room) x d a in
         record {
           waiting = a .waiting;
@@ -194,39 +194,39 @@ module _ (g : Frame) (images positive negative : List ℕ) (ok : Searchable g im
             (subst (λ d. Fills (pb .permutations) (g .room) known x d vs (t .rest) r) q
             (subst (λ us. Fills (pb .permutations) (g .room) known x d us (t .rest) r) u f))
 
-    pub flipped-room : {k′ : ℕ} {m : Memory} (roomy : Bool) → Flipped roomy k′ m → k′ ≤ g .room
-    flipped-room roomy f = by roomy f
+    pub flipped-room : {filled′ : ℕ} {m : Memory} (enough : Bool) → Flipped enough filled′ m → filled′ ≤ g .room
+    flipped-room enough f = by enough f
       where
         start : length (known ++ t .rest) ≤ g .room
         start = le-trans (le-of-eq (length-moved p (t .rest) (withNumber (t .taken) (t .falsified)) (t .taken))) (t .stands .invariants .filled .room)
 
-        by : {k′ : ℕ} {m : Memory} (roomy : Bool) → Flipped roomy k′ m → k′ ≤ g .room
+        by : {filled′ : ℕ} {m : Memory} (enough : Bool) → Flipped enough filled′ m → filled′ ≤ g .room
         by true f = le-trans (le-of-eq (sym (f .counted))) (fills-room (pb .permutations) (g .room) known (t .taken .point) (t .taken .depth) (f .fills) start)
         by false f = le-trans (le-of-eq (sym (f .counted))) (fills-room (pb .permutations) (g .room) known (t .taken .point) (t .taken .depth) (f .fills) start)
 
     -- all flips are tried: on to the next slot
-    pub step-goes : {k′ : ℕ} {m : Memory} → Flipped true k′ m → GoesOn pb (g .room) old p w (i + 1) k′ m
-    step-goes {k′} {m} f =
-        subst (λ u. GoesOn pb (g .room) old p u (i + 1) k′ m) (sym (t .split))
+    pub step-goes : {filled′ : ℕ} {m : Memory} → Flipped true filled′ m → GoesOn pb (g .room) old p w (i + 1) filled′ m
+    step-goes {filled′} {m} f =
+        subst (λ u. GoesOn pb (g .room) old p u (i + 1) filled′ m) (sym (t .split))
         (record {
           front = known;
           back = f .waiting;
           stands = record {
             holds = f .holds;
             processed = length-snoc p (withNumber (t .taken) (t .falsified)) ∙ ap suc (t .stands .processed) ∙ sym (add-one i);
-            filled = f .counted;
+            number = f .counted;
             invariants = invariants-step pb (g .room) p (t .rest) (t .taken) (t .falsified) (t .first) (t .stands .invariants) (f .fills);
           };
           onward = λ r l u. goes-on (t .first) (f .fills) u;
         })
 
     -- W8: "answer no room, with d the depth of the point being processed and slots filled"
-    pub step-stuck : {k′ : ℕ} {m : Memory} → Flipped false k′ m → Ended pb (g .room) old p w (unknown d k′) m
-    step-stuck {k′} {m} f =
+    pub step-stuck : {filled′ : ℕ} {m : Memory} → Flipped false filled′ m → Ended pb (g .room) old p w (unknown d filled′) m
+    step-stuck {filled′} {m} f =
         let a = t .depth in
         let b = f .counted in
-        let e : unknown (t .taken .depth) (length (known ++ f .waiting)) ≡ unknown d k′ = cc in
-        subst (λ u. Ended pb (g .room) old p u (unknown d k′) m) (sym (t .split))
+        let e : unknown (t .taken .depth) (length (known ++ f .waiting)) ≡ unknown d filled′ = cc in
+        subst (λ u. Ended pb (g .room) old p u (unknown d filled′) m) (sym (t .split))
         (record {
           slots = known ++ f .waiting;
           holds = f .holds;
@@ -243,17 +243,17 @@ module _ (g : Frame) (images positive negative : List ℕ) (ok : Searchable g im
     pub clause-read : c ≡ getD cs (number - 1) noLiterals
     pub listed-read : s ≡ listed c
 
-  module _ {i k x d number s : ℕ} {c : Clause} {m₀ : Memory} (lt : i < k) (a : Read i x d number s c m₀) where
-    taken-read : {old : Memory} {p w : List Slot} → Stands pb (g .room) old p w i k m₀ → Taken old p w i k x d number m₀
+  module _ {i filled x d number s : ℕ} {c : Clause} {m₀ : Memory} (lt : i < filled) (a : Read i x d number s c m₀) where
+    taken-read : {old : Memory} {p w : List Slot} → Stands pb (g .room) old p w i filled m₀ → Taken old p w i filled x d number m₀
     taken-read {w = w} st = taken-of x number (a .point-read) (a .number-read) lt w d (a .unsatisfied) (a .depth-read) st
 
-    pub read-shallow : Midway pb (g .room) i k m₀ → d < maxSlots
+    pub read-shallow : Midway pb (g .room) i filled m₀ → d < maxSlots
     read-shallow at = taken-shallow (taken-read (at .stands)) lt
 
     -- what lets its flips be tried, where its images are at hand
-    pub read-fillable : {moved : List ℕ} {heads : ℕ} {links : List ℕ} → Midway pb (g .room) i k m₀ → Linked (g .variables) heads k (m₀ .points) links → Lends (g .room) m₀
+    pub read-fillable : {moved : List ℕ} {heads : ℕ} {links : List ℕ} → Midway pb (g .room) i filled m₀ → Linked (g .variables) heads filled (m₀ .points) links → Lends (g .room) m₀
         → Next (g .variables) (g .permutations) images (m₀ .points) i moved
-        → Fillable (g .variables) (g .permutations) images moved (g .room) x d k heads links (numberedIn i number m₀)
+        → Fillable (g .variables) (g .permutations) images moved (g .room) x d filled heads links (numberedIn i number m₀)
     read-fillable {moved} at l room e =
         let own = subst (λ (y : ℕ). Imaged (g .variables) (g .permutations) images y moved) (sym (a .point-read)) e in
         record {
@@ -264,19 +264,19 @@ module _ (g : Frame) (images positive negative : List ℕ) (ok : Searchable g im
           linked = l .linked;
         }
 
-    pub read-below : Midway pb (g .room) i k m₀ → s < 2 ^ g .variables
+    pub read-below : Midway pb (g .room) i filled m₀ → s < 2 ^ g .variables
     read-below at = taken-below (taken-read (at .stands)) c s (a .clause-read) (a .listed-read)
 
-    module _ {roomy : Bool} {k′ : ℕ} {m : Memory}
-        (adv : Advances (pb .permutations) (g .room) x d (members (g .variables) s) k (numberedIn i number m₀) roomy [] k′ m) where
-      flipped-read : {old : Memory} {p w : List Slot} (st : Stands pb (g .room) old p w i k m₀) → Flipped (taken-read st) roomy k′ m
+    module _ {enough : Bool} {filled′ : ℕ} {m : Memory}
+        (adv : Advances (pb .permutations) (g .room) x d (members (g .variables) s) filled (numberedIn i number m₀) enough [] filled′ m) where
+      flipped-read : {old : Memory} {p w : List Slot} (st : Stands pb (g .room) old p w i filled m₀) → Flipped (taken-read st) enough filled′ m
       flipped-read st = flipped-of (taken-read st) c s (a .clause-read) (a .listed-read) adv
 
-      pub read-room : Midway pb (g .room) i k m₀ → k′ ≤ g .room
-      read-room at = flipped-room (taken-read (at .stands)) roomy (flipped-read (at .stands))
+      pub read-room : Midway pb (g .room) i filled m₀ → filled′ ≤ g .room
+      read-room at = flipped-room (taken-read (at .stands)) enough (flipped-read (at .stands))
 
-      pub read-goes : roomy ≡ true → Steps pb (g .room) i k m₀ (Goes k′) m
-      read-goes e old p w st = step-goes (taken-read st) (subst (λ b. Flipped (taken-read st) b k′ m) e (flipped-read st))
+      pub read-goes : enough ≡ true → Steps pb (g .room) i filled m₀ (Goes filled′) m
+      read-goes e old p w st = step-goes (taken-read st) (subst (λ b. Flipped (taken-read st) b filled′ m) e (flipped-read st))
 
-      pub read-stuck : roomy ≡ false → Steps pb (g .room) i k m₀ (Ends (Unknown d k′)) m
-      read-stuck e old p w st = step-stuck (taken-read st) (subst (λ b. Flipped (taken-read st) b k′ m) e (flipped-read st))
+      pub read-stuck : enough ≡ false → Steps pb (g .room) i filled m₀ (Ends (Unknown d filled′)) m
+      read-stuck e old p w st = step-stuck (taken-read st) (subst (λ b. Flipped (taken-read st) b filled′ m) e (flipped-read st))

@@ -8,7 +8,7 @@ use Rattle.points.specs.Points.{distance}
 use Rattle.point_theory.specs.Laws.Distance.{distance-symmetric}
 use Rattle.formula.specs.Problem.{Problem}
 use Rattle.formula.specs.Reply.{unknown}
-use Rattle.search_theory.specs.Laws.Answers.{LowerBound}
+use Rattle.search_theory.specs.Laws.Promised.{LowerBound}
 use Rattle.search_theory.specs.Laws.Ends.{search-ends}
 use Rattle.search_theory.specs.Laws.InvariantLaws.{first-shallowest}
 use Rattle.search_theory.specs.Laws.Invariants.{Ready, Invariants, Ended, blocked}

@@ -5,7 +5,7 @@ use Prim.Native.Nat.{ℕ, _≤_}
 use Rattle.math.specs.Lists.{_∈_}
 use Rattle.formula.specs.Problem.{Problem}
 use Rattle.formula.specs.Reply.{unsatisfiable}
-use Rattle.search_theory.specs.Laws.Answers.{Settled, ClosedSlots}
+use Rattle.search_theory.specs.Laws.Promised.{Settled, ClosedSlots}
 use Rattle.search_theory.specs.Laws.Ends.{search-ends}
 use Rattle.search_theory.specs.Laws.InvariantLaws.{covered-by}
 use Rattle.search_theory.specs.Laws.Invariants.{Ready, Processed, Filled, Ended, exhausted}

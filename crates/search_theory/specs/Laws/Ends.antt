@@ -7,7 +7,7 @@ use lib.ListN.{length}
 use Rattle.points.specs.Points.{variables, Numbered, FirstFalsified}
 use Rattle.formula.specs.Problem.{Problem}
 use Rattle.formula.specs.Reply.{Reply}
-use Rattle.search_theory.specs.Laws.Answers.{reported}
+use Rattle.search_theory.specs.Laws.Promised.{reported}
 use Rattle.search_theory.specs.Laws.ExpansionLaws.{numbered-moved, begins-expanding, fills-expanding, invariants-step}
 use Rattle.search_theory.specs.Laws.InvariantLaws.{invariants-start}
 use Rattle.search_theory.specs.Laws.Invariants.{Ready, Filled, Family, Invariants, Expanding, Ended, exhausted, reached, blocked}

@@ -7,7 +7,7 @@ use Rattle.math.specs.Laws.ListLaws.{here}
 use Rattle.math.specs.Lists.{_∈_}
 use Rattle.formula.specs.Problem.{Problem}
 use Rattle.formula.specs.Reply.{satisfiable}
-use Rattle.search_theory.specs.Laws.Answers.{Nearest, HandedBack}
+use Rattle.search_theory.specs.Laws.Promised.{Nearest, HandedBack}
 use Rattle.search_theory.specs.Laws.Bound.{lower-bound}
 use Rattle.search_theory.specs.Laws.Ends.{search-ends}
 use Rattle.search_theory.specs.Laws.Invariants.{Ready, Ended, reached}

@@ -35,7 +35,7 @@ use denote.Triple.Table.{entered, cited}
 use denote.Triple.Walked.{says, Stays, stay-dropped, gave-slice, walkOf, goes-dropped, goes-gave-slice, Walks, ends-at, walked, walk-meets}
 use denote.Exit.{yes}
 use Rattle.search.proofs.Outcome as O
-use Rattle.search.specs.Contract.{replyOf}
+use Rattle.search.specs.Contract.{replyOfOutcome}
 use Rattle.export_words.specs.Words.{wordsOf, formulaFrom}
 use Rattle.export_words.proofs.formula_from.Symbol as formula-from-def
 use Rattle.export_words.proofs.formula_from.Symbol.{name as #export-words·formula-from}
@@ -49,7 +49,7 @@ use Rattle.slot_search.proofs.search_slots.Met as search-slots-thm
 use Rattle.slot_columns.specs.declared.Slot.{Slot}
 use Rattle.slot_columns.specs.Slots.{pointsIn, falsifiedIn, depthsIn}
 use Rattle.slot_columns.proofs.Row.{R}
-use Rattle.exports.specs.Searching.{SearchTold}
+use Rattle.exports.specs.Searching.{SearchReturns}
 use Rattle.exports.specs.Laws.SearchingLaws.{tells-nothing, tells-search}
 use Rattle.slot_proofs.proofs.Lent.{at-list}
 use Rattle.slot_proofs.proofs.Called.{given-up, free-all, placed}
@@ -85,7 +85,7 @@ stayed = (
 
 -- the words of the search's answer
 abbrev words : O.the-row .Denot → List ℕ
-words r = wordsOf (replyOf r)
+words r = wordsOf (replyOfOutcome r)
 
 module _ {M : Type 1} (𝓤 : URA M) (H : Heap 𝓤) (A : Atoms 𝓤) (W : Given 𝓤 H A) (mem : Memory → SProp 𝓤) (run : Routine → Fun 𝓤) (κ₀ κ₁ κ₂ κ₃ κ₄ : Lft) (q₀ q₁ q₂ q₃ q₄ : Share) (c₀ d₀ c₁ d₁ c₂ d₂ b o b₄ o₄ : ℕ) (δ₀ δ₁ δ₂ γ δ₄ : GName)
     (v c g p : ℕ) (is us vs : List ℕ) (ys : List Slot) (ws : List ℕ) where
@@ -108,14 +108,14 @@ module _ {M : Type 1} (𝓤 : URA M) (H : Heap 𝓤) (A : Atoms 𝓤) (W : Given
   Post = walkOf 𝓤 H A this.ended stayed (this.clauses 𝓤 H A mem run) .post bound
 
   abbrev Told : ℕ → List Slot → List ℕ → Type 0
-  Told n zs ws′ = SearchTold (formulaFrom v c g p is) us vs (pointsIn ys) (falsifiedIn ys) (depthsIn ys) ws n (pointsIn zs) (falsifiedIn zs) (depthsIn zs) ws′
+  Told n zs ws′ = SearchReturns (formulaFrom v c g p is) us vs (pointsIn ys) (falsifiedIn ys) (depthsIn ys) ws n (pointsIn zs) (falsifiedIn zs) (depthsIn zs) ws′
 
   abbrev Had : List Slot → List ℕ → List (Item 𝓤)
   Had zs ws′ = ‵ (flft κ₀ q₀) ∷ ‵ (flft κ₁ q₁) ∷ ‵ (flft κ₂ q₂) ∷ ‵ (flft κ₃ q₃) ∷ ‵ (flft κ₄ q₄) ∷ ‵ (finally R γ zs) ∷ ‵ (finally u64 δ₄ ws′) ∷ []
 
   exits : (n : ℕ) → n < 2 ^ 32 → (zs : List Slot) (ws′ : List ℕ) → length zs ≡ length ys → length ws′ ≡ length ws → Told n zs ws′ → ent 𝓤 (⋆ 𝓤 H A (Had zs ws′)) (Post (vint w32 n))
-  exits n gn zs ws′ e₁ e₂ told =
-      qed W (Had zs ws′) ∵ suffices ! _ (ends-at 𝓤 H A this.ended stayed (this.clauses 𝓤 H A mem run) W bound (vint w32 n) n (tt, (tt, (tt, (tt, (tt, (tt, (tt, (zs, (ws′, tt))))))))) (tt, (tt, (tt, (tt, (tt, (tt, (tt, (e₁, (e₂, tt)))))))))) $ says ! told $
+  exits n gn zs ws′ e₁ e₂ returned =
+      qed W (Had zs ws′) ∵ suffices ! _ (ends-at 𝓤 H A this.ended stayed (this.clauses 𝓤 H A mem run) W bound (vint w32 n) n (tt, (tt, (tt, (tt, (tt, (tt, (tt, (zs, (ws′, tt))))))))) (tt, (tt, (tt, (tt, (tt, (tt, (tt, (e₁, (e₂, tt)))))))))) $ says ! returned $
       nothing ! $ move ! (5 ∷ 0 ∷ []) $ join ! $ move ! (4 ∷ 0 ∷ []) $ join ! $ move ! (3 ∷ 0 ∷ []) $ join ! $ move ! (2 ∷ 0 ∷ []) $ join ! $ move ! (1 ∷ 0 ∷ []) $ join ! $ frame ! $
       -- [the slots' last list; the reply's]
       nothing ! $ move ! (2 ∷ 0 ∷ []) $ fjoin ! $ move ! (1 ∷ 0 ∷ []) $ fjoin ! $ nothing ! $ fjoin ! $ nothing ! $ fjoin ! $ nothing ! $ fjoin ! $ nothing ! $ fjoin ! $ nothing ! $ fjoin ! $ nothing ! $ fjoin ! $ nothing ! $ fjoin ! $ frame ! $
@@ -158,7 +158,7 @@ module _ {M : Type 1} (𝓤 : URA M) (H : Heap 𝓤) (A : Atoms 𝓤) (W : Given
           assigns ! (agg ! (and-then ! (load ! (from ! (stop !)) (look ! 10 refl)) (and-then ! (load ! (from ! (fld ! refl (stop !))) (look-in ! 22 (sub ! 1 refl (whole !)))) (no-more !)))) (from ! (stop !)) (init ! 8 refl (tt, (tt, (record { fits = room .0 }, tt)))) $
           move ! (0 ∷ 43 ∷ 42 ∷ 41 ∷ 47 ∷ 46 ∷ 45 ∷ []) $ Done.asks f w κ₁ κ₂ κ₃ q₁ q₂ q₃ c₁ d₁ c₂ d₂ b o δ₁ δ₂ γ us vs ys 𝓤 H A mem run W ! $
           calls-at ! fm (SearchSlots 𝓤 H A mem run) known₁ (Done.bound f w κ₁ κ₂ κ₃ q₁ q₂ q₃ c₁ d₁ c₂ d₂ b o δ₁ δ₂ γ us vs ys 𝓤 H A mem run) (and-then ! (load ! (from ! (stop !)) (look ! 18 refl)) (and-then ! (load ! (from ! (stop !)) (look ! 26 refl)) (and-then ! (load ! (from ! (stop !)) (look ! 24 refl)) (and-then ! (load ! (from ! (stop !)) (look ! 8 refl)) (no-more !))))) (λ w₁.
-          Done.has f w κ₁ κ₂ κ₃ q₁ q₂ q₃ c₁ d₁ c₂ d₂ b o δ₁ δ₂ γ us vs ys 𝓤 H A mem run W ! tt w₁ (λ r zs tr e₁ told. land ! (from ! (stop !)) (init ! 20 refl tr) $
+          Done.has f w κ₁ κ₂ κ₃ q₁ q₂ q₃ c₁ d₁ c₂ d₂ b o δ₁ δ₂ γ us vs ys 𝓤 H A mem run W ! tt w₁ (λ r zs tr e₁ returned. land ! (from ! (stop !)) (init ! 20 refl tr) $
           -- the answer is told
           assigns ! (addr ! (from ! (fld ! refl (hop ! (look-in ! 24 (sub ! 0 refl (whole !))) (stop !))))) (from ! (stop !)) (init ! 8 refl (tt, tt)) $
           assigns ! (agg ! (and-then ! (load ! (from ! (stop !)) (look ! 8 refl)) (and-then ! (load ! (from ! (fld ! refl (stop !))) (look-in ! 24 (sub ! 1 refl (whole !)))) (no-more !)))) (from ! (stop !)) (init ! 6 refl (tt, (tt, (record { fits = room₄ .0 }, tt)))) $
@@ -171,7 +171,7 @@ module _ {M : Type 1} (𝓤 : URA M) (H : Heap 𝓤) (A : Atoms 𝓤) (W : Given
           move ! (43 ∷ 44 ∷ 41 ∷ 42 ∷ 39 ∷ 40 ∷ 37 ∷ 38 ∷ 35 ∷ 36 ∷ 33 ∷ 34 ∷ 31 ∷ 32 ∷ 29 ∷ 30 ∷ 27 ∷ 28 ∷ 25 ∷ 26 ∷ 23 ∷ 24 ∷ 21 ∷ 22 ∷ 19 ∷ 20 ∷ 17 ∷ 18 ∷ 15 ∷ 16 ∷ 13 ∷ 14 ∷ 11 ∷ 12 ∷ 9 ∷ 10 ∷ 7 ∷ 8 ∷ []) $
           free-all ! (placed mirs.locals (l₀ ∷ l₁ ∷ l₂ ∷ l₃ ∷ l₄ ∷ l₅ ∷ l₆ ∷ l₇ ∷ l₈ ∷ l₉ ∷ l₁₀ ∷ l₁₁ ∷ l₁₂ ∷ l₁₃ ∷ l₁₄ ∷ l₁₅ ∷ l₁₆ ∷ l₁₇ ∷ l₁₈ ∷ [])) (
           keep ! (6 ∷ 3 ∷ 4 ∷ 5 ∷ 1 ∷ 2 ∷ 0 ∷ []) $
-          by ! (exits 1 (lit< tt) zs ws′ e₁ e₂ (tells-search (formulaFrom v c g p is) us vs (pointsIn ys) (falsifiedIn ys) (depthsIn ys) ws f r (pointsIn zs) (falsifiedIn zs) (depthsIn zs) ws′ (nltb→le (length ws) 4 large) same told put)))))))))))))))))))))))))))))
+          by ! (exits 1 (lit< tt) zs ws′ e₁ e₂ (tells-search (formulaFrom v c g p is) us vs (pointsIn ys) (falsifiedIn ys) (depthsIn ys) ws f r (pointsIn zs) (falsifiedIn zs) (depthsIn zs) ws′ (nltb→le (length ws) 4 large) same returned put)))))))))))))))))))))))))))))
 
 module _ {M : Type 1} (𝓤 : URA M) (H : Heap 𝓤) (A : Atoms 𝓤) (W : Given 𝓤 H A) (mem : Memory → SProp 𝓤) (run : Routine → Fun 𝓤) (𝓣 : Tables 𝓤 H) (known₀ : Triple 𝓤 (𝓣 .C #export-words·formula-from) (FormulaFrom 𝓤 H A mem run))
     (known₁ : Triple 𝓤 (𝓣 .C #slot-search·search-slots) (SearchSlots 𝓤 H A mem run)) (known₂ : Triple 𝓤 (𝓣 .C #export-words·put-outcome) (PutWords O.the-row words 𝓤 H A)) where

@@ -35,7 +35,7 @@ use denote.Triple.Table.{entered, cited}
 use denote.Triple.Walked.{says, Stays, stay-dropped, gave-slice, walkOf, goes-dropped, goes-gave-slice, Walks, ends-at, walked, walk-meets}
 use denote.Exit.{yes}
 use Rattle.certificate_writer.proofs.Written as O
-use Rattle.certificate_writer.specs.Contract.{replyOf}
+use Rattle.certificate_writer.specs.Contract.{replyOfWritten}
 use Rattle.export_words.specs.Words.{wordsOf, formulaFrom}
 use Rattle.export_words.proofs.formula_from.Symbol as formula-from-def
 use Rattle.export_words.proofs.formula_from.Symbol.{name as #export-words·formula-from}
@@ -49,7 +49,7 @@ use Rattle.slot_writer.proofs.write_slots.Met as write-slots-thm
 use Rattle.slot_columns.specs.declared.Slot.{Slot}
 use Rattle.slot_columns.specs.Slots.{pointsIn, falsifiedIn, depthsIn}
 use Rattle.slot_columns.proofs.Row.{R}
-use Rattle.exports.specs.Writing.{WriteTold}
+use Rattle.exports.specs.Writing.{WriteReturns}
 use Rattle.exports.specs.Laws.WritingLaws.{tells-nothing, tells-writing}
 use Rattle.slot_proofs.proofs.Lent.{at-list}
 use Rattle.slot_proofs.proofs.Called.{given-up, free-all, placed}
@@ -97,12 +97,12 @@ stayed = (
 
 -- the words of the writer's answer
 abbrev words : O.the-row .Denot → List ℕ
-words r = wordsOf (replyOf r)
+words r = wordsOf (replyOfWritten r)
 
 module _ {M : Type 1} (𝓤 : URA M) (H : Heap 𝓤) (A : Atoms 𝓤) (W : Given 𝓤 H A) (mem : Memory → SProp 𝓤) (run : Routine → Fun 𝓤) (κ₀ κ₁ κ₂ κ₃ κ₄ κ₅ : Lft) (q₀ q₁ q₂ q₃ q₄ q₅ : Share) (c₀ d₀ c₁ d₁ c₂ d₂ b o b₄ o₄ b₅ o₅ : ℕ) (δ₀ δ₁ δ₂ γ δ₄ δ₅ : GName)
-    (v c g p : ℕ) (is us vs : List ℕ) (ys : List Slot) (count : ℕ) (os ws : List ℕ) where
+    (v c g p : ℕ) (is us vs : List ℕ) (ys : List Slot) (filled : ℕ) (os ws : List ℕ) where
   abbrev args : List Val
-  args = vint w32 v ∷ vint w32 c ∷ vint w64 g ∷ vint w32 p ∷ sliceVal (c₀, d₀) (length is) ∷ sliceVal (c₁, d₁) (length us) ∷ sliceVal (c₂, d₂) (length vs) ∷ sliceVal (b, o) (length ys) ∷ vint w32 count ∷ sliceVal (b₄, o₄) (length os) ∷ sliceVal (b₅, o₅) (length ws) ∷ []
+  args = vint w32 v ∷ vint w32 c ∷ vint w64 g ∷ vint w32 p ∷ sliceVal (c₀, d₀) (length is) ∷ sliceVal (c₁, d₁) (length us) ∷ sliceVal (c₂, d₂) (length vs) ∷ sliceVal (b, o) (length ys) ∷ vint w32 filled ∷ sliceVal (b₄, o₄) (length os) ∷ sliceVal (b₅, o₅) (length ws) ∷ []
 
   abbrev bound : walkOf 𝓤 H A this.ended stayed (this.clauses 𝓤 H A mem run) .Ghost
   bound = (
@@ -110,8 +110,8 @@ module _ {M : Type 1} (𝓤 : URA M) (H : Heap 𝓤) (A : Atoms 𝓤) (W : Given
       (κ₀, (κ₁, (κ₂, (κ₃, (κ₄, (κ₅, tt)))))),
       (q₀, (q₁, (q₂, (q₃, (q₄, (q₅, tt)))))),
       tt,
-      (v, (c, (g, (p, (at-list c₀ d₀ δ₀ is, (at-list c₁ d₁ δ₁ us, (at-list c₂ d₂ δ₂ vs, (at-list b o γ ys, (count, (at-list b₄ o₄ δ₄ os, (at-list b₅ o₅ δ₅ ws, tt))))))))))),
-      (vint w32 v ∷ [], (vint w32 c ∷ [], (vint w64 g ∷ [], (vint w32 p ∷ [], (sliceVal (c₀, d₀) (length is) ∷ [], (sliceVal (c₁, d₁) (length us) ∷ [], (sliceVal (c₂, d₂) (length vs) ∷ [], (sliceVal (b, o) (length ys) ∷ [], (vint w32 count ∷ [], (sliceVal (b₄, o₄) (length os) ∷ [], (sliceVal (b₅, o₅) (length ws) ∷ [], tt))))))))))),
+      (v, (c, (g, (p, (at-list c₀ d₀ δ₀ is, (at-list c₁ d₁ δ₁ us, (at-list c₂ d₂ δ₂ vs, (at-list b o γ ys, (filled, (at-list b₄ o₄ δ₄ os, (at-list b₅ o₅ δ₅ ws, tt))))))))))),
+      (vint w32 v ∷ [], (vint w32 c ∷ [], (vint w64 g ∷ [], (vint w32 p ∷ [], (sliceVal (c₀, d₀) (length is) ∷ [], (sliceVal (c₁, d₁) (length us) ∷ [], (sliceVal (c₂, d₂) (length vs) ∷ [], (sliceVal (b, o) (length ys) ∷ [], (vint w32 filled ∷ [], (sliceVal (b₄, o₄) (length os) ∷ [], (sliceVal (b₅, o₅) (length ws) ∷ [], tt))))))))))),
     ),
     tt,
   )
@@ -120,20 +120,20 @@ module _ {M : Type 1} (𝓤 : URA M) (H : Heap 𝓤) (A : Atoms 𝓤) (W : Given
   Post = walkOf 𝓤 H A this.ended stayed (this.clauses 𝓤 H A mem run) .post bound
 
   abbrev Told : ℕ → List ℕ → List ℕ → Type 0
-  Told n zs ws′ = WriteTold (formulaFrom v c g p is) us vs (pointsIn ys) (falsifiedIn ys) (depthsIn ys) count os ws n zs ws′
+  Told n zs ws′ = WriteReturns (formulaFrom v c g p is) us vs (pointsIn ys) (falsifiedIn ys) (depthsIn ys) filled os ws n zs ws′
 
   abbrev Had : List ℕ → List ℕ → List (Item 𝓤)
   Had zs ws′ = ‵ (flft κ₀ q₀) ∷ ‵ (flft κ₁ q₁) ∷ ‵ (flft κ₂ q₂) ∷ ‵ (flft κ₃ q₃) ∷ ‵ (flft κ₄ q₄) ∷ ‵ (flft κ₅ q₅) ∷ ‵ (finally u8 δ₄ zs) ∷ ‵ (finally u64 δ₅ ws′) ∷ []
 
   exits : (n : ℕ) → n < 2 ^ 32 → (zs ws′ : List ℕ) → length zs ≡ length os → length ws′ ≡ length ws → Told n zs ws′ → ent 𝓤 (⋆ 𝓤 H A (Had zs ws′)) (Post (vint w32 n))
-  exits n gn zs ws′ e₁ e₂ told =
-      qed W (Had zs ws′) ∵ suffices ! _ (ends-at 𝓤 H A this.ended stayed (this.clauses 𝓤 H A mem run) W bound (vint w32 n) n (tt, (tt, (tt, (tt, (tt, (tt, (tt, (tt, (tt, (zs, (ws′, tt))))))))))) (tt, (tt, (tt, (tt, (tt, (tt, (tt, (tt, (tt, (e₁, (e₂, tt)))))))))))) $ says ! told $
+  exits n gn zs ws′ e₁ e₂ returned =
+      qed W (Had zs ws′) ∵ suffices ! _ (ends-at 𝓤 H A this.ended stayed (this.clauses 𝓤 H A mem run) W bound (vint w32 n) n (tt, (tt, (tt, (tt, (tt, (tt, (tt, (tt, (tt, (zs, (ws′, tt))))))))))) (tt, (tt, (tt, (tt, (tt, (tt, (tt, (tt, (tt, (e₁, (e₂, tt)))))))))))) $ says ! returned $
       nothing ! $ move ! (6 ∷ 0 ∷ []) $ join ! $ move ! (5 ∷ 0 ∷ []) $ join ! $ move ! (4 ∷ 0 ∷ []) $ join ! $ move ! (3 ∷ 0 ∷ []) $ join ! $ move ! (2 ∷ 0 ∷ []) $ join ! $ move ! (1 ∷ 0 ∷ []) $ join ! $ frame ! $
       -- [the output's last list; the reply's]
       nothing ! $ move ! (2 ∷ 0 ∷ []) $ fjoin ! $ move ! (1 ∷ 0 ∷ []) $ fjoin ! $ nothing ! $ fjoin ! $ nothing ! $ fjoin ! $ nothing ! $ fjoin ! $ nothing ! $ fjoin ! $ nothing ! $ fjoin ! $ nothing ! $ fjoin ! $ nothing ! $ fjoin ! $ nothing ! $ fjoin ! $ nothing ! $ fjoin ! $ frame ! $
       owned ! u32 (Is u32) (uint-makes 𝓤 H A W w32) n (vint w32 n ∷ []) (refl, gn) $ done !
 
-  module _ (gv : v < 2 ^ 32) (gc : c < 2 ^ 32) (gg : g < 2 ^ 64) (gp : p < 2 ^ 32) (room₀ : Room u8 (length is)) (room₁ : Room u64 (length us)) (room₂ : Room u64 (length vs)) (room : Room R (length ys)) (gn : count < 2 ^ 32) (room₄ : Room u8 (length os)) (room₅ : Room u64 (length ws)) where
+  module _ (gv : v < 2 ^ 32) (gc : c < 2 ^ 32) (gg : g < 2 ^ 64) (gp : p < 2 ^ 32) (room₀ : Room u8 (length is)) (room₁ : Room u64 (length us)) (room₂ : Room u64 (length vs)) (room : Room R (length ys)) (gn : filled < 2 ^ 32) (room₄ : Room u8 (length os)) (room₅ : Room u64 (length ws)) where
     module _ (C : Calls 𝓤 H) (Λ : Loops 𝓤 H) (fm : FmC 𝓤 H (W .laws) C) (known₀ : Triple 𝓤 (C #export-words·formula-from) (FormulaFrom 𝓤 H A mem run)) (known₁ : Triple 𝓤 (C #slot-writer·write-slots) (WriteSlots 𝓤 H A mem run))
         (known₂ : Triple 𝓤 (C #export-words·put-written) (PutWords O.the-row words 𝓤 H A)) where
       walk : ent 𝓤 (onEntry 𝓤 H A this.signature (bound .0 .0) (bound .0 .1) (bound .0 .3) (bound .0 .4)) (WpFn 𝓤 H C Λ code.function args Post)
@@ -159,7 +159,7 @@ module _ {M : Type 1} (𝓤 : URA M) (H : Heap 𝓤) (A : Atoms 𝓤) (W : Given
           move ! (40 ∷ 41 ∷ 38 ∷ 39 ∷ 36 ∷ 37 ∷ 34 ∷ 35 ∷ 32 ∷ 33 ∷ 30 ∷ 31 ∷ 28 ∷ 29 ∷ 26 ∷ 27 ∷ 24 ∷ 25 ∷ 22 ∷ 23 ∷ 20 ∷ 21 ∷ 18 ∷ 19 ∷ 16 ∷ 17 ∷ 14 ∷ 15 ∷ 12 ∷ 13 ∷ 10 ∷ 11 ∷ 8 ∷ 9 ∷ 6 ∷ 7 ∷ 4 ∷ 5 ∷ 2 ∷ 3 ∷ 0 ∷ 1 ∷ []) $
           free-all ! (placed mirs.locals (l₀ ∷ l₁ ∷ l₂ ∷ l₃ ∷ l₄ ∷ l₅ ∷ l₆ ∷ l₇ ∷ l₈ ∷ l₉ ∷ l₁₀ ∷ l₁₁ ∷ l₁₂ ∷ l₁₃ ∷ l₁₄ ∷ l₁₅ ∷ l₁₆ ∷ l₁₇ ∷ l₁₈ ∷ l₁₉ ∷ l₂₀ ∷ [])) (
           given-up ! (named 5) κ₅ u64 (at-list b₅ o₅ δ₅ ws) (sliceVal (b₅, o₅) (length ws) ∷ []) $ move ! (1 ∷ []) $ given-up ! (named 4) κ₄ u8 (at-list b₄ o₄ δ₄ os) (sliceVal (b₄, o₄) (length os) ∷ []) $ keep ! (11 ∷ 10 ∷ 9 ∷ 8 ∷ 7 ∷ 6 ∷ 0 ∷ 1 ∷ []) $
-          by ! (exits 0 (lit< tt) os ws refl refl (tells-nothing (formulaFrom v c g p is) us vs (pointsIn ys) (falsifiedIn ys) (depthsIn ys) count os ws (ltb→lt (length ws) 4 small)))))
+          by ! (exits 0 (lit< tt) os ws refl refl (tells-nothing (formulaFrom v c g p is) us vs (pointsIn ys) (falsifiedIn ys) (depthsIn ys) filled os ws (ltb→lt (length ws) 4 small)))))
           -- the formula is made
           (λ large. skips ! $ exec ! C Λ (placed mirs.locals (l₀ ∷ l₁ ∷ l₂ ∷ l₃ ∷ l₄ ∷ l₅ ∷ l₆ ∷ l₇ ∷ l₈ ∷ l₉ ∷ l₁₀ ∷ l₁₁ ∷ l₁₂ ∷ l₁₃ ∷ l₁₄ ∷ l₁₅ ∷ l₁₆ ∷ l₁₇ ∷ l₁₈ ∷ l₁₉ ∷ l₂₀ ∷ [])) mirs.t-4 (atRet (placed mirs.locals (l₀ ∷ l₁ ∷ l₂ ∷ l₃ ∷ l₄ ∷ l₅ ∷ l₆ ∷ l₇ ∷ l₈ ∷ l₉ ∷ l₁₀ ∷ l₁₁ ∷ l₁₂ ∷ l₁₃ ∷ l₁₄ ∷ l₁₅ ∷ l₁₆ ∷ l₁₇ ∷ l₁₈ ∷ l₁₉ ∷ l₂₀ ∷ [])) Post) $
           move ! (47 ∷ 53 ∷ []) $ Made.asks v c g p κ₀ q₀ c₀ d₀ δ₀ is 𝓤 H A mem run W ! gv gc gg gp $
@@ -168,9 +168,9 @@ module _ {M : Type 1} (𝓤 : URA M) (H : Heap 𝓤) (A : Atoms 𝓤) (W : Given
           -- the certificate is written
           assigns ! (addr ! (from ! (fld ! refl (hop ! (look-in ! 22 (sub ! 0 refl (whole !))) (stop !))))) (from ! (stop !)) (init ! 10 refl (tt, tt)) $
           assigns ! (agg ! (and-then ! (load ! (from ! (stop !)) (look ! 10 refl)) (and-then ! (load ! (from ! (fld ! refl (stop !))) (look-in ! 22 (sub ! 1 refl (whole !)))) (no-more !)))) (from ! (stop !)) (init ! 8 refl (tt, (tt, (record { fits = room₄ .0 }, tt)))) $
-          move ! (0 ∷ 48 ∷ 47 ∷ 46 ∷ 45 ∷ 53 ∷ 52 ∷ 51 ∷ 50 ∷ []) $ Done.asks f w κ₁ κ₂ κ₃ κ₄ q₁ q₂ q₃ q₄ c₁ d₁ c₂ d₂ b o b₄ o₄ δ₁ δ₂ γ δ₄ us vs ys count os 𝓤 H A mem run W ! gn $
-          calls-at ! fm (WriteSlots 𝓤 H A mem run) known₁ (Done.bound f w κ₁ κ₂ κ₃ κ₄ q₁ q₂ q₃ q₄ c₁ d₁ c₂ d₂ b o b₄ o₄ δ₁ δ₂ γ δ₄ us vs ys count os 𝓤 H A mem run) (and-then ! (load ! (from ! (stop !)) (look ! 18 refl)) (and-then ! (load ! (from ! (stop !)) (look ! 30 refl)) (and-then ! (load ! (from ! (stop !)) (look ! 28 refl)) (and-then ! (load ! (from ! (stop !)) (look ! 26 refl)) (and-then ! (load ! (from ! (stop !)) (look ! 24 refl)) (and-then ! (load ! (from ! (stop !)) (look ! 8 refl)) (no-more !))))))) (λ w₁.
-          Done.has f w κ₁ κ₂ κ₃ κ₄ q₁ q₂ q₃ q₄ c₁ d₁ c₂ d₂ b o b₄ o₄ δ₁ δ₂ γ δ₄ us vs ys count os 𝓤 H A mem run W ! tt w₁ (λ r zs tr e₁ told. land ! (from ! (stop !)) (init ! 21 refl tr) $
+          move ! (0 ∷ 48 ∷ 47 ∷ 46 ∷ 45 ∷ 53 ∷ 52 ∷ 51 ∷ 50 ∷ []) $ Done.asks f w κ₁ κ₂ κ₃ κ₄ q₁ q₂ q₃ q₄ c₁ d₁ c₂ d₂ b o b₄ o₄ δ₁ δ₂ γ δ₄ us vs ys filled os 𝓤 H A mem run W ! gn $
+          calls-at ! fm (WriteSlots 𝓤 H A mem run) known₁ (Done.bound f w κ₁ κ₂ κ₃ κ₄ q₁ q₂ q₃ q₄ c₁ d₁ c₂ d₂ b o b₄ o₄ δ₁ δ₂ γ δ₄ us vs ys filled os 𝓤 H A mem run) (and-then ! (load ! (from ! (stop !)) (look ! 18 refl)) (and-then ! (load ! (from ! (stop !)) (look ! 30 refl)) (and-then ! (load ! (from ! (stop !)) (look ! 28 refl)) (and-then ! (load ! (from ! (stop !)) (look ! 26 refl)) (and-then ! (load ! (from ! (stop !)) (look ! 24 refl)) (and-then ! (load ! (from ! (stop !)) (look ! 8 refl)) (no-more !))))))) (λ w₁.
+          Done.has f w κ₁ κ₂ κ₃ κ₄ q₁ q₂ q₃ q₄ c₁ d₁ c₂ d₂ b o b₄ o₄ δ₁ δ₂ γ δ₄ us vs ys filled os 𝓤 H A mem run W ! tt w₁ (λ r zs tr e₁ returned. land ! (from ! (stop !)) (init ! 21 refl tr) $
           -- the answer is told
           assigns ! (addr ! (from ! (fld ! refl (hop ! (look-in ! 25 (sub ! 0 refl (whole !))) (stop !))))) (from ! (stop !)) (init ! 9 refl (tt, tt)) $
           assigns ! (agg ! (and-then ! (load ! (from ! (stop !)) (look ! 9 refl)) (and-then ! (load ! (from ! (fld ! refl (stop !))) (look-in ! 25 (sub ! 1 refl (whole !)))) (no-more !)))) (from ! (stop !)) (init ! 7 refl (tt, (tt, (record { fits = room₅ .0 }, tt)))) $
@@ -183,7 +183,7 @@ module _ {M : Type 1} (𝓤 : URA M) (H : Heap 𝓤) (A : Atoms 𝓤) (W : Given
           move ! (48 ∷ 49 ∷ 46 ∷ 47 ∷ 44 ∷ 45 ∷ 42 ∷ 43 ∷ 40 ∷ 41 ∷ 38 ∷ 39 ∷ 36 ∷ 37 ∷ 34 ∷ 35 ∷ 32 ∷ 33 ∷ 30 ∷ 31 ∷ 28 ∷ 29 ∷ 26 ∷ 27 ∷ 24 ∷ 25 ∷ 22 ∷ 23 ∷ 20 ∷ 21 ∷ 18 ∷ 19 ∷ 16 ∷ 17 ∷ 14 ∷ 15 ∷ 12 ∷ 13 ∷ 10 ∷ 11 ∷ 8 ∷ 9 ∷ []) $
           free-all ! (placed mirs.locals (l₀ ∷ l₁ ∷ l₂ ∷ l₃ ∷ l₄ ∷ l₅ ∷ l₆ ∷ l₇ ∷ l₈ ∷ l₉ ∷ l₁₀ ∷ l₁₁ ∷ l₁₂ ∷ l₁₃ ∷ l₁₄ ∷ l₁₅ ∷ l₁₆ ∷ l₁₇ ∷ l₁₈ ∷ l₁₉ ∷ l₂₀ ∷ [])) (
           keep ! (7 ∷ 3 ∷ 4 ∷ 5 ∷ 6 ∷ 1 ∷ 2 ∷ 0 ∷ []) $
-          by ! (exits 1 (lit< tt) zs ws′ e₁ e₂ (tells-writing (formulaFrom v c g p is) us vs (pointsIn ys) (falsifiedIn ys) (depthsIn ys) count os ws f r zs ws′ (nltb→le (length ws) 4 large) same told put)))))))))))))))))))))))))))))))
+          by ! (exits 1 (lit< tt) zs ws′ e₁ e₂ (tells-writing (formulaFrom v c g p is) us vs (pointsIn ys) (falsifiedIn ys) (depthsIn ys) filled os ws f r zs ws′ (nltb→le (length ws) 4 large) same returned put)))))))))))))))))))))))))))))))
 
 module _ {M : Type 1} (𝓤 : URA M) (H : Heap 𝓤) (A : Atoms 𝓤) (W : Given 𝓤 H A) (mem : Memory → SProp 𝓤) (run : Routine → Fun 𝓤) (𝓣 : Tables 𝓤 H) (known₀ : Triple 𝓤 (𝓣 .C #export-words·formula-from) (FormulaFrom 𝓤 H A mem run))
     (known₁ : Triple 𝓤 (𝓣 .C #slot-writer·write-slots) (WriteSlots 𝓤 H A mem run)) (known₂ : Triple 𝓤 (𝓣 .C #export-words·put-written) (PutWords O.the-row words 𝓤 H A)) where

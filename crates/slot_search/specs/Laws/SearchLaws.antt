@@ -10,7 +10,7 @@ use Rattle.math.specs.Lists.{over}
 use Rattle.math.specs.Laws.SplitLaws.{map-append}
 use Rattle.formula.specs.declared.Formula.{Formula}
 use Rattle.formula.specs.Limits.{capacity}
-use Rattle.formula.specs.Reply.{Fault, sound, fault, unlessKept}
+use Rattle.formula.specs.Reply.{Fault, no-fault, fault, unlessKept}
 use Rattle.search.specs.declared.Outcome.{Outcome}
 use Rattle.search.specs.Search.{searchReply, searchFault, searchSlots, searchSlice, lentBy}
 use Rattle.search.specs.Contract.{Searched}
@@ -67,7 +67,7 @@ joined-parts (suc k) (x ∷ xs) (n ∷ ns) (d ∷ ds) h₁ h₂ h₃ =
 
 kept-whole : (fl : Fault) (k : ℕ) (new old found : List ℕ) → k ≤ length old → length found ≡ k → found ≡ unlessKept fl (over new (take k old)) (take k old) → over found old ≡ unlessKept fl (over new old) old
 unfolding unlessKept over
-kept-whole sound k new old found h len e =
+kept-whole no-fault k new old found h len e =
     let long : length found ≡ length new + length (drop (length new) (take k old)) = ap length e ∙ length-append new (drop (length new) (take k old)) in
     ap (λ l. over l old) e ∙ over-over k new old (let z : length new ≤ k = omega (arith, long, len) in z) h
 kept-whole (fault code place) k new old found h len e = ap (λ l. over l old) e ∙ front-self k old h

@@ -78,15 +78,15 @@ use Rattle.slot_writer.proofs.write_slots.Code.Mir as mirs
 abbrev stayed : Stays (this.ended .signature .params) (this.ended .kept)
 stayed = (stay-none (λ _. F.the-row) yes, (stay-none-slice (0 ∷ []) tt (plain (λ _. u64)) yes, (stay-none-slice (1 ∷ []) tt (plain (λ _. u64)) yes, (stay-none-slice (2 ∷ []) tt (plain (λ _. R)) yes, (stay-none (λ _. u32) yes, (stay-slice (3 ∷ []) tt (plain (λ _. u8)), tt))))))
 
-module _ {M : Type 1} (𝓤 : URA M) (H : Heap 𝓤) (A : Atoms 𝓤) (W : Given 𝓤 H A) (mem : Memory → SProp 𝓤) (run : Routine → Fun 𝓤) (κ₀ κ₁ κ₂ κ₃ : Lft) (q₀ q₁ q₂ q₃ : Share) (c₀ d₀ c₁ d₁ b o b₃ o₃ : ℕ) (δ₀ δ₁ γ δ₃ : GName) (f : Formula) (us vs : List ℕ) (ys : List Slot) (count : ℕ) (os : List ℕ) where
+module _ {M : Type 1} (𝓤 : URA M) (H : Heap 𝓤) (A : Atoms 𝓤) (W : Given 𝓤 H A) (mem : Memory → SProp 𝓤) (run : Routine → Fun 𝓤) (κ₀ κ₁ κ₂ κ₃ : Lft) (q₀ q₁ q₂ q₃ : Share) (c₀ d₀ c₁ d₁ b o b₃ o₃ : ℕ) (δ₀ δ₁ γ δ₃ : GName) (f : Formula) (us vs : List ℕ) (ys : List Slot) (filled : ℕ) (os : List ℕ) where
   abbrev Arg : Type 0
   Arg = Formula × (RefT (List ℕ) × (RefT (List ℕ) × (RefT (List Slot) × (ℕ × (RefT (List ℕ) × Unit {0})))))
 
   abbrev x : Arg
-  x = (f, (record { ptr = (c₀, d₀); name = δ₀; now = us }, (record { ptr = (c₁, d₁); name = δ₁; now = vs }, (record { ptr = (b, o); name = γ; now = ys }, (count, (record { ptr = (b₃, o₃); name = δ₃; now = os }, tt))))))
+  x = (f, (record { ptr = (c₀, d₀); name = δ₀; now = us }, (record { ptr = (c₁, d₁); name = δ₁; now = vs }, (record { ptr = (b, o); name = γ; now = ys }, (filled, (record { ptr = (b₃, o₃); name = δ₃; now = os }, tt))))))
 
   abbrev at : List Val × (List Val × (List Val × (List Val × (List Val × (List Val × Unit {0})))))
-  at = (formula-val f ∷ [], (sliceVal (c₀, d₀) (length us) ∷ [], (sliceVal (c₁, d₁) (length vs) ∷ [], (sliceVal (b, o) (length ys) ∷ [], (vint w32 count ∷ [], (sliceVal (b₃, o₃) (length os) ∷ [], tt))))))
+  at = (formula-val f ∷ [], (sliceVal (c₀, d₀) (length us) ∷ [], (sliceVal (c₁, d₁) (length vs) ∷ [], (sliceVal (b, o) (length ys) ∷ [], (vint w32 filled ∷ [], (sliceVal (b₃, o₃) (length os) ∷ [], tt))))))
 
   abbrev bound : walkOf 𝓤 H A this.ended stayed (this.clauses 𝓤 H A mem run) .Ghost
   bound = (((κ₀, (κ₁, (κ₂, (κ₃, tt)))), (q₀, (q₁, (q₂, (q₃, tt)))), tt, x, at), tt)
@@ -103,26 +103,26 @@ module _ {M : Type 1} (𝓤 : URA M) (H : Heap 𝓤) (A : Atoms 𝓤) (W : Given
   abbrev lent-slots : Fml
   lent-slots = ShrSlice (named 2) κ₂ R .own (x .1 .1 .1 .0) (at .1 .1 .1 .0)
 
-  module _ (gf : Is F.the-row f (formula-val f ∷ [])) (room₀ : Room u64 (length us)) (room₁ : Room u64 (length vs)) (room : Room R (length ys)) (gc : count < 2 ^ 32) (room₃ : Room u8 (length os)) where
+  module _ (gf : Is F.the-row f (formula-val f ∷ [])) (room₀ : Room u64 (length us)) (room₁ : Room u64 (length vs)) (room : Room R (length ys)) (gc : filled < 2 ^ 32) (room₃ : Room u8 (length os)) where
     abbrev Had : Written → Val → List ℕ → List (Item 𝓤)
     Had r w zs = ‵ (flft κ₀ q₀) ∷ ‵ (flft κ₁ q₁) ∷ ‵ (flft κ₂ q₂) ∷ ‵ (flft κ₃ q₃) ∷ ‵ positive ∷ ‵ negative ∷ ‵ lent-slots ∷ ‵ (fobs δ₃ (codedHoleys u8 .code (heres u8 zs))) ∷ ‵ (fbor κ₃ (Held u8 (length zs) b₃ o₃ δ₃)) ∷ ‵ (O.the-row .own r (w ∷ [])) ∷ []
 
-    exits : (r : Written) (w : Val) (zs : List ℕ) → length zs ≡ length os → Wrote f us vs (pointsIn ys) (falsifiedIn ys) (depthsIn ys) count os r zs → ent 𝓤 (⋆ 𝓤 H A (Had r w zs)) (Post w)
+    exits : (r : Written) (w : Val) (zs : List ℕ) → length zs ≡ length os → Wrote f us vs (pointsIn ys) (falsifiedIn ys) (depthsIn ys) filled os r zs → ent 𝓤 (⋆ 𝓤 H A (Had r w zs)) (Post w)
     exits r w zs same told =
         qed W (Had r w zs) ∵ suffices ! _ (ends-at 𝓤 H A this.ended stayed (this.clauses 𝓤 H A mem run) W bound w r (tt, (tt, (tt, (tt, (tt, (zs, tt)))))) (tt, (tt, (tt, (tt, (tt, (same, tt))))))) $ says ! told $
         nothing ! $ move ! (4 ∷ 0 ∷ []) $ join ! $ move ! (3 ∷ 0 ∷ []) $ join ! $ move ! (2 ∷ 0 ∷ []) $ join ! $ move ! (1 ∷ 0 ∷ []) $ join ! $ frame ! $
         -- [positive; negative; slots; out's obs and borrow; the result]
-        nothing ! $ move ! (4 ∷ 5 ∷ []) $ mut-again ! u8 (named 3) b₃ o₃ (length os) zs same room₃ $ fjoin ! $ owned ! u32 (Is u32) (uint-makes 𝓤 H A W w32) count (vint w32 count ∷ []) (refl, gc) $ fjoin ! $
+        nothing ! $ move ! (4 ∷ 5 ∷ []) $ mut-again ! u8 (named 3) b₃ o₃ (length os) zs same room₃ $ fjoin ! $ owned ! u32 (Is u32) (uint-makes 𝓤 H A W w32) filled (vint w32 filled ∷ []) (refl, gc) $ fjoin ! $
         move ! (3 ∷ 0 ∷ []) $ fjoin ! $ move ! (2 ∷ 0 ∷ []) $ fjoin ! $ move ! (1 ∷ 0 ∷ []) $ fjoin ! $
         owned ! F.the-row (Is F.the-row) (LL.makes F.the-type F′.the-plain 𝓤 H A) f (formula-val f ∷ []) gf $ fjoin ! $ frame ! $ done !
 
     module _ (C : Calls 𝓤 H) (Λ : Loops 𝓤 H) (fm : FmC 𝓤 H (W .laws) C) (known₀ : Triple 𝓤 (C #point-slices·least) (Least 𝓤 H A mem run)) (known₁ : Triple 𝓤 (C #slot-columns·copy-out) (CopyOut 𝓤 H A mem run))
         (known₂ : Triple 𝓤 (C #slot-prefixes·write-front) (WriteFront 𝓤 H A mem run)) where
       walk : ent 𝓤 (onEntry 𝓤 H A this.signature (κ₀, (κ₁, (κ₂, (κ₃, tt)))) (q₀, (q₁, (q₂, (q₃, tt)))) x at)
-          (WpFn 𝓤 H C Λ code.function (formula-val f ∷ sliceVal (c₀, d₀) (length us) ∷ sliceVal (c₁, d₁) (length vs) ∷ sliceVal (b, o) (length ys) ∷ vint w32 count ∷ sliceVal (b₃, o₃) (length os) ∷ []) Post)
+          (WpFn 𝓤 H C Λ code.function (formula-val f ∷ sliceVal (c₀, d₀) (length us) ∷ sliceVal (c₁, d₁) (length vs) ∷ sliceVal (b, o) (length ys) ∷ vint w32 filled ∷ sliceVal (b₃, o₃) (length os) ∷ []) Post)
       walk =
           qed W ((‵ (flft κ₀ q₀) ⊛ (‵ (flft κ₁ q₁) ⊛ (‵ (flft κ₂ q₂) ⊛ (‵ (flft κ₃ q₃) ⊛ ‵ ftrue)))) ∷ ‵ (owns (F.the-row ∷ ShrSlice (named 0) κ₀ u64 ∷ ShrSlice (named 1) κ₁ u64 ∷ ShrSlice (named 2) κ₂ R ∷ u32 ∷ MutSlice (named 3) κ₃ u8 ∷ []) x at) ∷ []) ∵
-          enter ! C Λ code.function (formula-val f ∷ sliceVal (c₀, d₀) (length us) ∷ sliceVal (c₁, d₁) (length vs) ∷ sliceVal (b, o) (length ys) ∷ vint w32 count ∷ sliceVal (b₃, o₃) (length os) ∷ []) _ $
+          enter ! C Λ code.function (formula-val f ∷ sliceVal (c₀, d₀) (length us) ∷ sliceVal (c₁, d₁) (length vs) ∷ sliceVal (b, o) (length ys) ∷ vint w32 filled ∷ sliceVal (b₃, o₃) (length os) ∷ []) _ $
           alloc1 ! (λ l₀. alloc1 ! (λ l₁. alloc1 ! (λ l₂. alloc1 ! (λ l₃. alloc1 ! (λ l₄. alloc1 ! (λ l₅. alloc1 ! (λ l₆. alloc1 ! (λ l₇. alloc1 ! (λ l₈. alloc1 ! (λ l₉. alloc1 ! (λ l₁₀. alloc1 ! (λ l₁₁. alloc1 ! (λ l₁₂. alloc1 ! (λ l₁₃.
           alloc1 ! (λ l₁₄. alloc1 ! (λ l₁₅. alloc1 ! (λ l₁₆. alloc1 ! (λ l₁₇. alloc1 ! (λ l₁₈. alloc1 ! (λ l₁₉. alloc1 ! (λ l₂₀. alloc1 ! (λ l₂₁. alloc1 ! (λ l₂₂. alloc1 ! (λ l₂₃. alloc1 ! (λ l₂₄. alloc1 ! (λ l₂₅. alloc1 ! (λ l₂₆.
           alloc0 ! $ params1 ! $ pass1 ! (init ! 50 refl (formula-typed 𝓤 H A W f gf)) $ pass1 ! (init ! 48 refl (tt, (tt, (record { fits = room₀ .0 }, tt)))) $ pass1 ! (init ! 46 refl (tt, (tt, (record { fits = room₁ .0 }, tt)))) $
@@ -168,9 +168,9 @@ module _ {M : Type 1} (𝓤 : URA M) (H : Heap 𝓤) (A : Atoms 𝓤) (W : Given
           share ! tt u64 (named 2) 65536 (P ys ps) l₇ 0 (long₁ ys ps e₁) (room64 (P ys ps) (long₁ ys ps e₁)) (λ ν₄ γ₄. move ! (8 ∷ []) $ share ! tt u32 (named 3) 65536 (N ys fs) l₈ 0 (long₂ ys fs e₂) (room32 (N ys fs) (long₂ ys fs e₂)) (λ ν₅ γ₅. move ! (10 ∷ []) $
           share ! tt u32 (named 4) 65536 (D ys ds) l₉ 0 (long₃ ys ds e₃) (room32 (D ys ds) (long₃ ys ds e₃)) (λ ν₆ γ₆. move ! (15 ∷ []) $ lend ! tt u8 (named 5) (length os) os b₃ o₃ refl room₃ (λ ν₇ γ₇.
           move ! (15 ∷ 22 ∷ 13 ∷ 21 ∷ 9 ∷ 10 ∷ 6 ∷ 7 ∷ 3 ∷ 4 ∷ 0 ∷ 1 ∷ []) $
-          Front.asks f us vs κ₀ κ₁ q₀ q₁ c₀ d₀ c₁ d₁ δ₀ δ₁ l₇ 0 l₈ 0 l₉ 0 γ₄ γ₅ γ₆ (P ys ps) (N ys fs) (D ys ds) (k ys) 65536 ν₄ ν₅ ν₆ count b₃ o₃ γ₇ os ν₇ 𝓤 H A mem run W ! gf (gk ys) gc (fronts-in ys (P ys ps) (N ys fs) (D ys ds) (long₁ ys ps e₁) (long₂ ys fs e₂) (long₃ ys ds e₃)) $
-          calls-at ! fm (WriteFront 𝓤 H A mem run) known₂ (Front.bound f us vs κ₀ κ₁ q₀ q₁ c₀ d₀ c₁ d₁ δ₀ δ₁ l₇ 0 l₈ 0 l₉ 0 γ₄ γ₅ γ₆ (P ys ps) (N ys fs) (D ys ds) (k ys) 65536 ν₄ ν₅ ν₆ count b₃ o₃ γ₇ os ν₇ 𝓤 H A mem run) (and-then ! (load ! (from ! (stop !)) (look ! 59 refl)) (and-then ! (load ! (from ! (stop !)) (look ! 57 refl)) (and-then ! (load ! (from ! (stop !)) (look ! 55 refl)) (and-then ! (load ! (from ! (stop !)) (look ! 24 refl)) (and-then ! (load ! (from ! (stop !)) (look ! 20 refl)) (and-then ! (load ! (from ! (stop !)) (look ! 16 refl)) (and-then ! (load ! (from ! (stop !)) (look ! 44 refl)) (and-then ! (load ! (from ! (stop !)) (look ! 51 refl)) (and-then ! (load ! (from ! (stop !)) (look ! 12 refl)) (no-more !)))))))))) (λ w₂.
-          Front.has f us vs κ₀ κ₁ q₀ q₁ c₀ d₀ c₁ d₁ δ₀ δ₁ l₇ 0 l₈ 0 l₉ 0 γ₄ γ₅ γ₆ (P ys ps) (N ys fs) (D ys ds) (k ys) 65536 ν₄ ν₅ ν₆ count b₃ o₃ γ₇ os ν₇ 𝓤 H A mem run W ! tt w₂ (λ r os′ same told. move ! (7 ∷ []) $
+          Front.asks f us vs κ₀ κ₁ q₀ q₁ c₀ d₀ c₁ d₁ δ₀ δ₁ l₇ 0 l₈ 0 l₉ 0 γ₄ γ₅ γ₆ (P ys ps) (N ys fs) (D ys ds) (k ys) 65536 ν₄ ν₅ ν₆ filled b₃ o₃ γ₇ os ν₇ 𝓤 H A mem run W ! gf (gk ys) gc (fronts-in ys (P ys ps) (N ys fs) (D ys ds) (long₁ ys ps e₁) (long₂ ys fs e₂) (long₃ ys ds e₃)) $
+          calls-at ! fm (WriteFront 𝓤 H A mem run) known₂ (Front.bound f us vs κ₀ κ₁ q₀ q₁ c₀ d₀ c₁ d₁ δ₀ δ₁ l₇ 0 l₈ 0 l₉ 0 γ₄ γ₅ γ₆ (P ys ps) (N ys fs) (D ys ds) (k ys) 65536 ν₄ ν₅ ν₆ filled b₃ o₃ γ₇ os ν₇ 𝓤 H A mem run) (and-then ! (load ! (from ! (stop !)) (look ! 59 refl)) (and-then ! (load ! (from ! (stop !)) (look ! 57 refl)) (and-then ! (load ! (from ! (stop !)) (look ! 55 refl)) (and-then ! (load ! (from ! (stop !)) (look ! 24 refl)) (and-then ! (load ! (from ! (stop !)) (look ! 20 refl)) (and-then ! (load ! (from ! (stop !)) (look ! 16 refl)) (and-then ! (load ! (from ! (stop !)) (look ! 44 refl)) (and-then ! (load ! (from ! (stop !)) (look ! 51 refl)) (and-then ! (load ! (from ! (stop !)) (look ! 12 refl)) (no-more !)))))))))) (λ w₂.
+          Front.has f us vs κ₀ κ₁ q₀ q₁ c₀ d₀ c₁ d₁ δ₀ δ₁ l₇ 0 l₈ 0 l₉ 0 γ₄ γ₅ γ₆ (P ys ps) (N ys fs) (D ys ds) (k ys) 65536 ν₄ ν₅ ν₆ filled b₃ o₃ γ₇ os ν₇ 𝓤 H A mem run W ! tt w₂ (λ r os′ same told. move ! (7 ∷ []) $
           peeks ! O.the-row (Is O.the-row) (shows 𝓤 H A O.the-row) r (w₂ ∷ []) (λ iso. land ! (from ! (stop !)) (init ! 68 refl (written-typed 𝓤 H A W r w₂ iso)) $ move ! (3 ∷ 11 ∷ []) $ unshare ! tt u64 (P ys ps) l₇ 0 $ move ! (4 ∷ 10 ∷ []) $
           unshare ! tt u32 (N ys fs) l₈ 0 $ move ! (5 ∷ 9 ∷ []) $ unshare ! tt u32 (D ys ds) l₉ 0 $ move ! (6 ∷ 8 ∷ 7 ∷ []) $ unlend ! tt u8 os′ b₃ o₃ $
           -- the output's borrow is closed, and the locals are given up
@@ -180,7 +180,7 @@ module _ {M : Type 1} (𝓤 : URA M) (H : Heap 𝓤) (A : Atoms 𝓤) (W : Given
           forget ! 19 refl $ forget ! 17 refl $ forget ! 15 refl $ forget ! 13 refl $ move ! (62 ∷ 63 ∷ 60 ∷ 61 ∷ 58 ∷ 59 ∷ 56 ∷ 57 ∷ 54 ∷ 55 ∷ 52 ∷ 53 ∷ 50 ∷ 51 ∷ 2 ∷ 49 ∷ 1 ∷ 48 ∷ 0 ∷ 47 ∷ 45 ∷ 46 ∷ 43 ∷ 44 ∷ 41 ∷ 42 ∷ 39 ∷ 40 ∷ 37 ∷ 38 ∷ 35 ∷ 36 ∷ 33 ∷ 34 ∷ 31 ∷ 32 ∷ 29 ∷ 30 ∷ 27 ∷ 28 ∷ 25 ∷ 26 ∷ 23 ∷ 24 ∷ 21 ∷ 22 ∷ 19 ∷ 20 ∷ 17 ∷ 18 ∷ 15 ∷ 16 ∷ 13 ∷ 14 ∷ []) $
           free-all ! (placed mirs.locals (l₀ ∷ l₁ ∷ l₂ ∷ l₃ ∷ l₄ ∷ l₅ ∷ l₆ ∷ l₇ ∷ l₈ ∷ l₉ ∷ l₁₀ ∷ l₁₁ ∷ l₁₂ ∷ l₁₃ ∷ l₁₄ ∷ l₁₅ ∷ l₁₆ ∷ l₁₇ ∷ l₁₈ ∷ l₁₉ ∷ l₂₀ ∷ l₂₁ ∷ l₂₂ ∷ l₂₃ ∷ l₂₄ ∷ l₂₅ ∷ l₂₆ ∷ [])) (
           keep ! (4 ∷ 5 ∷ 8 ∷ 2 ∷ 7 ∷ 6 ∷ 9 ∷ 0 ∷ 1 ∷ 3 ∷ []) $
-          by ! (exits r w₂ os′ same (wrote-whole f us vs ys (k ys) refl count os ps fs ds r os′ told))))))))))))))))))))))))))))))))))))))))))))))))))
+          by ! (exits r w₂ os′ same (wrote-whole f us vs ys (k ys) refl filled os ps fs ds r os′ told))))))))))))))))))))))))))))))))))))))))))))))))))
 
 module _ {M : Type 1} (𝓤 : URA M) (H : Heap 𝓤) (A : Atoms 𝓤) (W : Given 𝓤 H A) (mem : Memory → SProp 𝓤) (run : Routine → Fun 𝓤) (𝓣 : Tables 𝓤 H) (known₀ : Triple 𝓤 (𝓣 .C #point-slices·least) (Least 𝓤 H A mem run)) (known₁ : Triple 𝓤 (𝓣 .C #slot-columns·copy-out) (CopyOut 𝓤 H A mem run))
     (known₂ : Triple 𝓤 (𝓣 .C #slot-prefixes·write-front) (WriteFront 𝓤 H A mem run)) where

@@ -1,7 +1,7 @@
 -- `solver::certify` meets its contract: what the writer puts out is accepted, and it refuses for want of room alone. Assumes nothing.
 use mathlib.Core.Path.{sym, ap, _∙_}
 use borrow.Author.Needs.{needs}
-use Rattle.certificate_writer.specs.Contract.{replyOf}
+use Rattle.certificate_writer.specs.Contract.{replyOfWritten}
 use Rattle.solver.specs.Laws.SolverLaws.{acceptable, certifies, uncertifies}
 use Rattle.solver.proofs.certify.Statement.{statement}
 use Rattle.solver.proofs.certify.Tie as tie
@@ -10,22 +10,22 @@ write-requires : tie.Need-write-requires
 write-requires c κs = search needs
 
 confirm-requires : tie.Need-confirm-requires
-unfolding replyOf
+unfolding replyOfWritten
 confirm-requires c κs =
     let wrote = c .before .before .before .before .before .before .write in
-    acceptable _ _ _ _ _ _ _ (c .before .before .before .before .before .before .before .before .before .before .before .before .before .before .pre) _ _ (wrote .ensures .output) (wrote .kept .1 .1 .1 .1 .1 .1 .1 .0) _ (ap replyOf (sym (c .before .before .written .given .1)) ∙ wrote .ensures .reply)
+    acceptable _ _ _ _ _ _ _ (c .before .before .before .before .before .before .before .before .before .before .before .before .before .before .pre) _ _ (wrote .ensures .output) (wrote .kept .1 .1 .1 .1 .1 .1 .1 .0) _ (ap replyOfWritten (sym (c .before .before .written .given .1)) ∙ wrote .ensures .reply)
 
 returns : tie.Need-returns
-unfolding replyOf
+unfolding replyOfWritten
 returns c =
     let wrote = c .before .before .before .before .before .before .before .write in
-    certifies _ _ _ _ _ _ _ (c .before .before .before .before .before .before .before .before .before .before .before .before .before .before .before .pre) _ _ (wrote .ensures .output) _ _ (c .confirm .ensures) (ap replyOf (sym (c .before .before .before .written .given .1)) ∙ wrote .ensures .reply)
+    certifies _ _ _ _ _ _ _ (c .before .before .before .before .before .before .before .before .before .before .before .before .before .before .before .pre) _ _ (wrote .ensures .output) _ _ (c .confirm .ensures) (ap replyOfWritten (sym (c .before .before .before .written .given .1)) ∙ wrote .ensures .reply)
 
 returns-2 : tie.Need-returns-2
-unfolding replyOf
+unfolding replyOfWritten
 returns-2 c =
     let wrote = c .before .before .before .before .before .write in
-    uncertifies _ _ _ _ _ _ _ (c .before .before .before .before .before .before .before .before .before .before .before .before .before .pre) _ _ (wrote .ensures .output) _ _ (ap replyOf (sym (c .before .written2 .given .1)) ∙ wrote .ensures .reply)
+    uncertifies _ _ _ _ _ _ _ (c .before .before .before .before .before .before .before .before .before .before .before .before .before .pre) _ _ (wrote .ensures .output) _ _ (ap replyOfWritten (sym (c .before .written2 .given .1)) ∙ wrote .ensures .reply)
 
 pub certify-spec : {M : Type 1} → statement M
 certify-spec =

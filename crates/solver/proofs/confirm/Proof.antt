@@ -6,7 +6,7 @@ use lib.ListN.{take}
 use borrow.Author.Needs.{needs}
 use Rattle.formula.specs.Laws.ReplyLaws.{accepted-not-refused}
 use Rattle.checker.specs.Checker.{checkReply}
-use Rattle.checker.specs.Contract.{replyOf}
+use Rattle.checker.specs.Contract.{replyOfVerdict}
 use Rattle.solver.proofs.confirm.Statement.{statement}
 use Rattle.solver.proofs.confirm.Tie as tie
 
@@ -14,11 +14,11 @@ check-requires : tie.Need-check-requires
 check-requires c κs = search needs
 
 returns-2 : tie.Need-returns-2
-unfolding replyOf
+unfolding replyOfVerdict
 returns-2 c =
     let a = c .before .before .before .before .before .before .before .before .args in
     absurd (accepted-not-refused _ _ (sym (c .before .before .before .before .before .before .before .before .pre .1) ∙ ap (λ (k : ℕ). checkReply (a .f) (a .positive .now) (a .negative .now) (take k (a .file .now))) (sym (sub-zero (a .size)))
-    ∙ sym (c .before .before .before .check .ensures .reply) ∙ ap replyOf (c .before .verdict .given .1)))
+    ∙ sym (c .before .before .before .check .ensures .reply) ∙ ap replyOfVerdict (c .before .verdict .given .1)))
 
 pub confirm-spec : {M : Type 1} → statement M
 confirm-spec =

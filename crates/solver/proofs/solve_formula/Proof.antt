@@ -1,7 +1,7 @@
 -- `solver::solve_formula` meets its contract: what the search answers and, where it refutes, what the certificate is. Assumes nothing.
 use mathlib.Core.Path.{refl}
 use borrow.Author.Needs.{needs}
-use Rattle.solver.specs.Contract.{toldBy}
+use Rattle.solver.specs.Contract.{replyOfSolution}
 use Rattle.solver.specs.Laws.SolverLaws.{solves, refuted, solves-refuted, satisfiable-differs, unknown-differs, refusal-differs}
 use Rattle.solver.proofs.solve_formula.Statement.{statement}
 use Rattle.solver.proofs.solve_formula.Tie as tie
@@ -13,7 +13,7 @@ certify-requires : tie.Need-certify-requires
 certify-requires c κs = refuted _ _ _ _ _ _ _ _ (c .before .before .before .before .before .before .before .before .before .before .before .before .before .search .ensures) _ (c .before .before .before .before .before .outcome2 .given .1)
 
 returns : tie.Need-returns
-unfolding toldBy
+unfolding replyOfSolution
 returns c = solves _ _ _ _ _ _ _ _ _ (c .before .before .before .before .before .before .before .before .before .search .ensures) _ _ (c .before .outcome .given .1) refl refl satisfiable-differs
 
 returns-2 : tie.Need-returns-2
@@ -21,11 +21,11 @@ returns-2 c =
     solves-refuted _ _ _ _ _ _ _ _ _ (c .before .before .before .before .before .before .before .before .before .before .before .before .before .before .before .before .search .ensures) _ (c .before .before .before .before .before .before .before .before .outcome2 .given .1) _ _ (c .before .before .certify .ensures)
 
 returns-3 : tie.Need-returns-3
-unfolding toldBy
+unfolding replyOfSolution
 returns-3 c = solves _ _ _ _ _ _ _ _ _ (c .before .before .before .before .before .before .before .before .before .search .ensures) _ _ (c .before .outcome3 .given .1) refl refl unknown-differs
 
 returns-4 : tie.Need-returns-4
-unfolding toldBy
+unfolding replyOfSolution
 returns-4 c = solves _ _ _ _ _ _ _ _ _ (c .before .before .before .before .before .before .before .before .before .search .ensures) _ _ (c .before .outcome4 .given .1) refl refl refusal-differs
 
 pub solve-formula-spec : {M : Type 1} → statement M

@@ -17,17 +17,17 @@ use Rattle.dimacs_format.specs.Input.{Input}
 use Rattle.dimacs_format.specs.Reader.{Step, goes, refuses, replyTo, reading, readReply, readFormula, readPositive, readNegative}
 use Rattle.search_theory.specs.Walk.{Slot}
 use Rattle.search.specs.Search.{searchReply, searchSlice}
-use Rattle.search.specs.Contract.{replyOf, Searched}
+use Rattle.search.specs.Contract.{replyOfOutcome, Searched}
 use Rattle.search.specs.declared.Outcome.{Outcome}
 use Rattle.search.specs.declared.Outcome.the-variants.{Unsatisfiable}
 use Rattle.certificate.specs.Writer.{lengthNeeded, writeReply, writeOutput}
 use Rattle.checker.specs.Checker.{checkReply}
-use Rattle.claims.specs.Claim.{Sheet, from-text, by-value, formulaIn, positiveIn, negativeIn, problemIn, Slots, lent, Answered, writerReply, writerOutput, Certified}
+use Rattle.claims.specs.Claim.{Sheet, from-text, by-value, formulaIn, positiveIn, negativeIn, problemIn, Slots, lent, SearchAnswers, writerReply, writerOutput, Certified}
 use Rattle.claims.specs.Laws.Theorem.{claim}
 use Rattle.solver.specs.declared.Solution.{Solution}
 use Rattle.solver.specs.declared.Solution.the-variants.{Uncertified, Refused}
 use Rattle.solver.specs.Solver.{afterReading, sheetReply, sheetSlice, onRefutation, certificateReply, certificateOutput}
-use Rattle.solver.specs.Contract.{Told, toldBy, Promises, Solved}
+use Rattle.solver.specs.Contract.{SolverReply, replyOfSolution, Promises, Solved}
 use Rattle.solver.specs.Laws.Steps.{unsatisfiableWith, Refuted, Certifies}
 
 -- ---- replies that are no refusal
@@ -62,7 +62,7 @@ unfolding replyTo afterReading
 read-then (goes d) new a e ok = (refl, e)
 read-then (refuses code place) new a e ok = absurd (ok code place (sym e))
 
-answered : (s : Sheet) (l : Slots) (a : Reply) → sheetReply s (lent l) ≡ a → NoRefusal a → Answered s l a
+answered : (s : Sheet) (l : Slots) (a : Reply) → sheetReply s (lent l) ≡ a → NoRefusal a → SearchAnswers s l a
 unfolding sheetReply readReply
 answered (from-text text p q) l a e ok =
     let w = read-then (reading text (length p) (length q)) (searchReply (formulaIn (from-text text p q)) (positiveIn (from-text text p q)) (negativeIn (from-text text p q)) (lent l)) a e ok in
@@ -82,7 +82,7 @@ refuted-of (written size) w c e = let z : _≡_ {A = ℕ} 0 1 = cc in absurd (om
 refuted-of opened w c e = let z : _≡_ {A = ℕ} 0 1 = cc in absurd (omega arith)
 refuted-of accepted w c e = let z : _≡_ {A = ℕ} 0 1 = cc in absurd (omega arith)
 
-module _ (s : Sheet) (l : Slots) (k : ℕ) (a : Answered s l (unsatisfiable k)) (out : List ℕ) where
+module _ (s : Sheet) (l : Slots) (k : ℕ) (a : SearchAnswers s l (unsatisfiable k)) (out : List ℕ) where
   abbrev needed : ℕ
   needed = lengthNeeded (problemIn s) k
 
@@ -119,13 +119,13 @@ module _ (s : Sheet) (l : Slots) (k : ℕ) (a : Answered s l (unsatisfiable k)) 
 
 -- ---- the claim's sentences, about what is told
 
-module _ (s : Sheet) (l : Slots) (t : Told) (out₀ out₁ : List ℕ) (reply : t .reply ≡ sheetReply s (lent l)) (certificate : t .certificate ≡ certificateReply s l out₀)
+module _ (s : Sheet) (l : Slots) (t : SolverReply) (out₀ out₁ : List ℕ) (reply : t .reply ≡ sheetReply s (lent l)) (certificate : t .certificate ≡ certificateReply s l out₀)
     (output : out₁ ≡ certificateOutput s l out₀) where
-  answers : (a : Reply) → t .reply ≡ a → NoRefusal a → Answered s l a
+  answers : (a : Reply) → t .reply ≡ a → NoRefusal a → SearchAnswers s l a
   answers a e ok = answered s l a (sym reply ∙ e) ok
 
   -- where a reply on the certificate is told, the sheet cannot be met, and the output is the writer's
-  told : (c : Reply) → t .certificate ≡ some c → (k : ℕ) × Answered s l (unsatisfiable k) × (writerReply s l k out₀ ≡ c) × (out₁ ≡ writerOutput s l k out₀)
+  told : (c : Reply) → t .certificate ≡ some c → (k : ℕ) × SearchAnswers s l (unsatisfiable k) × (writerReply s l k out₀ ≡ c) × (out₁ ≡ writerOutput s l k out₀)
   unfolding certificateReply certificateOutput
   told c e =
       let w = refuted-of (sheetReply s (lent l)) (λ k. writerReply s l k out₀) c (sym certificate ∙ e) in (
@@ -152,7 +152,7 @@ module _ (s : Sheet) (l : Slots) (t : Told) (out₀ out₁ : List ℕ) (reply : 
             (c .0, c .1, w .3 ∙ c .2);
         refutes = claim .refutes (formulaIn s) (positiveIn s) (negativeIn s);
         bound = λ b k e. claim .bound s l b k (answers (unknown b k) e unknown-stands);
-        roomy = λ b k few p q r e. claim .roomy s l b k few p q r (answers (unknown b k) e unknown-stands);
+        enough-room = λ b k few p q r e. claim .enough-room s l b k few p q r (answers (unknown b k) e unknown-stands);
       }
 
 -- ---- the certificate of the slots that a search left
@@ -161,7 +161,7 @@ module _ (f : Formula) (positive negative points falsified depths : List ℕ) (k
   abbrev sheet : Sheet
   sheet = by-value f positive negative
 
-  answer : Answered sheet (ok .slots) (unsatisfiable k)
+  answer : SearchAnswers sheet (ok .slots) (unsatisfiable k)
   answer = record { readable = tt; reply = ok .reply; accepted = unsatisfiable-stands }
 
   same-reply : writeReply f positive negative points falsified depths k out ≡ writerReply sheet (ok .slots) k out
@@ -180,13 +180,13 @@ module _ (f : Formula) (positive negative points falsified depths : List ℕ) (k
 
     pub certifies : (size : ℕ) (r : Solution) → r ≡ unsatisfiableWith k size → written size ≡ writeReply f positive negative points falsified depths k out
         → Certifies f positive negative points falsified depths k out r after
-    unfolding toldBy
+    unfolding replyOfSolution
     certifies size r e w =
-        record { reply = ap (λ (x : Solution). toldBy x .reply) e; certificate = ap (λ (x : Solution). toldBy x .certificate) e ∙ ap some w; output = output }
+        record { reply = ap (λ (x : Solution). replyOfSolution x .reply) e; certificate = ap (λ (x : Solution). replyOfSolution x .certificate) e ∙ ap some w; output = output }
 
     pub uncertifies : (code place : ℕ) → refused code place ≡ writeReply f positive negative points falsified depths k out
         → Certifies f positive negative points falsified depths k out (Uncertified k place) after
-    unfolding toldBy
+    unfolding replyOfSolution
     uncertifies code place w =
         let short = refused-short sheet (ok .slots) k answer out code place (sym (w ∙ same-reply)) in
         record { reply = refl; certificate = ap (λ (c : ℕ). some (refused c place)) (sym (short .0)) ∙ ap some w; output = output }
@@ -207,23 +207,23 @@ kept-of accepted kept new ne = refl
 
 -- a search that refutes leaves slots of which a certificate can be written
 pub refuted : (f : Formula) (positive negative : List ℕ) (l : Slots) (outcome : Outcome) (points₁ falsified₁ depths₁ : List ℕ)
-    → Searched f positive negative (l .points) (l .numbers) (l .depths) outcome points₁ falsified₁ depths₁ → (k : ℕ) → outcome ≡ Unsatisfiable k
+    → Searched f positive negative (l .points) (l .falsified) (l .depths) outcome points₁ falsified₁ depths₁ → (k : ℕ) → outcome ≡ Unsatisfiable k
     → Refuted f positive negative points₁ falsified₁ depths₁ k
 refuted f positive negative l outcome points₁ falsified₁ depths₁ call k e =
     record {
       slots = l;
-      reply = sym (call .reply) ∙ ap replyOf e;
+      reply = sym (call .reply) ∙ ap replyOfOutcome e;
       left-points = call .points;
       left-falsified = call .falsified;
       left-depths = call .depths;
     }
 
 module _ (f : Formula) (positive negative : List ℕ) (l : Slots) (out : List ℕ) (outcome : Outcome) (points₁ falsified₁ depths₁ : List ℕ)
-    (call : Searched f positive negative (l .points) (l .numbers) (l .depths) outcome points₁ falsified₁ depths₁) where
+    (call : Searched f positive negative (l .points) (l .falsified) (l .depths) outcome points₁ falsified₁ depths₁) where
   abbrev by-value-sheet : Sheet
   by-value-sheet = by-value f positive negative
 
-  reply-is : sheetReply by-value-sheet (lent l) ≡ replyOf outcome
+  reply-is : sheetReply by-value-sheet (lent l) ≡ replyOfOutcome outcome
   unfolding sheetReply
   reply-is = sym (call .reply)
 
@@ -232,11 +232,11 @@ module _ (f : Formula) (positive negative : List ℕ) (l : Slots) (out : List �
   slice-is part old = refl
 
   -- a search that refutes nothing leaves the output
-  pub solves : (r : Solution) (q : Outcome) → outcome ≡ q → toldBy r .reply ≡ replyOf q → toldBy r .certificate ≡ none → ((k : ℕ) → replyOf q ≡ unsatisfiable k → ⊥)
+  pub solves : (r : Solution) (q : Outcome) → outcome ≡ q → replyOfSolution r .reply ≡ replyOfOutcome q → replyOfSolution r .certificate ≡ none → ((k : ℕ) → replyOfOutcome q ≡ unsatisfiable k → ⊥)
       → Solved by-value-sheet l out r points₁ falsified₁ depths₁ out
   unfolding certificateReply certificateOutput
   solves r q same e n ne =
-      let said : sheetReply by-value-sheet (lent l) ≡ replyOf q = reply-is ∙ ap replyOf same in
+      let said : sheetReply by-value-sheet (lent l) ≡ replyOfOutcome q = reply-is ∙ ap replyOfOutcome same in
       let reply = e ∙ sym said in
       let known : (k : ℕ) → sheetReply by-value-sheet (lent l) ≡ unsatisfiable k → ⊥ = λ k h. ne k (sym said ∙ h) in
       let certificate = n ∙ sym (kept-of (sheetReply by-value-sheet (lent l)) none (λ k. some (writerReply by-value-sheet l k out)) known) in
@@ -245,10 +245,10 @@ module _ (f : Formula) (positive negative : List ℕ) (l : Slots) (out : List �
         reply = reply;
         certificate = certificate;
         points = call .points ∙ slice-is (λ (t : Slot). t .point) (l .points);
-        falsified = call .falsified ∙ slice-is (λ (t : Slot). t .falsified) (l .numbers);
+        falsified = call .falsified ∙ slice-is (λ (t : Slot). t .falsified) (l .falsified);
         depths = call .depths ∙ slice-is (λ (t : Slot). t .depth) (l .depths);
         output = output;
-        promises = promised by-value-sheet l (toldBy r) out out reply certificate output;
+        promises = promised by-value-sheet l (replyOfSolution r) out out reply certificate output;
       }
 
   module _ (k : ℕ) (refutation : outcome ≡ Unsatisfiable k) where
@@ -258,9 +258,9 @@ module _ (f : Formula) (positive negative : List ℕ) (l : Slots) (out : List �
     pub solves-refuted : (r : Solution) (out₁ : List ℕ) → Certifies f positive negative points₁ falsified₁ depths₁ k out r out₁ → Solved by-value-sheet l out r points₁ falsified₁ depths₁ out₁
     unfolding certificateReply certificateOutput refuted
     solves-refuted r out₁ c =
-        let now-refuted : sheetReply by-value-sheet (lent l) ≡ unsatisfiable k = reply-is ∙ ap replyOf refutation in
+        let now-refuted : sheetReply by-value-sheet (lent l) ≡ unsatisfiable k = reply-is ∙ ap replyOfOutcome refutation in
         let reply = c .reply ∙ sym now-refuted in
-        let certificate : toldBy r .certificate ≡ certificateReply by-value-sheet l out =
+        let certificate : replyOfSolution r .certificate ≡ certificateReply by-value-sheet l out =
         c .certificate ∙ ap some (same-reply f positive negative points₁ falsified₁ depths₁ k slots-refuted out) ∙ ap (λ (a : Reply). onRefutation a none (λ k. some (writerReply by-value-sheet l k out))) (sym now-refuted) in
         let output : out₁ ≡ certificateOutput by-value-sheet l out =
         c .output ∙ same-output f positive negative points₁ falsified₁ depths₁ k slots-refuted out ∙ ap (λ (a : Reply). onRefutation a out (λ k. writerOutput by-value-sheet l k out)) (sym now-refuted) in
@@ -268,10 +268,10 @@ module _ (f : Formula) (positive negative : List ℕ) (l : Slots) (out : List �
           reply = reply;
           certificate = certificate;
           points = call .points ∙ slice-is (λ (t : Slot). t .point) (l .points);
-          falsified = call .falsified ∙ slice-is (λ (t : Slot). t .falsified) (l .numbers);
+          falsified = call .falsified ∙ slice-is (λ (t : Slot). t .falsified) (l .falsified);
           depths = call .depths ∙ slice-is (λ (t : Slot). t .depth) (l .depths);
           output = output;
-          promises = promised by-value-sheet l (toldBy r) out out₁ reply certificate output;
+          promises = promised by-value-sheet l (replyOfSolution r) out out₁ reply certificate output;
         }
 
 -- ---- a text
@@ -282,8 +282,8 @@ module _ (text positive negative : List ℕ) (l : Slots) (out : List ℕ) where
 
   -- a text that is refused leaves everything
   pub solves-refused : (code place : ℕ) → refused code place ≡ readReply text positive negative
-      → Solved read-sheet l out (Refused code place) (l .points) (l .numbers) (l .depths) out
-  unfolding toldBy sheetReply sheetSlice certificateReply certificateOutput
+      → Solved read-sheet l out (Refused code place) (l .points) (l .falsified) (l .depths) out
+  unfolding replyOfSolution sheetReply sheetSlice certificateReply certificateOutput
   solves-refused code place e =
       let reply : refused code place ≡ sheetReply read-sheet (lent l) =
       ap (λ (a : Reply). afterReading a a (searchReply (formulaIn read-sheet) (positiveIn read-sheet) (negativeIn read-sheet) (lent l))) e in
@@ -295,10 +295,10 @@ module _ (text positive negative : List ℕ) (l : Slots) (out : List ℕ) where
         reply = reply;
         certificate = certificate;
         points = slice (λ (t : Slot). t .point) (l .points);
-        falsified = slice (λ (t : Slot). t .falsified) (l .numbers);
+        falsified = slice (λ (t : Slot). t .falsified) (l .falsified);
         depths = slice (λ (t : Slot). t .depth) (l .depths);
         output = output;
-        promises = promised read-sheet l (toldBy (Refused code place)) out out reply certificate output;
+        promises = promised read-sheet l (replyOfSolution (Refused code place)) out out reply certificate output;
       }
 
   -- the formula and the clauses that a text yields are solved as the text is
@@ -318,16 +318,16 @@ module _ (text positive negative : List ℕ) (l : Slots) (out : List ℕ) where
     unfolding certificateReply certificateOutput
     as-read v =
         let reply = v .reply ∙ same-answer in
-        let certificate : toldBy r .certificate ≡ certificateReply read-sheet l out = v .certificate ∙ ap (λ (a : Reply). onRefutation a none (λ k. some (writerReply read-sheet l k out))) same-answer in
+        let certificate : replyOfSolution r .certificate ≡ certificateReply read-sheet l out = v .certificate ∙ ap (λ (a : Reply). onRefutation a none (λ k. some (writerReply read-sheet l k out))) same-answer in
         let output : out₁ ≡ certificateOutput read-sheet l out = v .output ∙ ap (λ (a : Reply). onRefutation a out (λ k. writerOutput read-sheet l k out)) same-answer in
         record {
           reply = reply;
           certificate = certificate;
           points = v .points ∙ same-slice (λ (t : Slot). t .point) (l .points);
-          falsified = v .falsified ∙ same-slice (λ (t : Slot). t .falsified) (l .numbers);
+          falsified = v .falsified ∙ same-slice (λ (t : Slot). t .falsified) (l .falsified);
           depths = v .depths ∙ same-slice (λ (t : Slot). t .depth) (l .depths);
           output = output;
-          promises = promised read-sheet l (toldBy r) out out₁ reply certificate output;
+          promises = promised read-sheet l (replyOfSolution r) out out₁ reply certificate output;
         }
 
     pub solves-read : (f : Formula) (positive₁ negative₁ : List ℕ) → f ≡ readFormula text positive negative

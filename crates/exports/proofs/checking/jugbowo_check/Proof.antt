@@ -25,10 +25,10 @@ returns-2 c =
     let put = c .before .before in
     let answered = put .before .before in
     let made = answered .before in
-    let roomy = made .before in
-    let a = roomy .before .before .before .before .before .before .args in
+    let with-room = made .before in
+    let a = with-room .before .before .before .before .before .before .args in
     tells-verdict _ (a .positive .now) (a .negative .now) (a .file .now) (a .reply .now) _ (answered .check .result) _
-    (roomy .if1 .left) (made .formula-from .ensures) (answered .check .ensures) (put .put-verdict .ensures)
+    (with-room .if1 .left) (made .formula-from .ensures) (answered .check .ensures) (put .put-verdict .ensures)
 
 pub jugbowo-check-spec : {M : Type 1} → statement M
 jugbowo-check-spec =

@@ -29,10 +29,10 @@ returns-3 : tie.Need-returns-3
 returns-3 c =
     let put = c .before .before .before .before in
     let answered = put .before .before .before in
-    let roomy = answered .before in
-    let a = roomy .before .before .before .before .before .args in
+    let with-room = answered .before in
+    let a = with-room .before .before .before .before .before .args in
     tells-opening (a .file .now) (a .contents .now) (a .reply .now) (answered .read .result) _ _
-    (roomy .before .if1 .left) (roomy .if2 .left) (answered .read .ensures) (put .put-opened .ensures .0) (put .put-opened .ensures .1)
+    (with-room .before .if1 .left) (with-room .if2 .left) (answered .read .ensures) (put .put-opened .ensures .0) (put .put-opened .ensures .1)
 
 pub jugbowo-open-spec : {M : Type 1} → statement M
 jugbowo-open-spec =

@@ -19,8 +19,8 @@ returns-2 : tie.Need-returns-2
 returns-2 c =
     let put = c .before .before in
     let answered = put .before .before in
-    let roomy = answered .before in
-    tells-entry _ (roomy .before .before .before .args .reply .now) (answered .point-at .result) _ (roomy .if1 .left) (answered .point-at .ensures .value) (put .put-entry .ensures)
+    let with-room = answered .before in
+    tells-entry _ (with-room .before .before .before .args .reply .now) (answered .point-at .result) _ (with-room .if1 .left) (answered .point-at .ensures .value) (put .put-entry .ensures)
 
 pub jugbowo-point-at-spec : {M : Type 1} → statement M
 jugbowo-point-at-spec =

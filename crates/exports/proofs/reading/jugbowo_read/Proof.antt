@@ -23,8 +23,8 @@ read-requires c κs = tt
 
 put-formula-requires : tie.Need-put-formula-requires
 put-formula-requires c κs =
-    let roomy = c .before .before .before .before .before .before .before .before .before .before in
-    (roomy .before .if2 .left, roomy .if3 .left)
+    let with-room = c .before .before .before .before .before .before .before .before .before .before in
+    (with-room .before .if2 .left, with-room .if3 .left)
 
 put-parse-requires : tie.Need-put-parse-requires
 put-parse-requires c κs = c .before .before .before .before .before .before .before .before .before .before .before .before .before .before .before .before .before .before .if1 .left
@@ -46,13 +46,13 @@ same-length-5 c = c .before .before .put-parse .kept .0
 
 returns-4 : tie.Need-returns-4
 returns-4 c =
-    let told = c .before .before .before .before .before .before .before .before in
-    let answered = told .before .before .before .before .before .before .before .before in
-    let roomy = answered .before .before .before in
-    let a = roomy .before .before .before .before .before .before .before .before .before .args in
+    let returned = c .before .before .before .before .before .before .before .before in
+    let answered = returned .before .before .before .before .before .before .before .before in
+    let with-room = answered .before .before .before in
+    let a = with-room .before .before .before .before .before .before .before .before .before .args in
     tells-reading (a .text .now) (a .positive .now) (a .negative .now) (a .numbers .now) (a .images .now) (a .reply .now) (answered .read .result) _ _ _ _ _
-    (roomy .before .before .if1 .left) (roomy .before .if2 .left) (roomy .if3 .left) (answered .read .ensures)
-    (told .put-formula .ensures .0) (told .put-formula .ensures .1) (c .before .before .put-parse .ensures)
+    (with-room .before .before .if1 .left) (with-room .before .if2 .left) (with-room .if3 .left) (answered .read .ensures)
+    (returned .put-formula .ensures .0) (returned .put-formula .ensures .1) (c .before .before .put-parse .ensures)
 
 pub jugbowo-read-spec : {M : Type 1} → statement M
 jugbowo-read-spec =

@@ -33,10 +33,10 @@ returns-2 : tie.Need-returns-2
 returns-2 c =
     let answered = c .before .before .before .before .before .before .before .before .before .before in
     let made = answered .before .before .before .before in
-    let roomy = made .before in
-    let a = roomy .before .before .before .before .before .before .before .before .args in
+    let with-room = made .before in
+    let a = with-room .before .before .before .before .before .before .before .before .args in
     tells-search _ (a .positive .now) (a .negative .now) (a .points .now) (a .falsified .now) (a .depths .now) (a .reply .now) _ (answered .search .result) _ _ _ _
-    (roomy .if1 .left) (made .formula-from .ensures) (answered .search .ensures) (c .before .before .put-outcome .ensures)
+    (with-room .if1 .left) (made .formula-from .ensures) (answered .search .ensures) (c .before .before .put-outcome .ensures)
 
 pub jugbowo-search-spec : {M : Type 1} → statement M
 jugbowo-search-spec =

@@ -33,10 +33,10 @@ returns-2 : tie.Need-returns-2
 returns-2 c =
     let put = c .before .before in
     let answered = put .before .before .before .before .before .before .before .before .before .before in
-    let roomy = answered .before .before .before .before .before in
-    let a = roomy .before .before .before .before .before .before .before .args in
+    let with-room = answered .before .before .before .before .before in
+    let a = with-room .before .before .before .before .before .before .before .args in
     tells-solution (a .text .now) (a .points .now) (a .falsified .now) (a .depths .now) (a .out .now) (a .reply .now) (answered .solve .result) _ _ _ _ _
-    (roomy .if1 .left) (answered .solve .ensures) (put .put-solution .ensures)
+    (with-room .if1 .left) (answered .solve .ensures) (put .put-solution .ensures)
 
 pub jugbowo-solve-spec : {M : Type 1} → statement M
 jugbowo-solve-spec =

@@ -6,7 +6,7 @@ use Rattle.exports.proofs.writing.jugbowo_write.Tie as tie
 returns : tie.Need-returns
 returns c =
     let a = c .before .before .before .before .before .before .before .before .before .args in
-    tells-nothing _ (a .positive .now) (a .negative .now) (a .points .now) (a .falsified .now) (a .depths .now) (a .count) (a .out .now) (a .reply .now) (c .if1 .taken)
+    tells-nothing _ (a .positive .now) (a .negative .now) (a .points .now) (a .falsified .now) (a .depths .now) (a .filled) (a .out .now) (a .reply .now) (c .if1 .taken)
 
 formula-from-requires : tie.Need-formula-from-requires
 formula-from-requires c κs = tt
@@ -27,10 +27,10 @@ returns-2 : tie.Need-returns-2
 returns-2 c =
     let answered = c .before .before .before .before .before .before in
     let made = answered .before .before in
-    let roomy = made .before in
-    let a = roomy .before .before .before .before .before .before .before .before .before .args in
-    tells-writing _ (a .positive .now) (a .negative .now) (a .points .now) (a .falsified .now) (a .depths .now) (a .count) (a .out .now) (a .reply .now) _ (answered .write .result) _ _
-    (roomy .if1 .left) (made .formula-from .ensures) (answered .write .ensures) (c .before .before .put-written .ensures)
+    let with-room = made .before in
+    let a = with-room .before .before .before .before .before .before .before .before .before .args in
+    tells-writing _ (a .positive .now) (a .negative .now) (a .points .now) (a .falsified .now) (a .depths .now) (a .filled) (a .out .now) (a .reply .now) _ (answered .write .result) _ _
+    (with-room .if1 .left) (made .formula-from .ensures) (answered .write .ensures) (c .before .before .put-written .ensures)
 
 pub jugbowo-write-spec : {M : Type 1} → statement M
 jugbowo-write-spec =

@@ -4,7 +4,7 @@ use lib.ListN.{length}
 use borrow.Author.Needs.{needs}
 use Rattle.formula.specs.Laws.RefusalLaws.{stops-10, stops-11, ends-12, formula-passes, images-room, formula-listed}
 use Rattle.formula.specs.Refusals.{formulaFault, permutationFault, faultOf}
-use Rattle.formula.specs.Reply.{sound}
+use Rattle.formula.specs.Reply.{no-fault}
 use Rattle.formula.specs.Laws.ReplyLaws.{IsFault}
 use Rattle.permutation_theory.specs.Permutations.{permutationsIn}
 use Rattle.formula.proofs.refusals.problem_refusal.Statement.{statement}
@@ -23,7 +23,7 @@ size : (c : tie.Start) → length (c .args .f .images) ≡ 1024
 size c = search needs
 
 -- the second arm is reached where refusal 10 found nothing
-ten : (c : tie.After-enum-told) → formulaFault (c .before .before .before .before .before .args .f) (c .before .before .before .before .before .args .positive .now) (c .before .before .before .before .before .args .negative .now) ≡ sound
+ten : (c : tie.After-enum-told) → formulaFault (c .before .before .before .before .before .args .f) (c .before .before .before .before .before .args .positive .now) (c .before .before .before .before .before .args .negative .now) ≡ no-fault
 ten c = sym (c .before .before .formula-refusal .ensures) ∙ ap faultOf (c .enum-told .given .1)
 
 permutations-refusal-requires : tie.Need-permutations-refusal-requires
@@ -38,7 +38,7 @@ returns-2 c =
 
 -- and the last call where refusal 11 did not either
 eleven : (c : tie.After-enum-told3)
-    → permutationFault (c .before .before .before .before .before .before .before .before .before .before .args .f .variables) (permutationsIn (c .before .before .before .before .before .before .before .before .before .before .args .f .variables) (c .before .before .before .before .before .before .before .before .before .before .args .f .permutations) (c .before .before .before .before .before .before .before .before .before .before .args .f .images)) ≡ sound
+    → permutationFault (c .before .before .before .before .before .before .before .before .before .before .args .f .variables) (permutationsIn (c .before .before .before .before .before .before .before .before .before .before .args .f .variables) (c .before .before .before .before .before .before .before .before .before .before .args .f .permutations) (c .before .before .before .before .before .before .before .before .before .before .args .f .images)) ≡ no-fault
 eleven c = sym (c .before .before .permutations-refusal .ensures) ∙ ap faultOf (c .enum-told3 .given .1)
 
 symmetry-refusal-requires : tie.Need-symmetry-refusal-requires

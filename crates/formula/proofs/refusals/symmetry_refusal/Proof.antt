@@ -7,13 +7,13 @@ use borrow.Author.Needs.{needs}
 use Rattle.points.specs.Points.{Numbered}
 use Rattle.permutation_theory.specs.Permutations.{permutationsIn}
 use Rattle.formula.specs.Refusals.{symmetryFault}
-use Rattle.formula.specs.Reply.{sound}
+use Rattle.formula.specs.Reply.{no-fault}
 use Rattle.formula.specs.Laws.ReplyLaws.{fault-zero, fault-pos}
 use Rattle.formula.proofs.refusals.symmetry_refusal.Statement.{statement}
 use Rattle.formula.proofs.refusals.symmetry_refusal.Tie as tie
 
 -- no permutation, no fault
-none-faulty : (cs : List Numbered) (n count : ℕ) (bytes : List ℕ) → count < 1 → sound ≡ symmetryFault cs (permutationsIn n count bytes)
+none-faulty : (cs : List Numbered) (n count : ℕ) (bytes : List ℕ) → count < 1 → no-fault ≡ symmetryFault cs (permutationsIn n count bytes)
 unfolding symmetryFault permutationsIn
 none-faulty cs n zero bytes lt = refl
 none-faulty cs n (suc count) bytes lt = absurd (not-suc-le-zero (le-of-suc-le-suc lt))

@@ -9,7 +9,7 @@ use lib.Seq.{paste}
 use Rattle.formula.specs.Problem.{emptyFormula}
 use Rattle.dimacs_lines.specs.declared.Parse.the-variants.{Refused}
 use Rattle.dimacs_lines.specs.declared.Parsed.{Parsed}
-use Rattle.dimacs_lines.specs.Reply.{replyOf}
+use Rattle.dimacs_lines.specs.Reply.{replyOfParse}
 use Rattle.dimacs_format.specs.Input.{Input, positives, negatives}
 use Rattle.dimacs_format.specs.Reader.{Step, replyTo, formulaFrom, sliceFrom}
 
@@ -34,13 +34,13 @@ pub record Limited (n total : ℕ) : Type 0 where
   pub few : total ≤ 4096
 
 -- both slices have room for C clauses
-pub record Spacious (total : ℕ) (positive negative : List ℕ) : Type 0 where
+pub record HasRoom (total : ℕ) (positive negative : List ℕ) : Type 0 where
   pub room-positive : total ≤ length positive
   pub room-negative : total ≤ length negative
 
 -- the answer and the slices at exit are those of a step to an input
-pub record Answers (m : Step Input) (positive₀ negative₀ : List ℕ) (r : Parsed) (positive₁ negative₁ : List ℕ) : Type 0 where
-  pub reply : replyOf (r .answer) ≡ replyTo m
+pub record ParsedAs (m : Step Input) (positive₀ negative₀ : List ℕ) (r : Parsed) (positive₁ negative₁ : List ℕ) : Type 0 where
+  pub reply : replyOfParse (r .answer) ≡ replyTo m
   pub formula : r .formula ≡ formulaFrom m
   pub positive : positive₁ ≡ sliceFrom positives m positive₀
   pub negative : negative₁ ≡ sliceFrom negatives m negative₀

@@ -46,9 +46,9 @@ pub record ClosedSlots (pb : Problem) (l : List Slot) : Type 0 where
 
 -- "with .. the number of slots filled": the number that an answer of the search carries
 abbrev pub reported : Reply → ℕ
-reported (satisfiable x d k) = k
-reported (unsatisfiable k) = k
-reported (unknown b k) = k
+reported (satisfiable x d filled) = filled
+reported (unsatisfiable filled) = filled
+reported (unknown b filled) = filled
 reported (refused code place) = 0
 reported parsed = 0
 reported (written size) = 0

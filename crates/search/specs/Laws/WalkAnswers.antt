@@ -9,7 +9,7 @@ use Rattle.search_theory.specs.Walk.{start, Walks}
 use Rattle.search.specs.Search.{searchSlots}
 
 -- the reply r for a formula by value is the search's, over a problem that is ready for it and with at least one slot
-pub record Answered (f : Formula) (positive negative : List ℕ) (lent : ℕ) (r : Reply) : Type 0 where
+pub record WalkAnswers (f : Formula) (positive negative : List ℕ) (lent : ℕ) (r : Reply) : Type 0 where
   pub ready : Ready (problemOf f positive negative)
   pub room : 1 ≤ lent
   pub walks : Walks (problemOf f positive negative) lent (start (problemOf f positive negative)) r (searchSlots f positive negative lent)

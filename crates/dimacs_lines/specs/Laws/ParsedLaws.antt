@@ -21,10 +21,10 @@ use Rattle.dimacs_format.specs.Input.{Input, imagesOf, padded, formulaOf, posit
 use Rattle.dimacs_format.specs.Reader.{Step, goes, refuses, andThen, Sizes, inputOf, atEnd, replyTo, formulaFrom, sliceFrom}
 use Rattle.dimacs_clauses.specs.Laws.ClauseScans.{clausesFrom}
 use Rattle.dimacs_clauses.specs.Laws.ClauseScanLaws.{closed-length}
-use Rattle.dimacs_comments.specs.Laws.HandlerScans.{Table}
+use Rattle.dimacs_comments.specs.Laws.HandlerScans.{KeptImages}
 use Rattle.dimacs_lines.specs.Laws.LineScans.{progressFrom, advancedOf, Standing, nothingSaid}
 use Rattle.dimacs_comments.specs.Laws.HandlerLaws.{images-take}
-use Rattle.dimacs_lines.specs.Laws.Answers.{wantedOr0, Copying, refusedWith, Limited, Spacious, Answers}
+use Rattle.dimacs_lines.specs.Laws.ParsedAs.{wantedOr0, Copying, refusedWith, Limited, HasRoom, ParsedAs}
 
 -- ---- the copy
 
@@ -60,14 +60,14 @@ module _ (from to₀ : List ℕ) (count : ℕ) where
 -- ---- the formula
 
 -- the images fill the table up to the unused bytes
-pub table-padded : (n k : ℕ) (table : List ℕ) → n ≤ 64 → Table n k table → padded 1024 (imagesOf (permutationsIn n k table)) ≡ table
+pub table-padded : (n k : ℕ) (images : List ℕ) → n ≤ 64 → KeptImages n k images → padded 1024 (imagesOf (permutationsIn n k images)) ≡ images
 unfolding padded
-table-padded n k table few t =
+table-padded n k images few t =
     let room : k * n ≤ 16 * n = mul-le-mul-right n (t .few) in
     let p = t .places in
-    let size : length (take (k * n) table) ≡ k * n = length-take-le (k * n) table (omega arith) in
-    ap (λ l. l ++ replicate (1024 - length l) 0) (images-take n k table)
-    ∙ ap (λ j. take (k * n) table ++ replicate (1024 - j) 0) size ∙ ap (λ l. take (k * n) table ++ l) (sym (t .unused)) ∙ take-append-drop (k * n) table
+    let size : length (take (k * n) images) ≡ k * n = length-take-le (k * n) images (omega arith) in
+    ap (λ l. l ++ replicate (1024 - length l) 0) (images-take n k images)
+    ∙ ap (λ j. take (k * n) images ++ replicate (1024 - j) 0) size ∙ ap (λ l. take (k * n) images ++ l) (sym (t .unused)) ∙ take-append-drop (k * n) images
 
 pub positives-back : (ps ns : List ℕ) → length ps ≡ length ns → positives (clausesOf ps ns) ≡ ps
 unfolding clausesOf
@@ -86,23 +86,23 @@ negatives-back (p ∷ ps) (n ∷ ns) e = ap (λ l. n ∷ l) (negatives-back ps n
 -- ---- refusals and the accepted text
 
 pub answers-refused : (m : Step Input) (code place : ℕ) (positive negative : List ℕ) (r : Parsed) → m ≡ refuses code place → r ≡ refusedWith code place
-    → Answers m positive negative r positive negative
+    → ParsedAs m positive negative r positive negative
 unfolding replyTo formulaFrom sliceFrom
 answers-refused m code place positive negative r e f =
-    subst (λ t. Answers t positive negative r positive negative) (sym e)
-    (subst (λ x. Answers (refuses code place) positive negative x positive negative) (sym f) (record { reply = refl; formula = refl; positive = refl; negative = refl }))
+    subst (λ t. ParsedAs t positive negative r positive negative) (sym e)
+    (subst (λ x. ParsedAs (refuses code place) positive negative x positive negative) (sym f) (record { reply = refl; formula = refl; positive = refl; negative = refl }))
 
-pub answers-same : {m k : Step Input} {positive₀ negative₀ positive₁ negative₁ : List ℕ} {r : Parsed} → k ≡ m → Answers m positive₀ negative₀ r positive₁ negative₁
-    → Answers k positive₀ negative₀ r positive₁ negative₁
-answers-same {positive₀ = positive₀} {negative₀} {positive₁} {negative₁} {r} e a = subst (λ t. Answers t positive₀ negative₀ r positive₁ negative₁) (sym e) a
+pub answers-same : {m k : Step Input} {positive₀ negative₀ positive₁ negative₁ : List ℕ} {r : Parsed} → k ≡ m → ParsedAs m positive₀ negative₀ r positive₁ negative₁
+    → ParsedAs k positive₀ negative₀ r positive₁ negative₁
+answers-same {positive₀ = positive₀} {negative₀} {positive₁} {negative₁} {r} e a = subst (λ t. ParsedAs t positive₀ negative₀ r positive₁ negative₁) (sym e) a
 
-module _ (size : ℕ) (z : Sizes) (s : State) (p q table : List ℕ) (st : Standing z s p q table) where
+module _ (size : ℕ) (z : Sizes) (s : State) (p q images : List ℕ) (st : Standing z s p q images) where
   closed-size : length (clausesFrom p q (s .begun) .closed) ≡ s .begun .closed
   closed-size =
       closed-length z p q (s .begun) (let a = st .ready .closed in let b = st .ready .room-positive in omega arith)
       (let a = st .ready .closed in let b = st .ready .room-negative in omega arith)
 
-  pub end-refused : s .begun .closed < z .total → atEnd size z (progressFrom (z .variables) p q table s) ≡ refuses 7 size
+  pub end-refused : s .begun .closed < z .total → atEnd size z (progressFrom (z .variables) p q images s) ≡ refuses 7 size
   unfolding atEnd
   end-refused lt = rw (ne-eqb (length (clausesFrom p q (s .begun) .closed)) (z .total) (λ e. let x : ⊥ = omega (arith, closed-size) in x))
 
@@ -110,7 +110,7 @@ module _ (size : ℕ) (z : Sizes) (s : State) (p q table : List ℕ) (st : Stand
     all-closed : s .begun .closed ≡ z .total
     all-closed = let a = st .ready .closed in omega arith
 
-    pub end-goes : atEnd size z (progressFrom (z .variables) p q table s) ≡ goes (inputOf (z .variables) (progressFrom (z .variables) p q table s))
+    pub end-goes : atEnd size z (progressFrom (z .variables) p q images s) ≡ goes (inputOf (z .variables) (progressFrom (z .variables) p q images s))
     unfolding atEnd
     end-goes = rw (eq-eqb (length (clausesFrom p q (s .begun) .closed)) (z .total) (closed-size ∙ all-closed))
 
@@ -121,12 +121,12 @@ module _ (size : ℕ) (z : Sizes) (s : State) (p q table : List ℕ) (st : Stand
 
     pub answers-accepted : (x : ℕ) (positive₀ negative₀ positive₁ negative₁ : List ℕ) → x ≡ wantedOr0 (s .targeted) (s .target)
         → positive₁ ≡ over (take (z .total) p) positive₀ → negative₁ ≡ over (take (z .total) q) negative₀
-        → Answers (atEnd size z (progressFrom (z .variables) p q table s)) positive₀ negative₀
-        (record { formula = record { variables = z .variables; clauses = z .total; target = x; permutations = s .permutations; images = table }; answer = Accepted })
+        → ParsedAs (atEnd size z (progressFrom (z .variables) p q images s)) positive₀ negative₀
+        (record { formula = record { variables = z .variables; clauses = z .total; target = x; permutations = s .permutations; images = images }; answer = Accepted })
         positive₁ negative₁
     unfolding replyTo formulaFrom sliceFrom formulaOf
     answers-accepted x positive₀ negative₀ positive₁ negative₁ ex ep eq =
-        subst (λ m. Answers m positive₀ negative₀ (record { formula = record { variables = z .variables; clauses = z .total; target = x; permutations = s .permutations; images = table }; answer = Accepted }) positive₁ negative₁)
+        subst (λ m. ParsedAs m positive₀ negative₀ (record { formula = record { variables = z .variables; clauses = z .total; target = x; permutations = s .permutations; images = images }; answer = Accepted }) positive₁ negative₁)
         (sym end-goes)
         (record {
           reply = refl;
@@ -134,8 +134,8 @@ module _ (size : ℕ) (z : Sizes) (s : State) (p q table : List ℕ) (st : Stand
             variables = z .variables;
             clauses = sym (closed-size ∙ all-closed) i;
             target = ex i;
-            permutations = sym (length-permutations (z .variables) (s .permutations) table) i;
-            images = sym (table-padded (z .variables) (s .permutations) table (st .ready .variables) (st .images)) i;
+            permutations = sym (length-permutations (z .variables) (s .permutations) images) i;
+            images = sym (table-padded (z .variables) (s .permutations) images (st .ready .variables) (st .kept)) i;
           };
           positive =
               ep ∙ ap (λ l. over l positive₀) (ap (λ j. take j p) (sym all-closed)
@@ -146,29 +146,29 @@ module _ (size : ℕ) (z : Sizes) (s : State) (p q table : List ℕ) (st : Stand
         })
 
 -- the lines were read: on to the end, or refused
-module _ (n : ℕ) (z : Sizes) (size : ℕ) (p q table : List ℕ) (done : Advanced) (positive₀ negative₀ : List ℕ) where
-  pub finish-on : (s : State) → done ≡ On s → (r : Parsed) (positive₁ negative₁ : List ℕ) → Answers (atEnd size z (progressFrom n p q table s)) positive₀ negative₀ r positive₁ negative₁
-      → Answers (andThen (advancedOf n p q table done) (atEnd size z)) positive₀ negative₀ r positive₁ negative₁
+module _ (n : ℕ) (z : Sizes) (size : ℕ) (p q images : List ℕ) (done : Advanced) (positive₀ negative₀ : List ℕ) where
+  pub finish-on : (s : State) → done ≡ On s → (r : Parsed) (positive₁ negative₁ : List ℕ) → ParsedAs (atEnd size z (progressFrom n p q images s)) positive₀ negative₀ r positive₁ negative₁
+      → ParsedAs (andThen (advancedOf n p q images done) (atEnd size z)) positive₀ negative₀ r positive₁ negative₁
   unfolding andThen
-  finish-on s e r positive₁ negative₁ a = subst (λ d. Answers (andThen (advancedOf n p q table d) (atEnd size z)) positive₀ negative₀ r positive₁ negative₁) (sym e) a
+  finish-on s e r positive₁ negative₁ a = subst (λ d. ParsedAs (andThen (advancedOf n p q images d) (atEnd size z)) positive₀ negative₀ r positive₁ negative₁) (sym e) a
 
-  pub finish-refused : (code place : ℕ) → done ≡ Refused code place → andThen (advancedOf n p q table done) (atEnd size z) ≡ refuses code place
+  pub finish-refused : (code place : ℕ) → done ≡ Refused code place → andThen (advancedOf n p q images done) (atEnd size z) ≡ refuses code place
   unfolding andThen
-  finish-refused code place e = ap (λ d. andThen (advancedOf n p q table d) (atEnd size z)) e
+  finish-refused code place e = ap (λ d. andThen (advancedOf n p q images d) (atEnd size z)) e
 
 -- ---- before the lines
 
 -- slices with room and the table as it begins
-pub slices-stand : (z : Sizes) (p q table : List ℕ) → Limited (z .variables) (z .total) → Spacious (z .total) p q → table ≡ replicate 1024 0
-    → Standing z nothingSaid p q table
-slices-stand z p q table l room e =
+pub slices-stand : (z : Sizes) (p q images : List ℕ) → Limited (z .variables) (z .total) → HasRoom (z .total) p q → images ≡ replicate 1024 0
+    → Standing z nothingSaid p q images
+slices-stand z p q images l room e =
     record {
       ready =
           record { variables = l .variables; few = l .few; room-positive = room .room-positive; room-negative = room .room-negative; closed = zero-le };
-      images =
+      kept =
           record {
             few = zero-le;
             places = ap length e ∙ length-replicate {A = ℕ} 1024 0;
-            unused = ap (λ j. drop j table) (zero-mul (z .variables)) ∙ e ∙ ap (λ j. replicate (1024 - j) 0) (sym (zero-mul (z .variables)));
+            unused = ap (λ j. drop j images) (zero-mul (z .variables)) ∙ e ∙ ap (λ j. replicate (1024 - j) 0) (sym (zero-mul (z .variables)));
           };
     }
