@@ -6,9 +6,10 @@ proofs, code, comments (in .rt and .antt), tests (tests, must-fail edits, exampl
 contracts that changed, are new or are gone. Lines are compared as a bag, white space folded: one that only moved counts in neither column of 'in all'.
 Imports and blank lines do not count.
 
-FILE has one renaming a line: `path OLD NEW`, a file or a folder, and `name OLD NEW [UNDER ..]`, an identifier, where folders are given only in files below
-them (as they are called now). What differs after these, white space aside, has changed. With two logs of the gate, told by `bash -c 'time .ci/run'`,
-it also prints what each crate's check took before and after."""
+FILE has one renaming a line, with paths as they are called now but for OLD: `path OLD NEW`, a file or a folder; `name OLD NEW [PATH ..]`, an identifier,
+everywhere or in these files and folders; `phrase PATH: OLD => NEW`, words of one file, where an identifier has two meanings. What differs after these,
+white space aside, has changed. With two logs of the gate, told by `bash -c 'time .ci/run'`, it also prints what each crate's check took before and
+after."""
 import argparse
 import collections
 import os
@@ -24,10 +25,13 @@ KINDS = ["definitions", "contracts", "laws", "proofs", "code", "comments", "test
 
 class Renamings:
     def __init__(self, path):
-        self.paths, self.names = [], []
+        self.paths, self.names, self.phrases = [], [], []
         for line in open(path) if path else []:
-            words = line.split("#")[0].split()
-            if words[:1] == ["path"]:
+            words = line.split()
+            if words[:1] == ["phrase"]:
+                place, said = line.split(None, 1)[1].split(": ", 1)
+                self.phrases.append((place, *said.rstrip("\n").split(" => ")))
+            elif words[:1] == ["path"]:
                 self.paths.append((words[1], words[2]))
             elif words[:1] == ["name"]:
                 self.names.append((words[1], words[2], words[3:]))
@@ -42,7 +46,9 @@ class Renamings:
 
     def text(self, path, text):
         """The text of the file that is now called path, with the names of now."""
-        named = {old: new for old, new, under in self.names if not under or any(path.startswith(folder) for folder in under)}
+        for place, old, new in self.phrases:
+            text = text.replace(old, new) if place == path else text
+        named = {old: new for old, new, under in self.names if not under or any((path + "/").startswith(at + "/") for at in under)}
         if named:
             text = re.sub(r"[\w·′₀-₉-]+", lambda m: named.get(m.group(0), m.group(0)), text)
         if self.crates:

@@ -1,17 +1,23 @@
 #!/usr/bin/env python3
-"""Paths into what a proof knows. `tools/paths.py CRATE FUNCTION [NEED ..]` prints for each need of a function the records from `c` backwards, each
-with the number of `.before` that lead to it and its fields. `tools/paths.py --fill CRATE FUNCTION` replaces, in the function's Proof.antt, each
-`@@field` by the path from the `c` of its declaration to the nearest record with that field, `@@/field` by the path to the record itself. FUNCTION is a
-path below proofs/."""
+"""Paths into what a proof knows, `c .before .before .fill .ensures`. FUNCTION is a path below proofs/.
+
+tools/paths.py CRATE FUNCTION [NEED ..]    prints for each need of a function the records from `c` backwards, each with the number of `.before` that
+                                           lead to it and its fields
+tools/paths.py --fill CRATE FUNCTION       replaces, in the function's Proof.antt, each `@@field` by the path from the `c` of its declaration to the
+                                           nearest record with that field, `@@/field` by the path to the record itself
+tools/paths.py --unfill CRATE FUNCTION     the way back: each path that --fill would make becomes `@@field` or `@@/field`; run it before a change of the
+                                           code that shifts paths, and --fill after it"""
 import os
 import re
 import subprocess
 import sys
 import tempfile
 
-os.chdir(os.path.join(os.path.dirname(os.path.abspath(__file__)), ".."))
-fill = sys.argv[1:2] == ["--fill"]
-crate, function, *wanted = sys.argv[2:] if fill else sys.argv[1:]
+import tree
+
+os.chdir(tree.TOP)
+mode = sys.argv[1] if sys.argv[1:2] in (["--fill"], ["--unfill"]) else None
+crate, function, *wanted = sys.argv[2:] if mode else sys.argv[1:]
 
 with tempfile.TemporaryDirectory() as folder:
     subprocess.run(["rt", "dev", crate, "--generated", folder + "/g"], capture_output=True)
@@ -36,14 +42,38 @@ def chain(record):
     return records
 
 
-def path(record, field):
-    for steps, at in enumerate(chain(record)):
+def steps(record, field):
+    """How many `.before` lead to the nearest record with the field, if one has it."""
+    for n, at in enumerate(chain(record)):
         if field in fields.get(at, []):
-            return "c" + " .before" * steps
-    sys.exit(f"no field {field} is known at {record}")
+            return n
+    return None
 
 
-if not fill:
+def path(record, field):
+    n = steps(record, field)
+    if n is None:
+        sys.exit(f"no field {field} is known at {record}")
+    return "c" + " .before" * n
+
+
+def filled(record, line):
+    line = re.sub(r"@@/([a-z0-9-]+)", lambda m: path(record, m.group(1)), line)
+    return re.sub(r"@@([a-z0-9-]+)", lambda m: path(record, m.group(1)) + " ." + m.group(1), line)
+
+
+def unfilled(record, line):
+    def shorter(m):
+        n, field = m.group(1).count(".before"), m.group(2)
+        if field and steps(record, field) == n:
+            return "@@" + field
+        records = chain(record)
+        own = [name for name in fields.get(records[n], []) if steps(record, name) == n] if n < len(records) else []
+        return f"@@/{own[0]}" + (f" .{field}" if field else "") if own else m.group(0)
+    return re.sub(r"(?<![\w.])c((?: \.before)+)(?: \.([a-z0-9-]+))?", shorter, line)
+
+
+if not mode:
     for need, record in needs.items():
         if not wanted or need in wanted:
             print(need + ":", " ".join(f"{i}:{at}[{','.join(fields.get(at, []))}]" for i, at in enumerate(chain(record))))
@@ -54,6 +84,5 @@ for line in open(proof):
     named = re.match(r"\S+ : tie\.Need-(\S+)", line)
     placed = re.search(r"\(c : tie\.([^)\s]+)", line)
     at = placed.group(1) if placed else needs.get(named.group(1), at) if named else at
-    line = re.sub(r"@@/([a-z0-9-]+)", lambda m: path(at, m.group(1)), line)
-    lines.append(re.sub(r"@@([a-z0-9-]+)", lambda m: path(at, m.group(1)) + " ." + m.group(1), line))
+    lines.append(line if at is None else (filled if mode == "--fill" else unfilled)(at, line))
 open(proof, "w").writelines(lines)

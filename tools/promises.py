@@ -1,7 +1,8 @@
 #!/usr/bin/env python3
 """docs/PROMISES.md and the tree: the column 'In' of each row lists the files under crates/ that carry the row's label in a comment. `tools/promises.py`
 compares, `tools/promises.py --write` writes the column. Also wrong: a label in crates/ without a row, a row that names no file and does not say
-what it waits for. Prints what is wrong; exit status 1 if anything is."""
+what it waits for, and a name in the column before that is no word of the crates (in backticks, or as crate::function). Prints what is wrong; exit
+status 1 if anything is."""
 import glob
 import os
 import re
@@ -30,7 +31,25 @@ def carriers():
     return found
 
 
+def known():
+    """Every word of the crates' code, specs and proofs, and the names of their edits."""
+    words = set()
+    for path in glob.glob("crates/**/*", recursive=True):
+        if path.endswith((".antt", ".rt")):
+            words.update(re.findall(r"[\w·′-]+", open(path).read()))
+        elif path.endswith(".edit"):
+            words.add(os.path.basename(path)[:-len(".edit")])
+    return words
+
+
+def unknown(told, words):
+    """The names that a cell tells and the crates do not have."""
+    names = re.findall(r"`([A-Za-z][\w.-]*)`", told) + re.findall(r"\b([a-z_]+(?:::\w+)+)", told)
+    return [name for name in names if not all(part in words or part in tree.crates() for part in re.split(r"\.|::", name))]
+
+
 os.chdir(tree.TOP)
+words = known()
 wrong, rows, lines, carried = [], set(), [], carriers()
 for line in open("docs/PROMISES.md"):
     cells = re.split(r"(?<!\\)\|", line)
@@ -38,6 +57,8 @@ for line in open("docs/PROMISES.md"):
         label, waits = cells[1].strip(), cells[5].strip()
         rows.add(label)
         files = carried.get(label, [])
+        for name in unknown(cells[3], words):
+            wrong.append(f"{label} tells of {name}, which is not there")
         if not files and not waits:
             wrong.append(f"{label} is in no file and waits for nothing")
         cells[4] = " " + ", ".join(f"`{file}`" for file in files) + " "

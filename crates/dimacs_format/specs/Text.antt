@@ -4,12 +4,19 @@ use mathlib.Core.Bool.{Bool, true, false, not, cond, _&&_, _||_}
 use mathlib.Core.List.{List, [], _∷_, _++_, map}
 use mathlib.Core.Option.{Option, some, none}
 use mathlib.Core.Path.{_≡_}
+use Prim.Native.Char.{code}
 use Prim.Native.Nat.{ℕ, zero, suc, _+_, _-_, _*_}
+use Prim.Native.String.{String, [] as end, _∷_ as _then_}
 use lib.Dec.{eqb, leb}
 use lib.ListN.{length, take, drop}
 use Rattle.math.specs.Lists.{all, select}
 
 -- ---- bytes
+
+-- the bytes of a text of ASCII characters
+abbrev pub ascii : String → List ℕ
+ascii end = []
+ascii (c then s) = code c ∷ ascii s
 
 -- S7: "The text is at most 1,048,576 bytes."
 abbrev pub maxText : ℕ
@@ -105,7 +112,7 @@ begins head bytes = sameBytes head (take (length head) bytes)
 -- S10: "A line whose first byte is `c` is a comment."
 unfoldable pub isComment : Line → Bool
 unfolding begins
-isComment l = begins (99 ∷ []) (l .bytes)
+isComment l = begins (ascii "c") (l .bytes)
 
 -- "all blanks"
 unfoldable pub allBlank : List ℕ → Bool
@@ -114,19 +121,19 @@ allBlank bytes = all isBlank bytes
 
 -- ---- the fixed words and heads
 
--- `p`, and `cnf`
+-- the words of the problem line that are fixed
 abbrev pub problemWord : List ℕ
-problemWord = 112 ∷ []
+problemWord = ascii "p"
 
 abbrev pub formatWord : List ℕ
-formatWord = 99 ∷ 110 ∷ 102 ∷ []
+formatWord = ascii "cnf"
 
--- `c wish ` and `c exch `
+-- the heads of the two comments with meaning
 abbrev pub targetHead : List ℕ
-targetHead = 99 ∷ 32 ∷ 119 ∷ 105 ∷ 115 ∷ 104 ∷ 32 ∷ []
+targetHead = ascii "c wish "
 
 abbrev pub permutationHead : List ℕ
-permutationHead = 99 ∷ 32 ∷ 101 ∷ 120 ∷ 99 ∷ 104 ∷ 32 ∷ []
+permutationHead = ascii "c exch "
 
 -- what stands behind the seven bytes of either head
 abbrev pub behindHead : Line → List ℕ

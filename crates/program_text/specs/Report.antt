@@ -7,6 +7,7 @@ use Prim.Native.Nat.{ℕ, zero, suc, _+_}
 use lib.ListN.{length}
 use Rattle.math.specs.Bits.{bit}
 use Rattle.math.specs.Lists.{over}
+use Rattle.dimacs_format.specs.Text.{ascii}
 use Rattle.program_text.specs.Decimal.{lineEnd, numeral, field, line}
 use Rattle.formula.specs.Reply.{Reply, refused, satisfiable, unsatisfiable, unknown, parsed, written, opened, accepted}
 
@@ -14,8 +15,8 @@ use Rattle.formula.specs.Reply.{Reply, refused, satisfiable, unsatisfiable, unk
 
 -- P3: "minus for no": a space, and a minus behind it for no
 unfoldable pub sign : Bool → List ℕ
-sign true = 32 ∷ []
-sign false = 32 ∷ 45 ∷ []
+sign true = ascii " "
+sign false = ascii " -"
 
 -- the name of digit i of a point, with its sign
 abbrev pub literal : ℕ → ℕ → List ℕ
@@ -31,35 +32,35 @@ literals x (suc i) = literals x i ++ literal x i
 
 -- `s SATISFIABLE` and, on the next line, `v`
 abbrev pub satisfiableHead : List ℕ
-satisfiableHead = 115 ∷ 32 ∷ 83 ∷ 65 ∷ 84 ∷ 73 ∷ 83 ∷ 70 ∷ 73 ∷ 65 ∷ 66 ∷ 76 ∷ 69 ∷ 10 ∷ 118 ∷ []
+satisfiableHead = ascii "s SATISFIABLE\nv"
 
 -- P3: "then 0"
 abbrev pub valuesEnd : List ℕ
-valuesEnd = 32 ∷ 48 ∷ 10 ∷ []
+valuesEnd = ascii " 0\n"
 
 -- `c changes`
 abbrev pub changesHead : List ℕ
-changesHead = 99 ∷ 32 ∷ 99 ∷ 104 ∷ 97 ∷ 110 ∷ 103 ∷ 101 ∷ 115 ∷ 32 ∷ []
+changesHead = ascii "c changes "
 
 -- ` slots`
 abbrev pub slotsBetween : List ℕ
-slotsBetween = 32 ∷ 115 ∷ 108 ∷ 111 ∷ 116 ∷ 115 ∷ 32 ∷ []
+slotsBetween = ascii " slots "
 
 -- `s UNSATISFIABLE` and, on the next line, `c slots`
 abbrev pub unsatisfiableHead : List ℕ
-unsatisfiableHead = 115 ∷ 32 ∷ 85 ∷ 78 ∷ 83 ∷ 65 ∷ 84 ∷ 73 ∷ 83 ∷ 70 ∷ 73 ∷ 65 ∷ 66 ∷ 76 ∷ 69 ∷ 10 ∷ 99 ∷ 32 ∷ 115 ∷ 108 ∷ 111 ∷ 116 ∷ 115 ∷ 32 ∷ []
+unsatisfiableHead = ascii "s UNSATISFIABLE\nc slots "
 
 -- `s UNKNOWN` and, on the next line, `c room`
 abbrev pub unknownHead : List ℕ
-unknownHead = 115 ∷ 32 ∷ 85 ∷ 78 ∷ 75 ∷ 78 ∷ 79 ∷ 87 ∷ 78 ∷ 10 ∷ 99 ∷ 32 ∷ 114 ∷ 111 ∷ 111 ∷ 109 ∷ 32 ∷ []
+unknownHead = ascii "s UNKNOWN\nc room "
 
 -- `c refused`
 abbrev pub refusedHead : List ℕ
-refusedHead = 99 ∷ 32 ∷ 114 ∷ 101 ∷ 102 ∷ 117 ∷ 115 ∷ 101 ∷ 100 ∷ 32 ∷ []
+refusedHead = ascii "c refused "
 
 -- between two numbers with no word there
 abbrev pub space : List ℕ
-space = 32 ∷ []
+space = ascii " "
 
 -- P3: "`v` gives each name ascending, minus for no, then 0."; the last line has the changes and the slots
 unfoldable pub satisfiableText : ℕ → ℕ → ℕ → ℕ → List ℕ

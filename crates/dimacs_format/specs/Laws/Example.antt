@@ -1,12 +1,18 @@
 -- Texts and what the reader yields from them, by computation. Assumes nothing.
-use mathlib.Core.List.{List, [], _∷_}
+use mathlib.Core.List.{List, [], _∷_, _++_}
 use mathlib.Core.Path.{_≡_, refl}
 use Prim.Native.Nat.{ℕ}
 use lib.ListN.{replicate}
 use Rattle.formula.specs.Reply.{Reply, parsed, refused}
 use Rattle.formula.specs.declared.Formula.{Formula}
 use Rattle.formula.specs.Problem.{emptyFormula}
+use Rattle.dimacs_format.specs.Text.{ascii, problemWord, formatWord, targetHead, permutationHead}
 use Rattle.dimacs_format.specs.Reader.{readReply, readFormula, readPositive, readNegative}
+
+-- the bytes that the fixed words and heads are
+pub fixed-bytes : (problemWord ≡ 112 ∷ []) × (formatWord ≡ 99 ∷ 110 ∷ 102 ∷ []) × (targetHead ≡ 99 ∷ 32 ∷ 119 ∷ 105 ∷ 115 ∷ 104 ∷ 32 ∷ [])
+    × (permutationHead ≡ 99 ∷ 32 ∷ 101 ∷ 120 ∷ 99 ∷ 104 ∷ 32 ∷ [])
+fixed-bytes = (refl, refl, refl, refl)
 
 -- what the reader yields from a text and two slices
 pub record Example (text positive₀ negative₀ : List ℕ) (r : Reply) (f : Formula) (positive₁ negative₁ : List ℕ) : Type 0 where
@@ -18,10 +24,7 @@ pub record Example (text positive₀ negative₀ : List ℕ) (r : Reply) (f : Fo
 -- "B", as a text: `p cnf 3 2`, `c wish 000`, `1 2 0`, `-1 3 0` on four lines; the third place of a slice stays
 abbrev pub satisfiable-text : List ℕ
 satisfiable-text =
-    112 ∷ 32 ∷ 99 ∷ 110 ∷ 102 ∷ 32 ∷ 51 ∷ 32 ∷ 50 ∷ 10
-    ∷ 99 ∷ 32 ∷ 119 ∷ 105 ∷ 115 ∷ 104 ∷ 32 ∷ 48 ∷ 48 ∷ 48 ∷ 10
-    ∷ 49 ∷ 32 ∷ 50 ∷ 32 ∷ 48 ∷ 10
-    ∷ 45 ∷ 49 ∷ 32 ∷ 51 ∷ 32 ∷ 48 ∷ 10 ∷ []
+    ascii "p cnf 3 2\n" ++ ascii "c wish 000\n" ++ ascii "1 2 0\n" ++ ascii "-1 3 0\n"
 
 pub satisfiable-text-read : Example satisfiable-text (7 ∷ 8 ∷ 9 ∷ []) (7 ∷ 8 ∷ []) parsed
     (record { variables = 3; clauses = 2; target = 0; permutations = 0; images = replicate 1024 0 }) (3 ∷ 4 ∷ 9 ∷ []) (0 ∷ 1 ∷ [])
@@ -31,14 +34,14 @@ satisfiable-text-read = record { reply = refl; formula = refl; positive = refl; 
 -- "A with exchange 2 1", behind a remark and a blank line, its last clause closed on a line of its own
 abbrev pub symmetric-text : List ℕ
 symmetric-text =
-    99 ∷ 32 ∷ 97 ∷ 32 ∷ 114 ∷ 101 ∷ 109 ∷ 97 ∷ 114 ∷ 107 ∷ 10
-    ∷ 32 ∷ 10
-    ∷ 112 ∷ 32 ∷ 99 ∷ 110 ∷ 102 ∷ 32 ∷ 50 ∷ 32 ∷ 52 ∷ 10
-    ∷ 99 ∷ 32 ∷ 101 ∷ 120 ∷ 99 ∷ 104 ∷ 32 ∷ 50 ∷ 32 ∷ 49 ∷ 10
-    ∷ 49 ∷ 32 ∷ 50 ∷ 32 ∷ 48 ∷ 32 ∷ 45 ∷ 49 ∷ 32 ∷ 50 ∷ 32 ∷ 48 ∷ 10
-    ∷ 49 ∷ 32 ∷ 45 ∷ 50 ∷ 32 ∷ 48 ∷ 32 ∷ 45 ∷ 49 ∷ 10
-    ∷ 99 ∷ 32 ∷ 97 ∷ 110 ∷ 111 ∷ 116 ∷ 104 ∷ 101 ∷ 114 ∷ 32 ∷ 114 ∷ 101 ∷ 109 ∷ 97 ∷ 114 ∷ 107 ∷ 10
-    ∷ 45 ∷ 50 ∷ 32 ∷ 48 ∷ 10 ∷ []
+    ascii "c a remark\n"
+    ++ ascii " \n"
+    ++ ascii "p cnf 2 4\n"
+    ++ ascii "c exch 2 1\n"
+    ++ ascii "1 2 0 -1 2 0\n"
+    ++ ascii "1 -2 0 -1\n"
+    ++ ascii "c another remark\n"
+    ++ ascii "-2 0\n"
 
 pub symmetric-text-read : Example symmetric-text (9 ∷ 9 ∷ 9 ∷ 9 ∷ []) (9 ∷ 9 ∷ 9 ∷ 9 ∷ []) parsed
     (record { variables = 2; clauses = 4; target = 0; permutations = 1; images = 2 ∷ 1 ∷ replicate 1022 0 }) (3 ∷ 2 ∷ 1 ∷ 0 ∷ []) (0 ∷ 1 ∷ 2 ∷ 3 ∷ [])
@@ -48,8 +51,7 @@ symmetric-text-read = record { reply = refl; formula = refl; positive = refl; ne
 -- R7, N3: "7 precedes 5 and 6 at a word": a malformed word behind C closed clauses
 abbrev pub late-word : List ℕ
 late-word =
-    112 ∷ 32 ∷ 99 ∷ 110 ∷ 102 ∷ 32 ∷ 49 ∷ 32 ∷ 49 ∷ 10
-    ∷ 49 ∷ 32 ∷ 48 ∷ 32 ∷ 120 ∷ 10 ∷ []
+    ascii "p cnf 1 1\n" ++ ascii "1 0 x\n"
 
 pub late-word-read : Example late-word (5 ∷ []) (6 ∷ []) (refused 7 14)
     emptyFormula (5 ∷ []) (6 ∷ [])
@@ -59,9 +61,7 @@ late-word-read = record { reply = refl; formula = refl; positive = refl; negativ
 -- R8, S20: "Thus an ordinary remark beginning so is refused."
 abbrev pub target-remark : List ℕ
 target-remark =
-    112 ∷ 32 ∷ 99 ∷ 110 ∷ 102 ∷ 32 ∷ 50 ∷ 32 ∷ 49 ∷ 10
-    ∷ 49 ∷ 32 ∷ 48 ∷ 10
-    ∷ 99 ∷ 32 ∷ 119 ∷ 105 ∷ 115 ∷ 104 ∷ 32 ∷ 102 ∷ 111 ∷ 114 ∷ 32 ∷ 114 ∷ 97 ∷ 105 ∷ 110 ∷ 10 ∷ []
+    ascii "p cnf 2 1\n" ++ ascii "1 0\n" ++ ascii "c wish for rain\n"
 
 pub target-remark-read : Example target-remark (5 ∷ []) (6 ∷ []) (refused 8 14)
     emptyFormula (5 ∷ []) (6 ∷ [])
