@@ -1,11 +1,12 @@
-// What checking a certificate costs as its points grow, without permutations and with 16, in one run. The clauses are all sign patterns of 8
-// variables, so that each point falsifies exactly one and has 8 flips to look up. Without permutations the points are all of m variables, and
-// every flip is one of them. With 16 two more variables tell the parity of those 8, and only the last permutation, which exchanges the two,
-// takes a flip to a point: the 15 before it are the identity, so that each of them costs an image and a look-up that finds nothing.
-#[path = "../tests/library.rs"]
-mod library;
+// What checking a certificate costs as its points grow, without permutations and with 16, in one run. The clauses are
+// all sign patterns of 8 variables, so that each point falsifies exactly one and has 8 flips to look up. Without
+// permutations the points are all of m variables, and every flip is one of them. With 16 two more variables tell the
+// parity of those 8, and only the last permutation, which exchanges the two, takes a flip to a point: the 15 before
+// it are the identity, so that each of them costs an image and a look-up that finds nothing.
 mod clock;
 mod files;
+#[path = "../tests/library.rs"]
+mod library;
 use clock::spent;
 use library::Sheet;
 
@@ -37,7 +38,8 @@ fn main() {
             }
             let held = points(m, listed > 0);
             let all = (1u64 << LISTED) - 1;
-            let file = files::certificate(variables, 1 << LISTED, &permutations, &held, |x| (all - (x & all)) as usize + 1);
+            let file =
+                files::certificate(variables, 1 << LISTED, &permutations, &held, |x| (all - (x & all)) as usize + 1);
             let mut reply = [0u64; 4];
             let begun = spent();
             library::check(&sheet(variables), &file, &mut reply);

@@ -1,19 +1,20 @@
-// What a flip costs as the slots grow: the search over PH(7, 6), which fills every slot lent, without permutations and with 16, in one run. The 16 are
-// the identity, so that both searches fill the same slots, and a flip that no slot covers costs 17 look-ups. The whole search is timed, the fastest of
-// some runs, by the processor's time (Linux), and divided by the flips that it tried.
+// What a flip costs as the slots grow: the search over PH(7, 6), which fills every slot lent, without permutations
+// and with 16, in one run. The 16 are the identity, so that both searches fill the same slots, and a flip that no
+// slot covers costs 17 look-ups. The whole search is timed, the fastest of some runs, by the processor's time
+// (Linux), and divided by the flips that it tried.
+mod clock;
 #[path = "../tests/library.rs"]
 mod library;
 #[path = "../tests/sheets.rs"]
 mod sheets;
-mod clock;
 use clock::spent;
 use library::Sheet;
 
 const HOLES: usize = 6;
 const VARIABLES: usize = HOLES * (HOLES + 1);
 
-// How many flips a search tries, and its seconds. Each point with a clause number had the variables of that clause flipped; of the last
-// such point the search may have left some out.
+// How many flips a search tries, and its seconds. Each point with a clause number had the variables of that clause
+// flipped; of the last such point the search may have left some out.
 fn measured(s: &Sheet, slots: usize, runs: usize) -> (f64, f64) {
     let mut least = f64::MAX;
     let mut flips = 0;

@@ -1,15 +1,24 @@
-// Certificates that benchmarks make themselves: contents, permutations, points, and for each point the number of a clause.
+// Certificates that benchmarks make themselves: contents, permutations, points, and for each point the number of a
+// clause.
 fn number(file: &mut Vec<u8>, x: usize) {
     file.extend((x as u32).to_le_bytes());
 }
 
-pub fn certificate(variables: u32, clauses: u32, permutations: &[Vec<u8>], points: &[u64], falsified: impl Fn(u64) -> usize) -> Vec<u8> {
+pub fn certificate(
+    variables: u32,
+    clauses: u32,
+    permutations: &[Vec<u8>],
+    points: &[u64],
+    falsified: impl Fn(u64) -> usize,
+) -> Vec<u8> {
     let images: Vec<u8> = permutations.concat();
     let points_at = 32 + images.len();
     let mut file = Vec::new();
     number(&mut file, variables as usize);
     number(&mut file, clauses as usize);
-    for (count, place) in [(permutations.len(), 32), (points.len(), points_at), (points.len(), points_at + 8 * points.len())] {
+    for (count, place) in
+        [(permutations.len(), 32), (points.len(), points_at), (points.len(), points_at + 8 * points.len())]
+    {
         number(&mut file, count);
         number(&mut file, place);
     }

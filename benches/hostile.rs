@@ -1,13 +1,13 @@
-// What the points of a file can cost whoever checks it, and those of a sheet whoever searches: each ordinary case beside the worst that was found,
-// in one run, by the processor's time (Linux). The index takes a tree by a hash of the point and goes down by its lowest digits, so hostile
-// points have the hash of one of a few trees and the same 30 lowest digits. Prints a table; the last column says how many times the ordinary
-// time the hostile one is.
+// What the points of a file can cost whoever checks it, and those of a sheet whoever searches: each ordinary case
+// beside the worst that was found, in one run, by the processor's time (Linux). The index takes a tree by a hash of
+// the point and goes down by its lowest digits, so hostile points have the hash of one of a few trees and the same 30
+// lowest digits. Prints a table; the last column says how many times the ordinary time the hostile one is.
+mod clock;
+mod files;
 #[path = "../tests/library.rs"]
 mod library;
 #[path = "../tests/sheets.rs"]
 mod sheets;
-mod clock;
-mod files;
 use clock::spent;
 use library::Sheet;
 
@@ -16,7 +16,8 @@ const POINTS: usize = 65536;
 const TREES: usize = 8;
 // The digits that hostile points share.
 const SHARED: u32 = 30;
-// Digit 63, variable 64, is flipped; the last permutation exchanges digits 61 and 62, of which the points have the first.
+// Digit 63, variable 64, is flipped; the last permutation exchanges digits 61 and 62, of which the points have the
+// first.
 const TOP: u64 = 1 << 63;
 const FIRST: u64 = 1 << 61;
 const SECOND: u64 = 1 << 62;
@@ -52,12 +53,14 @@ fn chosen() -> Vec<u64> {
     found.concat()
 }
 
-// The points of a file in which each flip of variable 64 is found by the last permutation alone: a half, and its flips, exchanged.
+// The points of a file in which each flip of variable 64 is found by the last permutation alone: a half, and its
+// flips, exchanged.
 fn closed(half: &[u64]) -> Vec<u64> {
     half.iter().copied().chain(half.iter().map(|&x| x ^ TOP ^ FIRST ^ SECOND)).collect()
 }
 
-// Sixteen permutations that keep the clauses on variable 64: fifteen exchange two of the 30 lowest variables, the last two above.
+// Sixteen permutations that keep the clauses on variable 64: fifteen exchange two of the 30 lowest variables, the
+// last two above.
 fn permutations() -> Vec<Vec<u8>> {
     let swapped = |a: usize, b: usize| {
         let mut e: Vec<u8> = (1..=64).collect();
@@ -69,15 +72,25 @@ fn permutations() -> Vec<Vec<u8>> {
 
 // The two clauses on variable 64 alone.
 fn units() -> Sheet {
-    Sheet { variables: 64, clauses: 2, target: 0, permutations: 0, images: vec![0; 1024], positive: vec![TOP, 0], negative: vec![0, TOP] }
+    Sheet {
+        variables: 64,
+        clauses: 2,
+        target: 0,
+        permutations: 0,
+        images: vec![0; 1024],
+        positive: vec![TOP, 0],
+        negative: vec![0, TOP],
+    }
 }
 
 fn milliseconds(mut step: impl FnMut()) -> f64 {
-    (0..5).map(|_| {
-        let begun = spent();
-        step();
-        (spent() - begun) * 1e3
-    }).fold(f64::MAX, f64::min)
+    (0..5)
+        .map(|_| {
+            let begun = spent();
+            step();
+            (spent() - begun) * 1e3
+        })
+        .fold(f64::MAX, f64::min)
 }
 
 fn checked(permutations: &[Vec<u8>], points: &[u64], wanted: [u64; 2]) -> f64 {
@@ -88,8 +101,8 @@ fn checked(permutations: &[Vec<u8>], points: &[u64], wanted: [u64; 2]) -> f64 {
     least
 }
 
-// 4,096 clauses of 12 variables: from any point the search visits all points of 16 variables, which are the lowest or the highest of 64. With 16
-// permutations that move nothing, so that every flip costs 17 look-ups.
+// 4,096 clauses of 12 variables: from any point the search visits all points of 16 variables, which are the lowest or
+// the highest of 64. With 16 permutations that move nothing, so that every flip costs 17 look-ups.
 fn cube(first: u32) -> Sheet {
     // the points with the digits of q, at variables that the lowest digit chooses, falsify the clause
     let clause = |q: u64| {
@@ -118,7 +131,15 @@ fn main() {
     println!("| case | ordinary, ms | hostile, ms | times |");
     println!("|---|---|---|---|");
     let alone = |h: &[u64]| h.iter().copied().chain(h.iter().map(|&x| x ^ TOP)).collect::<Vec<u64>>();
-    row("check 65,536 points, one flip each", checked(&[], &alone(&random), [7, 0]), checked(&[], &alone(&chosen), [7, 0]));
-    row("the same with 16 permutations, 17 look-ups a flip", checked(&permutations(), &closed(&random), [7, 0]), checked(&permutations(), &closed(&chosen), [7, 0]));
+    row(
+        "check 65,536 points, one flip each",
+        checked(&[], &alone(&random), [7, 0]),
+        checked(&[], &alone(&chosen), [7, 0]),
+    );
+    row(
+        "the same with 16 permutations, 17 look-ups a flip",
+        checked(&permutations(), &closed(&random), [7, 0]),
+        checked(&permutations(), &closed(&chosen), [7, 0]),
+    );
     row("search, 4,096 clauses of 12 variables, 16 permutations", searched(&cube(0)), searched(&cube(52)));
 }

@@ -1,5 +1,6 @@
-// How much of the stack each exported function takes: it runs on a stack of its own that was filled with a pattern, and what is no longer the
-// pattern afterwards was used. The inputs make each go as deep as it goes: a certificate that is checked to its end, a text that is solved.
+// How much of the stack each exported function takes: it runs on a stack of its own that was filled with a pattern,
+// and what is no longer the pattern afterwards was used. The inputs make each go as deep as it goes: a certificate
+// that is checked to its end, a text that is solved.
 #[path = "../tests/library.rs"]
 mod library;
 use library::Sheet;
@@ -11,7 +12,12 @@ const PATTERN: u8 = 0xA5;
 extern "C" {
     fn pthread_attr_init(attr: *mut [u64; 8]) -> i32;
     fn pthread_attr_setstack(attr: *mut [u64; 8], at: *mut c_void, size: usize) -> i32;
-    fn pthread_create(thread: *mut u64, attr: *const [u64; 8], start: extern "C" fn(*mut c_void) -> *mut c_void, with: *mut c_void) -> i32;
+    fn pthread_create(
+        thread: *mut u64,
+        attr: *const [u64; 8],
+        start: extern "C" fn(*mut c_void) -> *mut c_void,
+        with: *mut c_void,
+    ) -> i32;
     fn pthread_join(thread: u64, result: *mut *mut c_void) -> i32;
 }
 
@@ -45,14 +51,25 @@ fn main() {
     let clash = b"p cnf 2 4\nc exch 2 1\n1 2 0\n-1 2 0\n1 -2 0\n-1 -2 0\n";
     let mut images = vec![2, 1];
     images.resize(1024, 0);
-    let s = Sheet { variables: 2, clauses: 4, target: 0, permutations: 1, images, positive: vec![3, 2, 1, 0], negative: vec![0, 1, 2, 3] };
+    let s = Sheet {
+        variables: 2,
+        clauses: 4,
+        target: 0,
+        permutations: 1,
+        images,
+        positive: vec![3, 2, 1, 0],
+        negative: vec![0, 1, 2, 3],
+    };
     let (mut points, mut numbers, mut depths) = (vec![0; 8], vec![0; 8], vec![0; 8]);
     let (mut out, mut reply) = (vec![0; 70], vec![0; 4]);
     println!("function bytes-of-stack");
     let told = |name: &str, bytes: usize| println!("{name} {}", bytes - idle);
     let (mut p, mut q, mut four, mut kilo) = (vec![0; 4096], vec![0; 4096], vec![0; 4], vec![0; 1024]);
     told("read", used(&mut || assert_eq!(library::read(clash, &mut p, &mut q, &mut four, &mut kilo, &mut reply), 1)));
-    told("search", used(&mut || assert_eq!(library::search(&s, &mut points, &mut numbers, &mut depths, &mut reply), 1)));
+    told(
+        "search",
+        used(&mut || assert_eq!(library::search(&s, &mut points, &mut numbers, &mut depths, &mut reply), 1)),
+    );
     told("write", used(&mut || assert_eq!(library::write(&s, &points, &numbers, &depths, 3, &mut out, &mut reply), 1)));
     assert_eq!(reply[..2], [5, 70]);
     let mut slots = library::joined(&points, &numbers, &depths);
@@ -65,7 +82,12 @@ fn main() {
     told("open", used(&mut || assert_eq!(library::open(&out, &mut contents, &mut reply), 1)));
     told("point_at", used(&mut || assert_eq!(library::point_at(&out[34..58], 2, &mut reply), 1)));
     let mut file = vec![0; 70];
-    told("solve", used(&mut || assert_eq!(library::solve(clash, &mut points, &mut numbers, &mut depths, &mut file, &mut reply), 1)));
+    told(
+        "solve",
+        used(&mut || {
+            assert_eq!(library::solve(clash, &mut points, &mut numbers, &mut depths, &mut file, &mut reply), 1)
+        }),
+    );
     assert_eq!(reply[..3], [8, 3, 70]);
     let mut printed = vec![0; 312];
     told("nearest", used(&mut || assert_ne!(library::nearest(clash, &mut printed), 0)));

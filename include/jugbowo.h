@@ -1,30 +1,36 @@
-/* The style-sheet engine as a static library: libexports.a, built by `rt staticlib exports`. The two functions over one slice of slots stand in
- * another, libslot_exports.a, built by `rt staticlib slot_exports`; a program may link both.
+/* The style-sheet engine as a static library: libexports.a, built by `rt staticlib exports`. The two functions over
+ * one slice of slots stand in another, libslot_exports.a, built by `rt staticlib slot_exports`; a program may link
+ * both.
  *
- * A lent slice is a pointer and a length, in elements; with length 0 the pointer may be anything that is not null. Slices lent to one call
- * must not overlap unless all of them are const. Nothing else is asked: any numbers, any bytes, any lengths.
+ * A lent slice is a pointer and a length, in elements; with length 0 the pointer may be anything that is not null.
+ * Slices lent to one call must not overlap unless all of them are const. Nothing else is asked: any numbers, any
+ * bytes, any lengths.
  *
- * An answer is told in words at the front of `reply`, and the function returns 1. Where one of the slices for the answer is too short it
- * returns 0 and changes nothing: it had no place to reply. Words of `reply` behind the answer are left alone. The first word says which
- * answer it is, the others what it carries, then 0:
+ * An answer stands in words at the front of `reply`, and the function returns 1. Where one of the slices for the
+ * answer is too short it returns 0 and changes nothing: it had no place to reply. Words of `reply` behind the answer
+ * are left alone. The first word says which answer it is, the others what it carries, then 0:
  *
  *   JUGBOWO_REFUSED        number, place      a numbered refusal (docs/REFUSALS.md); all lent slices are as they were
- *   JUGBOWO_SATISFIABLE    point, distance, filled     the nearest satisfying point, in how many variables it differs from the target
+ *   JUGBOWO_SATISFIABLE    point, distance, filled     the nearest satisfying point, in how many variables it differs
+ *                                                      from the target
  *   JUGBOWO_UNSATISFIABLE  filled             no point satisfies the clauses; the filled slots are a stable set
- *   JUGBOWO_UNKNOWN        bound, filled      no room; every satisfying point differs from the target in at least `bound` variables
+ *   JUGBOWO_UNKNOWN        bound, filled      no room; every satisfying point differs from the target in at least
+ *                                             `bound` variables
  *   JUGBOWO_PARSED                            the text is read
  *   JUGBOWO_WRITTEN        bytes              the certificate takes the first so many bytes of the output
  *   JUGBOWO_OPENED                            the file's contents are in order
  *   JUGBOWO_ACCEPTED                          the certificate is accepted: no point satisfies the clauses
- *   JUGBOWO_CERTIFIED      filled, bytes      unsatisfiable, with its certificate in the first so many bytes of the output, checked
+ *   JUGBOWO_CERTIFIED      filled, bytes      unsatisfiable, with its certificate in the first so many bytes of the
+ *                                             output, checked
  *   JUGBOWO_UNCERTIFIED    filled, needed     unsatisfiable; the output has fewer than `needed` bytes and is as it was
  *
- * A formula is four numbers and the images of its permutations, `variables` bytes each, that of variable 1 first: of `images` the first
- * 1,024 bytes count, and 0 for those that are not lent. A clause is the same place of `positive` and of `negative`, sets of variables: bit i
- * is variable i + 1. A point is such a set too: the variables that are yes.
+ * A formula is four numbers and the images of its permutations, `variables` bytes each, that of variable 1 first: of
+ * `images` the first 1,024 bytes count, and 0 for those that are not lent. A clause is the same place of `positive`
+ * and of `negative`, sets of variables: bit i is variable i + 1. A point is such a set too: the variables that are
+ * yes.
  *
- * No function keeps anything between calls or uses memory but the stack. A call takes less of it than stands at its function, all that it calls
- * included, so never 4 MiB; benches/run measures how much. */
+ * No function keeps anything between calls or uses memory but the stack. A call takes less of it than stands at its
+ * function, all that it calls included, so never 4 MiB; benches/run measures how much. */
 #ifndef JUGBOWO_H
 #define JUGBOWO_H
 
@@ -48,10 +54,10 @@ enum {
     JUGBOWO_UNCERTIFIED = 9
 };
 
-/* Reads a DIMACS text. Takes the text; leaves the clauses in the first places of `positive` and `negative`, the formula's four numbers
- * (variables, clauses, target, permutations) in the first four words of `numbers`, its images in the first 1,024 bytes of `images`, the answer
- * in the first four words of `reply`: refusals 1 to 9, or parsed. After a refusal both clause slices are as they were, numbers and images 0.
- * Stack: 96 KiB. */
+/* Reads a DIMACS text. Takes the text; leaves the clauses in the first places of `positive` and `negative`, the
+ * formula's four numbers (variables, clauses, target, permutations) in the first four words of `numbers`, its images
+ * in the first 1,024 bytes of `images`, the answer in the first four words of `reply`: refusals 1 to 9, or parsed.
+ * After a refusal both clause slices are as they were, numbers and images 0. Stack: 96 KiB. */
 uint32_t jugbowo_read(const uint8_t *text, size_t text_len,
                       uint64_t *positive, size_t positive_len,
                       uint64_t *negative, size_t negative_len,
@@ -59,9 +65,10 @@ uint32_t jugbowo_read(const uint8_t *text, size_t text_len,
                       uint8_t *images, size_t images_len,
                       uint64_t *reply, size_t reply_len);
 
-/* Searches from the target for the nearest satisfying point. Takes a formula with exactly `clauses` places in both clause slices; fills
- * slots from the front of the three slot slices, of which the shortest counts, at most 65,536. Slots beyond those filled are left alone.
- * Answers: refusals 10 to 13, satisfiable, unsatisfiable or unknown. Stack: 1 MiB. */
+/* Searches from the target for the nearest satisfying point. Takes a formula with exactly `clauses` places in both
+ * clause slices; fills slots from the front of the three slot slices, of which the shortest counts, at most 65,536.
+ * Slots beyond those filled are left alone. Answers: refusals 10 to 13, satisfiable, unsatisfiable or unknown. Stack:
+ * 1 MiB. */
 uint32_t jugbowo_search(uint32_t variables, uint32_t clauses, uint64_t target, uint32_t permutations,
                         const uint8_t *images, size_t images_len,
                         const uint64_t *positive, size_t positive_len,
@@ -71,9 +78,9 @@ uint32_t jugbowo_search(uint32_t variables, uint32_t clauses, uint64_t target, u
                         uint32_t *depths, size_t depths_len,
                         uint64_t *reply, size_t reply_len);
 
-/* Writes the certificate of the first `count` slots. Takes the same formula and clauses and the slots as a search left them; leaves the
- * certificate at the front of `out` and the bytes behind it alone. Answers: refusals 10, 11, 12, 16, 17, 19 (with the bytes needed), or
- * written. Stack: 1 MiB. */
+/* Writes the certificate of the first `filled` slots. Takes the same formula and clauses and the slots as a search
+ * left them; leaves the certificate at the front of `out` and the bytes behind it alone. Answers: refusals 10, 11,
+ * 12, 16, 17, 19 (with the bytes needed), or written. Stack: 1 MiB. */
 uint32_t jugbowo_write(uint32_t variables, uint32_t clauses, uint64_t target, uint32_t permutations,
                        const uint8_t *images, size_t images_len,
                        const uint64_t *positive, size_t positive_len,
@@ -81,19 +88,20 @@ uint32_t jugbowo_write(uint32_t variables, uint32_t clauses, uint64_t target, ui
                        const uint64_t *points, size_t points_len,
                        const uint32_t *falsified, size_t falsified_len,
                        const uint32_t *depths, size_t depths_len,
-                       uint32_t count,
+                       uint32_t filled,
                        uint8_t *out, size_t out_len,
                        uint64_t *reply, size_t reply_len);
 
-/* A slot: a visited point, the number of the clause that it falsifies, from 1, or 0 while it is unprocessed, and its depth. 16 bytes, no gaps. */
+/* A slot: a visited point, the number of the clause that it falsifies, from 1, or 0 while it is unprocessed, and its
+ * depth. 16 bytes, no gaps. */
 struct jugbowo_slot {
     uint64_t point;
     uint32_t falsified;
     uint32_t depth;
 };
 
-/* The search with its slots in one slice of structs instead of three slices: the same answers, and the same slots. It works on copies of
- * them. Stack: 2 MiB. */
+/* The search with its slots in one slice of structs instead of three slices: the same answers, and the same slots. It
+ * works on copies of them. Stack: 2 MiB. */
 uint32_t jugbowo_search_slots(uint32_t variables, uint32_t clauses, uint64_t target, uint32_t permutations,
                               const uint8_t *images, size_t images_len,
                               const uint64_t *positive, size_t positive_len,
@@ -107,12 +115,12 @@ uint32_t jugbowo_write_slots(uint32_t variables, uint32_t clauses, uint64_t targ
                              const uint64_t *positive, size_t positive_len,
                              const uint64_t *negative, size_t negative_len,
                              const struct jugbowo_slot *slots, size_t slots_len,
-                             uint32_t count,
+                             uint32_t filled,
                              uint8_t *out, size_t out_len,
                              uint64_t *reply, size_t reply_len);
 
-/* Checks a certificate for the clauses of a formula, whose target and permutations it does not look at. Changes nothing but `reply`.
- * Answers: refusals 10, 14, 15, 11, 12, 16, 17, 18 in this order, or accepted. Stack: 2 MiB. */
+/* Checks a certificate for the clauses of a formula, whose target and permutations it does not look at. Changes
+ * nothing but `reply`. Answers: refusals 10, 14, 15, 11, 12, 16, 17, 18 in this order, or accepted. Stack: 2 MiB. */
 uint32_t jugbowo_check(uint32_t variables, uint32_t clauses, uint64_t target, uint32_t permutations,
                        const uint8_t *images, size_t images_len,
                        const uint64_t *positive, size_t positive_len,
@@ -120,22 +128,23 @@ uint32_t jugbowo_check(uint32_t variables, uint32_t clauses, uint64_t target, ui
                        const uint8_t *file, size_t file_len,
                        uint64_t *reply, size_t reply_len);
 
-/* Reads a certificate's contents without checking it: the eight numbers of its first 32 bytes, in their order, to the first eight words of
- * `contents`, which a refusal leaves alone. Answers: refusal 14, or opened. Stack: 4 KiB. */
+/* Reads a certificate's contents without checking it: the eight numbers of its first 32 bytes, in their order, to the
+ * first eight words of `contents`, which a refusal leaves alone. Answers: refusal 14, or opened. Stack: 4 KiB. */
 uint32_t jugbowo_open(const uint8_t *file, size_t file_len,
                       uint64_t *contents, size_t contents_len,
                       uint64_t *reply, size_t reply_len);
 
-/* One entry of a body of a certificate, which is lent as its own part of the file: where permutation j, of n bytes each, sends variable i + 1;
- * point i; clause number i. Indices count from 0. Two words of `reply`: 1 and the value, or 0 and 0 where the entry lies outside the body.
- * Stack: 4 KiB. */
-uint32_t jugbowo_image_at(const uint8_t *body, size_t body_len, size_t n, size_t j, size_t i, uint64_t *reply, size_t reply_len);
+/* One entry of a body of a certificate, which is lent as its own part of the file: where permutation j, of n bytes
+ * each, sends variable i + 1; point i; clause number i. Indices count from 0. Two words of `reply`: 1 and the value,
+ * or 0 and 0 where the entry lies outside the body. Stack: 4 KiB. */
+uint32_t jugbowo_image_at(const uint8_t *body, size_t body_len, size_t n, size_t j, size_t i, uint64_t *reply,
+                          size_t reply_len);
 uint32_t jugbowo_point_at(const uint8_t *body, size_t body_len, size_t i, uint64_t *reply, size_t reply_len);
 uint32_t jugbowo_number_at(const uint8_t *body, size_t body_len, size_t i, uint64_t *reply, size_t reply_len);
 
-/* Reads a text, searches and, where no point satisfies the clauses, writes and checks the certificate. Takes the text; fills slots as the
- * search does, and leaves a certificate at the front of `out`. Answers: refusals 1 to 3 and 5 to 9 of the reader, 12 and 13 of the search,
- * satisfiable, unknown, certified or uncertified. Stack: 2 MiB. */
+/* Reads a text, searches and, where no point satisfies the clauses, writes and checks the certificate. Takes the
+ * text; fills slots as the search does, and leaves a certificate at the front of `out`. Answers: refusals 1 to 3 and
+ * 5 to 9 of the reader, 12 and 13 of the search, satisfiable, unknown, certified or uncertified. Stack: 2 MiB. */
 uint32_t jugbowo_solve(const uint8_t *text, size_t text_len,
                        uint64_t *points, size_t points_len,
                        uint32_t *falsified, size_t falsified_len,
@@ -143,8 +152,8 @@ uint32_t jugbowo_solve(const uint8_t *text, size_t text_len,
                        uint8_t *out, size_t out_len,
                        uint64_t *reply, size_t reply_len);
 
-/* What the program `nearest` prints for a text, to the front of `out`; the bytes behind it are left alone. Returns how many bytes, at most 312;
- * where `out` has fewer than 312 it returns 0 and changes nothing. Stack: 1,280 KiB. */
+/* What the program `nearest` prints for a text, to the front of `out`; the bytes behind it are left alone. Returns
+ * how many bytes, at most 312; where `out` has fewer than 312 it returns 0 and changes nothing. Stack: 1,280 KiB. */
 size_t jugbowo_nearest(const uint8_t *text, size_t text_len, uint8_t *out, size_t out_len);
 
 #ifdef __cplusplus

@@ -1,9 +1,12 @@
-// Certificates: those of document 01's worked cases byte for byte, document 002's 14 points as a certificate from elsewhere, whole and with one
-// field damaged at a time, and everything from a text to a checked certificate, in one call and step by step. Prints a line a case and a count;
-// exit status 1 if one is not as expected.
+// Certificates: those of document 01's worked cases byte for byte, document 002's 14 points as a certificate from
+// elsewhere, whole and with one field damaged at a time, and everything from a text to a checked certificate, in one
+// call and step by step. Prints a line a case and a count; exit status 1 if one is not as expected.
 mod library;
 mod sheets;
-use library::{Count, Sheet, ACCEPTED, CERTIFIED, OPENED, PARSED, REFUSED, SATISFIABLE, UNCERTIFIED, UNKNOWN, UNSATISFIABLE, WRITTEN};
+use library::{
+    Count, Sheet, ACCEPTED, CERTIFIED, OPENED, PARSED, REFUSED, SATISFIABLE, UNCERTIFIED, UNKNOWN, UNSATISFIABLE,
+    WRITTEN,
+};
 use sheets::{clause, paper, pigeons, search, sheet, swaps, text, Found};
 
 // A certificate by hand: the eight 32-bit numbers of the contents, then the bodies.
@@ -47,7 +50,10 @@ fn written(s: &Sheet, slots: usize, room: usize) -> ([u64; 4], Vec<u8>) {
     let found = search(s, slots);
     assert_eq!(found.reply[0], UNSATISFIABLE);
     let (mut out, mut reply) = (vec![9; room], [9; 4]);
-    assert_eq!(library::write(s, &found.points, &found.numbers, &found.depths, found.reply[1] as u32, &mut out, &mut reply), 1);
+    assert_eq!(
+        library::write(s, &found.points, &found.numbers, &found.depths, found.reply[1] as u32, &mut out, &mut reply),
+        1
+    );
     (reply, out)
 }
 
@@ -58,17 +64,15 @@ fn formula_a() -> Vec<(u64, u64)> {
 
 fn worked_cases(count: &mut Count) {
     // A: points 00 10 01 11, clauses 1 2 3 4: 32 + 4 * 8 + 4 * 4 = 80 bytes, bodies at 32, 32 and 64.
-    let a = hex(
-        "02000000 04000000 00000000 20000000 04000000 20000000 04000000 40000000 \
-         0000000000000000 0100000000000000 0200000000000000 0300000000000000 01000000 02000000 03000000 04000000",
-    );
-    // A with the permutation 2 1: points 00 10 11, clauses 1 2 4: 32 + 2 + 3 * 8 + 3 * 4 = 70 bytes, bodies at 32, 34 and 58.
-    let swapped = hex(
-        "02000000 04000000 01000000 20000000 03000000 22000000 03000000 3a000000 \
-         0201 0000000000000000 0100000000000000 0300000000000000 01000000 02000000 04000000",
-    );
+    let a = hex("02000000 04000000 00000000 20000000 04000000 20000000 04000000 40000000 \
+         0000000000000000 0100000000000000 0200000000000000 0300000000000000 01000000 02000000 03000000 04000000");
+    // A with the permutation 2 1: points 00 10 11, clauses 1 2 4: 32 + 2 + 3 * 8 + 3 * 4 = 70 bytes, bodies at 32, 34
+    // and 58.
+    let swapped = hex("02000000 04000000 01000000 20000000 03000000 22000000 03000000 3a000000 \
+         0201 0000000000000000 0100000000000000 0300000000000000 01000000 02000000 04000000");
     // One variable and one empty clause: the point 0 with clause 1: 32 + 8 + 4 = 44 bytes, bodies at 32, 32 and 40.
-    let empty = hex("01000000 01000000 00000000 20000000 01000000 20000000 01000000 28000000 0000000000000000 01000000");
+    let empty =
+        hex("01000000 01000000 00000000 20000000 01000000 20000000 01000000 28000000 0000000000000000 01000000");
     let cases = [
         ("A", sheet(2, &formula_a(), &[]), a),
         ("A with the permutation 2 1", sheet(2, &formula_a(), &[vec![2, 1]]), swapped),
@@ -83,7 +87,8 @@ fn worked_cases(count: &mut Count) {
     }
 }
 
-// Document 002's points and clause numbers as a file, 32 + 14 * 8 + 14 * 4 = 200 bytes with bodies at 32, 32 and 144, and its formula.
+// Document 002's points and clause numbers as a file, 32 + 14 * 8 + 14 * 4 = 200 bytes with bodies at 32, 32 and 144,
+// and its formula.
 fn from_paper() -> (Sheet, File) {
     let (clauses, listed) = paper();
     let (points, numbers): (Vec<u64>, Vec<u32>) = listed.into_iter().unzip();
@@ -97,14 +102,22 @@ fn foreign(count: &mut Count) {
     count.compare("the paper's set", checked(&s, &bytes), [ACCEPTED, 0, 0, 0]);
     let mut wishful = sheet(6, &paper().0, &[vec![1, 1, 1, 1, 1, 1]]);
     wishful.target = 1 << 63;
-    count.compare("the formula's target and permutations are not looked at", checked(&wishful, &bytes), [ACCEPTED, 0, 0, 0]);
+    count.compare(
+        "the formula's target and permutations are not looked at",
+        checked(&wishful, &bytes),
+        [ACCEPTED, 0, 0, 0],
+    );
     let (mut contents, mut reply) = ([9; 8], [9; 4]);
     let told = library::open(&bytes, &mut contents, &mut reply);
-    count.compare("the paper's set: opened", (told, reply, contents), (1, [OPENED, 0, 0, 0], [6, 7, 0, 32, 14, 32, 14, 144]));
+    count.compare(
+        "the paper's set: opened",
+        (told, reply, contents),
+        (1, [OPENED, 0, 0, 0], [6, 7, 0, 32, 14, 32, 14, 144]),
+    );
 }
 
-// Each number of the contents changed alone. Another n or m leaves lengths and offsets in order, since there is no permutation: 15. Every
-// other number contradicts a count, an offset or the length of 200: 14.
+// Each number of the contents changed alone. Another n or m leaves lengths and offsets in order, since there is no
+// permutation: 15. Every other number contradicts a count, an offset or the length of 200: 14.
 fn damaged_contents(count: &mut Count) {
     let names = ["n", "m", "permutations", "their offset", "points", "their offset", "clause numbers", "their offset"];
     let other = [7, 8, 1, 33, 13, 33, 15, 143];
@@ -116,22 +129,32 @@ fn damaged_contents(count: &mut Count) {
     }
 }
 
-// A length that fits only where sums wrap. Modulo 2^32: of 2^30 points and as many clause numbers, 8 * 2^30 and 4 * 2^30 are both 0, so that the bodies of
-// a file of 32 bytes would all begin at 32. Modulo 2^64: 2^32 - 6 permutations of 2^32 - 6 bytes and 2^32 - 3 points and numbers of 12 bytes are
-// 2^64 - 12 * 2^32 + 36 + 12 * 2^32 - 36, which is 0; the offsets modulo 2^32 are then 32 + 36 and 68 - 24.
+// A length that fits only where sums wrap. Modulo 2^32: of 2^30 points and as many clause numbers, 8 * 2^30 and 4 *
+// 2^30 are both 0, so that the bodies of a file of 32 bytes would all begin at 32. Modulo 2^64: 2^32 - 6 permutations
+// of 2^32 - 6 bytes and 2^32 - 3 points and numbers of 12 bytes are 2^64 - 12 * 2^32 + 36 + 12 * 2^32 - 36, which is
+// 0; the offsets modulo 2^32 are then 32 + 36 and 68 - 24.
 fn wrapped_lengths(count: &mut Count) {
     let (s, _) = from_paper();
     let bare = |contents: [u32; 8]| File { contents, images: vec![], points: vec![], numbers: vec![] }.bytes();
     let (many, all) = (1 << 30, u32::MAX);
     count.compare("a length modulo 2^32", checked(&s, &bare([6, 7, 0, 32, many, 32, many, 32])), [REFUSED, 14, 32, 0]);
-    count.compare("a length modulo 2^64", checked(&s, &bare([all - 5, 7, all - 5, 32, all - 2, 68, all - 2, 44])), [REFUSED, 14, 32, 0]);
+    count.compare(
+        "a length modulo 2^64",
+        checked(&s, &bare([all - 5, 7, all - 5, 32, all - 2, 68, all - 2, 44])),
+        [REFUSED, 14, 32, 0],
+    );
 }
 
 fn damaged_lengths(count: &mut Count) {
     let (s, file) = from_paper();
     let bytes = file.bytes();
     let longer = [bytes.clone(), vec![0]].concat();
-    let cases = [("one byte more", &longer[..], 201), ("one byte less", &bytes[..199], 199), ("an empty file", &[][..], 0), ("half the contents", &bytes[..16], 16)];
+    let cases = [
+        ("one byte more", &longer[..], 201),
+        ("one byte less", &bytes[..199], 199),
+        ("an empty file", &[][..], 0),
+        ("half the contents", &bytes[..16], 16),
+    ];
     for (name, part, length) in cases {
         let (mut contents, mut reply) = ([9; 8], [9; 4]);
         let told = library::open(part, &mut contents, &mut reply);
@@ -140,8 +163,8 @@ fn damaged_lengths(count: &mut Count) {
     }
 }
 
-// A changed byte of the permutation 2 1 of A leaves no permutation: 11 with its number. The paper's formula does not keep (-2 3) when variables 1 and 2
-// are exchanged: 12 with the permutation's number.
+// A changed byte of the permutation 2 1 of A leaves no permutation: 11 with its number. The paper's formula does not
+// keep (-2 3) when variables 1 and 2 are exchanged: 12 with the permutation's number.
 fn damaged_permutations(count: &mut Count) {
     let s = sheet(2, &formula_a(), &[]);
     let with = |images: &[u8]| File::new(2, 4, images, &[0, 1, 3], &[1, 2, 4]).bytes();
@@ -190,7 +213,8 @@ fn without(file: &File, index: usize) -> File {
 fn solved(text: &[u8], slots: usize, room: usize) -> (Found, Vec<u8>) {
     let mut found = Found { reply: [9; 4], points: vec![9; slots], numbers: vec![9; slots], depths: vec![9; slots] };
     let mut out = vec![9; room];
-    let told = library::solve(text, &mut found.points, &mut found.numbers, &mut found.depths, &mut out, &mut found.reply);
+    let told =
+        library::solve(text, &mut found.points, &mut found.numbers, &mut found.depths, &mut out, &mut found.reply);
     assert_eq!(told, 1);
     (found, out)
 }
@@ -204,7 +228,15 @@ fn read(text: &[u8]) -> Sheet {
     positive.truncate(numbers[1] as usize);
     negative.truncate(numbers[1] as usize);
     let [variables, clauses, target, permutations] = numbers;
-    Sheet { variables: variables as u32, clauses: clauses as u32, target, permutations: permutations as u32, images, positive, negative }
+    Sheet {
+        variables: variables as u32,
+        clauses: clauses as u32,
+        target,
+        permutations: permutations as u32,
+        images,
+        positive,
+        negative,
+    }
 }
 
 // From a text to a checked certificate, in one call and step by step, and the same with one byte too few.
@@ -214,24 +246,37 @@ fn unsatisfiable(count: &mut Count, name: &str, text: &[u8], slots: u64, size: u
     let s = read(text);
     let found = search(&s, 4096);
     count.compare(&format!("{name}: searched"), found.reply, [UNSATISFIABLE, slots, 0, 0]);
-    let same = (&solution.points, &solution.numbers, &solution.depths) == (&found.points, &found.numbers, &found.depths);
-    count.expect(&format!("{name}: the same slots, those behind them unchanged"), same && found.points[slots as usize..].iter().all(|&x| x == 9));
+    let same =
+        (&solution.points, &solution.numbers, &solution.depths) == (&found.points, &found.numbers, &found.depths);
+    count.expect(
+        &format!("{name}: the same slots, those behind them unchanged"),
+        same && found.points[slots as usize..].iter().all(|&x| x == 9),
+    );
     let (reply, again) = written(&s, 4096, size + 3);
     count.compare(&format!("{name}: written"), reply, [WRITTEN, size as u64, 0, 0]);
-    count.expect(&format!("{name}: the same output, the bytes behind it unchanged"), out == again && out[size..] == [9; 3]);
+    count.expect(
+        &format!("{name}: the same output, the bytes behind it unchanged"),
+        out == again && out[size..] == [9; 3],
+    );
     count.compare(&format!("{name}: checked"), checked(&s, &out[..size]), [ACCEPTED, 0, 0, 0]);
     let (short, unwritten) = solved(text, 4096, size - 1);
-    count.compare(&format!("{name}: an output one byte too short"), (short.reply, unwritten), ([UNCERTIFIED, slots, size as u64, 0], vec![9; size - 1]));
+    count.compare(
+        &format!("{name}: an output one byte too short"),
+        (short.reply, unwritten),
+        ([UNCERTIFIED, slots, size as u64, 0], vec![9; size - 1]),
+    );
     out[..size].to_vec()
 }
 
 fn end_to_end(count: &mut Count) {
     let file = unsatisfiable(count, "the paper's formula", &text(6, &paper().0, &[]), 14, 200);
-    // The search by hand, oldest point first: 000000 falsifies (1 2) and leads to 100000 and 010000, these to 100010 and 011000, and so on.
+    // The search by hand, oldest point first: 000000 falsifies (1 2) and leads to 100000 and 010000, these to 100010
+    // and 011000, and so on.
     let points = [0, 1, 2, 17, 6, 49, 14, 48, 15, 50, 31, 54, 63, 62];
     let numbers = [1, 5, 2, 6, 3, 7, 4, 1, 5, 2, 6, 3, 7, 4];
     count.compare("the paper's formula: the certificate", file, File::new(6, 7, &[], &points, &numbers).bytes());
-    // Slots as the search of tests/cases.rs has them; a certificate has 32 + n bytes for each permutation + 12 bytes for each slot.
+    // Slots as the search of tests/cases.rs has them; a certificate has 32 + n bytes for each permutation + 12 bytes
+    // for each slot.
     let plain = [(4, 80), (23, 308), (196, 2384)];
     let listed = [(3, 70), (9, 158), (54, 740)];
     for m in 1..=3 {
@@ -259,7 +304,8 @@ fn other_answers(count: &mut Count) {
     for (name, text, slots, wanted) in cases {
         let (found, out) = solved(text, slots, 100);
         count.compare(&format!("{name}: solved"), (found.reply, out), (wanted, vec![9; 100]));
-        let unchanged = found.points.iter().all(|&x| x == 9) && found.numbers.iter().chain(&found.depths).all(|&x| x == 9);
+        let unchanged =
+            found.points.iter().all(|&x| x == 9) && found.numbers.iter().chain(&found.depths).all(|&x| x == 9);
         count.compare(&format!("{name}: slots unchanged"), unchanged, wanted[0] == REFUSED);
     }
 }
@@ -282,7 +328,11 @@ fn no_place(count: &mut Count) {
     count.compare("nothing changed", (few, one, reply, contents, seven), ([9; 3], [9; 1], [9; 4], [9; 8], [9; 7]));
     let (mut points, mut numbers, mut depths, mut out) = ([9; 4], [9; 4], [9; 4], [9; 80]);
     let told = library::solve(&text(2, &formula_a(), &[]), &mut points, &mut numbers, &mut depths, &mut out, &mut few);
-    count.compare("no place for the solver's words", (told, points, numbers, depths, few), (0, [9; 4], [9; 4], [9; 4], [9; 3]));
+    count.compare(
+        "no place for the solver's words",
+        (told, points, numbers, depths, few),
+        (0, [9; 4], [9; 4], [9; 4], [9; 3]),
+    );
     count.expect("the output unchanged", out == [9; 80]);
 }
 

@@ -1,10 +1,11 @@
-// The compiled library against the implementation of reference.rs, on random and damaged inputs: replies and all memory lent are compared and,
-// for at most 12 names, the promises are tried by brute force. Usage: differential SEED COUNT. Each case has a seed of its own, which is printed
-// where something differs: `differential SEED 1` runs that case again. Exit status 1 if anything differs.
+// The compiled library against the implementation of reference.rs, on random and damaged inputs: replies and all
+// memory lent are compared and, for at most 12 names, the promises are tried by brute force. Usage: differential SEED
+// COUNT. Each case has a seed of its own, which is printed where something differs: `differential SEED 1` runs that
+// case again. Exit status 1 if anything differs.
 use std::collections::BTreeMap;
 
-mod library;
 mod lending;
+mod library;
 mod reference;
 use lending::{lent, words};
 use reference::{Reply, Slot};
@@ -70,7 +71,11 @@ fn rule(r: &mut Random, n: u32) -> (u64, u64) {
     let mut both = (0, 0);
     for _ in 0..*r.pick(&[0, 1, 1, 2, 2, 2, 3, 3, 4]) {
         let bit = 1u64 << r.below(u64::from(n));
-        if r.chance(2) { both.0 |= bit } else { both.1 |= bit }
+        if r.chance(2) {
+            both.0 |= bit
+        } else {
+            both.1 |= bit
+        }
     }
     both
 }
@@ -95,8 +100,11 @@ fn closed(rules: &mut Vec<(u64, u64)>, listed: &[Vec<u8>]) {
 
 fn sheet(r: &mut Random) -> reference::Sheet {
     let names = *r.pick(&[1, 2, 2, 3, 3, 4, 4, 5, 6, 7, 8, 10, 12, 20, 63, 64]);
-    let mut rules: Vec<(u64, u64)> = (0..r.below(if names > 12 { 6 } else { 3 * u64::from(names) + 2 })).map(|_| rule(r, names)).collect();
-    let listed: Vec<Vec<u8>> = (0..*r.pick(&[0u64, 0, 1, 1, 2, 3, 16])).map(|_| if r.chance(3) { r.permutation(names) } else { exchanged(r, names) }).collect();
+    let mut rules: Vec<(u64, u64)> =
+        (0..r.below(if names > 12 { 6 } else { 3 * u64::from(names) + 2 })).map(|_| rule(r, names)).collect();
+    let listed: Vec<Vec<u8>> = (0..*r.pick(&[0u64, 0, 1, 1, 2, 3, 16]))
+        .map(|_| if r.chance(3) { r.permutation(names) } else { exchanged(r, names) })
+        .collect();
     if !r.chance(6) {
         closed(&mut rules, &listed);
     }
@@ -155,13 +163,25 @@ fn text(r: &mut Random) -> Vec<u8> {
     out.extend(format!("p cnf {names} {}\n", s.rules).bytes());
     let n = s.names as usize;
     let mut comments: Vec<Vec<u8>> = (0..s.exchanges as usize)
-        .map(|k| [&b"c exch "[..], s.bytes[k * n..(k + 1) * n].iter().map(|b| b.to_string()).collect::<Vec<_>>().join(" ").as_bytes(), b"\n"].concat())
+        .map(|k| {
+            [
+                &b"c exch "[..],
+                s.bytes[k * n..(k + 1) * n].iter().map(|b| b.to_string()).collect::<Vec<_>>().join(" ").as_bytes(),
+                b"\n",
+            ]
+            .concat()
+        })
         .collect();
     if r.chance(2) {
-        comments.push([&b"c wish "[..], &(0..n).map(|i| b'0' + (s.wish >> i & 1) as u8).collect::<Vec<u8>>(), b" \n"].concat());
+        comments.push(
+            [&b"c wish "[..], &(0..n).map(|i| b'0' + (s.wish >> i & 1) as u8).collect::<Vec<u8>>(), b" \n"].concat(),
+        );
     }
     for (yes, no) in s.both() {
-        let literals = (0..64).filter(|i| yes >> i & 1 == 1).map(|i| i + 1).chain((0..64).filter(|i| no >> i & 1 == 1).map(|i| -i - 1));
+        let literals = (0..64)
+            .filter(|i| yes >> i & 1 == 1)
+            .map(|i| i + 1)
+            .chain((0..64).filter(|i| no >> i & 1 == 1).map(|i| -i - 1));
         for l in literals.chain([0]) {
             if r.chance(9) {
                 out.push(b'\n');
@@ -193,7 +213,19 @@ fn damage(r: &mut Random, bytes: &mut Vec<u8>) {
                 bytes.splice(at..at, part);
             }
             3 => {
-                let word = *r.pick(&[&b"c wish "[..], b"c exch ", b"p cnf ", b"-0 ", b"00012 ", b"0", b"-", b"65 ", b"c", b"\n", b"\0"]);
+                let word = *r.pick(&[
+                    &b"c wish "[..],
+                    b"c exch ",
+                    b"p cnf ",
+                    b"-0 ",
+                    b"00012 ",
+                    b"0",
+                    b"-",
+                    b"65 ",
+                    b"c",
+                    b"\n",
+                    b"\0",
+                ]);
                 bytes.splice(at..at, word.iter().copied());
             }
             _ => {
@@ -249,12 +281,20 @@ impl Case {
         let before = (self.random.filled(yes), self.random.filled(no));
         let (mut positive, mut negative) = before.clone();
         let (mut numbers, mut images, mut reply) = ([3; 5], [3; 1025], [3; 5]);
-        self.same("told", library::read(&bytes, &mut positive, &mut negative, &mut numbers, &mut images, &mut reply), 1);
+        self.same(
+            "told",
+            library::read(&bytes, &mut positive, &mut negative, &mut numbers, &mut images, &mut reply),
+            1,
+        );
         self.saw("read", &reply);
         match reference::read(&bytes, yes, no) {
             Ok(s) => {
                 self.same("reply", reply.to_vec(), vec![4, 0, 0, 0, 3]);
-                self.same("numbers", numbers.to_vec(), vec![u64::from(s.names), u64::from(s.rules), s.wish, u64::from(s.exchanges), 3]);
+                self.same(
+                    "numbers",
+                    numbers.to_vec(),
+                    vec![u64::from(s.names), u64::from(s.rules), s.wish, u64::from(s.exchanges), 3],
+                );
                 self.same("images", images[..1024].to_vec(), s.bytes.clone());
                 self.same("positive", positive, [&s.yes[..], &before.0[s.yes.len()..]].concat());
                 self.same("negative", negative, [&s.no[..], &before.1[s.no.len()..]].concat());
@@ -274,19 +314,37 @@ impl Case {
             bend(&mut self.random, &mut s);
         }
         let most = if self.random.chance(400) { 65536 } else { *self.random.pick(&[0, 1, 2, 3, 5, 9, 40, 300, 5000]) };
-        let lengths: Vec<usize> = (0..3).map(|_| most + self.random.below(3) as usize * self.random.below(2) as usize).collect();
-        let (points, numbers, depths) = (self.random.filled(lengths[0]), self.random.filled(lengths[1]), self.random.filled(lengths[2]));
+        let lengths: Vec<usize> =
+            (0..3).map(|_| most + self.random.below(3) as usize * self.random.below(2) as usize).collect();
+        let (points, numbers, depths) =
+            (self.random.filled(lengths[0]), self.random.filled(lengths[1]), self.random.filled(lengths[2]));
         let (numbers, depths) = (narrow(&numbers), narrow(&depths));
         let (mut left_points, mut left_numbers, mut left_depths) = (points.clone(), numbers.clone(), depths.clone());
         let mut reply = [3; 5];
-        self.same("told", library::search(&lent(&s), &mut left_points, &mut left_numbers, &mut left_depths, &mut reply), 1);
+        self.same(
+            "told",
+            library::search(&lent(&s), &mut left_points, &mut left_numbers, &mut left_depths, &mut reply),
+            1,
+        );
         self.saw("search", &reply);
         let (wanted, slots) = reference::walk(&s, lengths.iter().copied().min().unwrap_or(0));
         let k = slots.len();
         self.same("reply", reply.to_vec(), [&words(&wanted)[..], &[3]].concat());
-        self.same("points", left_points, [&slots.iter().map(|t| t.point).collect::<Vec<_>>()[..], &points[k..]].concat());
-        self.same("rule numbers", left_numbers, [&slots.iter().map(|t| t.rule).collect::<Vec<_>>()[..], &numbers[k..]].concat());
-        self.same("depths", left_depths, [&slots.iter().map(|t| t.depth).collect::<Vec<_>>()[..], &depths[k..]].concat());
+        self.same(
+            "points",
+            left_points,
+            [&slots.iter().map(|t| t.point).collect::<Vec<_>>()[..], &points[k..]].concat(),
+        );
+        self.same(
+            "rule numbers",
+            left_numbers,
+            [&slots.iter().map(|t| t.rule).collect::<Vec<_>>()[..], &numbers[k..]].concat(),
+        );
+        self.same(
+            "depths",
+            left_depths,
+            [&slots.iter().map(|t| t.depth).collect::<Vec<_>>()[..], &depths[k..]].concat(),
+        );
         if s.names <= 12 && !matches!(wanted, Reply::Refused(..)) {
             self.promises(&s, &wanted, lengths.iter().copied().min().unwrap_or(0));
         }
@@ -297,9 +355,14 @@ impl Case {
     fn promises(&mut self, s: &reference::Sheet, reply: &Reply, slots: usize) {
         let nearest = reference::nearest(s);
         match *reply {
-            Reply::Met { choice, changes, .. } => self.holds("met, and nearest", reference::satisfies(s, choice) && nearest == Some(changes)),
+            Reply::Met { choice, changes, .. } => {
+                self.holds("met, and nearest", reference::satisfies(s, choice) && nearest == Some(changes))
+            }
             Reply::Unmet { .. } => self.holds("none meets the rules", nearest.is_none()),
-            Reply::NoRoom { depth, .. } => self.holds("a lower bound, and not enough slots", nearest.is_none_or(|d| d >= depth) && slots < 1 << s.names),
+            Reply::NoRoom { depth, .. } => self.holds(
+                "a lower bound, and not enough slots",
+                nearest.is_none_or(|d| d >= depth) && slots < 1 << s.names,
+            ),
             Reply::Refused(..) => {}
         }
     }
@@ -320,7 +383,8 @@ impl Case {
                 _ => bend(&mut self.random, &mut s),
             }
         }
-        let depths = vec![0; (points.len() + self.random.below(3) as usize).saturating_sub(self.random.below(2) as usize)];
+        let depths =
+            vec![0; (points.len() + self.random.below(3) as usize).saturating_sub(self.random.below(2) as usize)];
         let wanted = reference::write(&s, &points, &numbers, depths.len(), count, usize::MAX);
         let needed = wanted.as_ref().map_or(40, Vec::len);
         let room = needed + *self.random.pick(&[0, 0, 1, 9]) - usize::from(self.random.chance(4));
@@ -411,8 +475,14 @@ impl Case {
             library::solve(&bytes, &mut points, &mut numbers, &mut depths, &mut out, &mut words),
         ];
         self.same("told without room", told, [0; 9]);
-        self.holds("slots and output unchanged", points == [5; 9] && numbers == [5; 9] && depths == [5; 9] && out == [5; 99]);
-        self.holds("clauses and formula unchanged", positive == [5; 300] && negative == [5; 300] && four == [5; 4] && images == [5; 1024]);
+        self.holds(
+            "slots and output unchanged",
+            points == [5; 9] && numbers == [5; 9] && depths == [5; 9] && out == [5; 99],
+        );
+        self.holds(
+            "clauses and formula unchanged",
+            positive == [5; 300] && negative == [5; 300] && four == [5; 4] && images == [5; 1024],
+        );
         self.holds("words unchanged", words.iter().all(|&w| w == 3));
     }
 
@@ -420,12 +490,15 @@ impl Case {
     fn entries(&mut self) {
         let body: Vec<u8> = (0..self.random.below(70)).map(|_| self.random.next() as u8).collect();
         let far = [usize::MAX, 1 << 61, 1 << 62];
-        let mut index = |most: u64| if self.random.chance(9) { *self.random.pick(&far) } else { self.random.below(most) as usize };
+        let mut index =
+            |most: u64| if self.random.chance(9) { *self.random.pick(&far) } else { self.random.below(most) as usize };
         let (n, j, i) = (index(9), index(9), index(20));
         let found = |value: Option<u64>| value.map_or([0, 0, 3], |x| [1, x, 3]);
         let place = n.checked_mul(j).and_then(|a| a.checked_add(i)).filter(|_| i < n);
         let image = place.and_then(|at| body.get(at)).map(|&b| u64::from(b));
-        let whole = |width: usize| body.chunks_exact(width).nth(i).map(|b| b.iter().rev().fold(0, |x, &b| x << 8 | u64::from(b)));
+        let whole = |width: usize| {
+            body.chunks_exact(width).nth(i).map(|b| b.iter().rev().fold(0, |x, &b| x << 8 | u64::from(b)))
+        };
         let mut replies = [[3; 3]; 3];
         let told = [
             library::image_at(&body, n, j, i, &mut replies[0]),
@@ -446,7 +519,10 @@ impl Case {
         let before: Vec<u8> = {
             let room = *self.random.pick(&[0, 60, 4000]);
             self.random.filled(room)
-        }.iter().map(|&x| x as u8).collect();
+        }
+        .iter()
+        .map(|&x| x as u8)
+        .collect();
         let (mut points, mut numbers, mut depths) = (vec![5; slots], vec![5; slots], vec![5; slots]);
         let (mut out, mut reply) = (before.clone(), [3; 5]);
         self.same("told", library::solve(&bytes, &mut points, &mut numbers, &mut depths, &mut out, &mut reply), 1);
@@ -483,7 +559,8 @@ impl Case {
 fn main() {
     let mut words = std::env::args().skip(1).map(|w| w.parse::<u64>().expect("a number"));
     let (seed, count) = (words.next().expect("a seed"), words.next().expect("a count"));
-    let kinds: [(&str, fn(&mut Case)); 3] = [("reader", Case::reader), ("search, writer and checker", Case::certificates), ("solver", Case::solver)];
+    let kinds: [(&str, fn(&mut Case)); 3] =
+        [("reader", Case::reader), ("search, writer and checker", Case::certificates), ("solver", Case::solver)];
     let mut failed = 0;
     let mut seen: BTreeMap<Answer, u64> = BTreeMap::new();
     for own in seed..seed + count {
@@ -500,7 +577,13 @@ fn main() {
             println!("seed {own} ({}): {}", kind.0, case.wrong.join("; "));
         }
     }
-    let told = |((function, word, number), times): (Answer, u64)| if word == 0 { format!("{function} refused {number}: {times}") } else { format!("{function} {word}: {times}") };
+    let told = |((function, word, number), times): (Answer, u64)| {
+        if word == 0 {
+            format!("{function} refused {number}: {times}")
+        } else {
+            format!("{function} {word}: {times}")
+        }
+    };
     println!("answers by first word: {}", seen.into_iter().map(told).collect::<Vec<_>>().join(", "));
     println!("differential, seeds {seed} to {}: {} passed, {failed} failed", seed + count - 1, count - failed);
     if failed > 0 {

@@ -1,5 +1,5 @@
-// Between the library and the implementation that it is compared with: a sheet in the form in which the library is lent it, and a reply in the
-// words that it tells.
+// Between the library and the implementation that it is compared with: a sheet in the form in which the library is
+// lent it, and a reply in the words that it tells.
 #![allow(dead_code)] // a program uses some of them
 use crate::{library, reference};
 use reference::Reply;

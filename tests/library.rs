@@ -1,11 +1,14 @@
-// The exported functions for programs that own a formula and its clauses, and a count of cases. The declarations are those of the Rust binding.
+// The exported functions for programs that own a formula and its clauses, and a count of cases. The declarations are
+// those of the Rust binding.
 #![allow(dead_code, unused_imports)] // a program uses some of them
 use std::fmt::Debug;
 
 #[path = "../bindings/rust/src/sys.rs"]
 mod sys;
 pub use sys::{image_at, nearest, number_at, open, point_at, read, solve, Slot};
-pub use sys::{ACCEPTED, CERTIFIED, OPENED, PARSED, REFUSED, SATISFIABLE, UNCERTIFIED, UNKNOWN, UNSATISFIABLE, WRITTEN};
+pub use sys::{
+    ACCEPTED, CERTIFIED, OPENED, PARSED, REFUSED, SATISFIABLE, UNCERTIFIED, UNKNOWN, UNSATISFIABLE, WRITTEN,
+};
 
 // A formula with its clauses.
 pub struct Sheet {
@@ -36,21 +39,34 @@ pub fn search(s: &Sheet, points: &mut [u64], falsified: &mut [u32], depths: &mut
     sys::search(&s.lent(), points, falsified, depths, reply)
 }
 
-pub fn write(s: &Sheet, points: &[u64], falsified: &[u32], depths: &[u32], count: u32, out: &mut [u8], reply: &mut [u64]) -> u32 {
-    sys::write(&s.lent(), points, falsified, depths, count, out, reply)
+pub fn write(
+    s: &Sheet,
+    points: &[u64],
+    falsified: &[u32],
+    depths: &[u32],
+    filled: u32,
+    out: &mut [u8],
+    reply: &mut [u64],
+) -> u32 {
+    sys::write(&s.lent(), points, falsified, depths, filled, out, reply)
 }
 
 pub fn search_slots(s: &Sheet, slots: &mut [Slot], reply: &mut [u64]) -> u32 {
     sys::search_slots(&s.lent(), slots, reply)
 }
 
-pub fn write_slots(s: &Sheet, slots: &[Slot], count: u32, out: &mut [u8], reply: &mut [u64]) -> u32 {
-    sys::write_slots(&s.lent(), slots, count, out, reply)
+pub fn write_slots(s: &Sheet, slots: &[Slot], filled: u32, out: &mut [u8], reply: &mut [u64]) -> u32 {
+    sys::write_slots(&s.lent(), slots, filled, out, reply)
 }
 
 // Slots from the same places of three lists, as many as the shortest has.
 pub fn joined(points: &[u64], falsified: &[u32], depths: &[u32]) -> Vec<Slot> {
-    points.iter().zip(falsified).zip(depths).map(|((&point, &falsified), &depth)| Slot { point, falsified, depth }).collect()
+    points
+        .iter()
+        .zip(falsified)
+        .zip(depths)
+        .map(|((&point, &falsified), &depth)| Slot { point, falsified, depth })
+        .collect()
 }
 
 pub fn check(s: &Sheet, file: &[u8], reply: &mut [u64]) -> u32 {

@@ -1,5 +1,6 @@
-// An implementation of document 01 for comparison, written from its sentences: names are numbers from 1, a rule is a list of literals as the
-// text has them, sets are the standard library's. It shares nothing with the library but the forms in which things are lent.
+// An implementation of document 01 for comparison, written from its sentences: names are numbers from 1, a rule is a
+// list of literals as the text has them, sets are the standard library's. It shares nothing with the library but the
+// forms in which things are lent.
 use std::collections::{BTreeSet, HashMap, HashSet};
 
 pub type Refusal = (u32, u128);
@@ -240,7 +241,8 @@ impl Sheet {
 
     // Row 10, with the wish or without.
     fn ten(&self, wished: bool) -> Result<(), Refusal> {
-        let long = self.yes.len() != self.rules as usize || self.no.len() != self.rules as usize || self.rules > MOST_RULES;
+        let long =
+            self.yes.len() != self.rules as usize || self.no.len() != self.rules as usize || self.rules > MOST_RULES;
         if self.names < 1 || self.names > MOST_NAMES || long {
             return Err((10, 0));
         }
@@ -355,7 +357,14 @@ fn points_and_rules(points: &[u64], numbers: &[u32], n: u32, rules: &[(u64, u64)
 }
 
 // The writer: the certificate's bytes.
-pub fn write(sheet: &Sheet, points: &[u64], numbers: &[u32], depths: usize, count: u32, room: usize) -> Result<Vec<u8>, Refusal> {
+pub fn write(
+    sheet: &Sheet,
+    points: &[u64],
+    numbers: &[u32],
+    depths: usize,
+    count: u32,
+    room: usize,
+) -> Result<Vec<u8>, Refusal> {
     sheet.tested()?;
     let lent = points.len().min(numbers.len()).min(depths).min(MOST_SLOTS);
     let count = count as usize;
@@ -367,7 +376,8 @@ pub fn write(sheet: &Sheet, points: &[u64], numbers: &[u32], depths: usize, coun
     let exchanges: Vec<u8> = sheet.listed().concat();
     let second = 32 + exchanges.len();
     let third = second + 8 * count;
-    let fields = [sheet.names as usize, sheet.rules as usize, sheet.exchanges as usize, 32, count, second, count, third];
+    let fields =
+        [sheet.names as usize, sheet.rules as usize, sheet.exchanges as usize, 32, count, second, count, third];
     let mut file: Vec<u8> = fields.iter().flat_map(|&x| (x as u32).to_le_bytes()).collect();
     file.extend(exchanges);
     file.extend(points.iter().flat_map(|x| x.to_le_bytes()));
@@ -390,15 +400,22 @@ pub fn open(file: &[u8]) -> Result<[u32; 8], Refusal> {
     let second = 32 + w[2] * w[0];
     let third = second + 8 * w[4];
     let fits = w[3] == 32 && w[5] == second && w[7] == third && w[4] == w[6] && file.len() as u128 == third + 4 * w[6];
-    if fits { Ok(c) } else { Err(wrong) }
+    if fits {
+        Ok(c)
+    } else {
+        Err(wrong)
+    }
 }
 
 // The three bodies of a file whose contents are in order, as lists.
 pub fn bodies(file: &[u8], c: &[u32; 8]) -> (Vec<Vec<u8>>, Vec<u64>, Vec<u32>) {
     let n = c[0] as usize;
     let (first, second, third) = (c[3] as usize, c[5] as usize, c[7] as usize);
-    let listed = (0..if n == 0 { 0 } else { c[2] as usize }).map(|k| file[first + k * n..first + (k + 1) * n].to_vec()).collect();
-    let points = file[second..third].chunks(8).map(|b| u64::from_le_bytes(b.try_into().expect("eight bytes"))).collect();
+    let listed = (0..if n == 0 { 0 } else { c[2] as usize })
+        .map(|k| file[first + k * n..first + (k + 1) * n].to_vec())
+        .collect();
+    let points =
+        file[second..third].chunks(8).map(|b| u64::from_le_bytes(b.try_into().expect("eight bytes"))).collect();
     let numbers = file[third..].chunks(4).map(|b| u32::from_le_bytes(b.try_into().expect("four bytes"))).collect();
     (listed, points, numbers)
 }
@@ -454,7 +471,10 @@ pub fn printed(text: &[u8]) -> String {
 // Every choice tried: how many changes the nearest one that meets the rules has, if there is one. For few names.
 pub fn nearest(sheet: &Sheet) -> Option<u32> {
     let rules = sheet.both();
-    let distances: HashMap<u64, u32> = (0..1u64 << sheet.names).filter(|&x| rules.iter().all(|&r| meets(r, x))).map(|x| (x, sheet.changes(x))).collect();
+    let distances: HashMap<u64, u32> = (0..1u64 << sheet.names)
+        .filter(|&x| rules.iter().all(|&r| meets(r, x)))
+        .map(|x| (x, sheet.changes(x)))
+        .collect();
     distances.values().copied().min()
 }
 

@@ -5,7 +5,8 @@ use crate::library::Sheet;
 
 // A clause from literals as DIMACS has them: the sets of its positive and of its negative ones.
 pub fn clause(literals: &[i32]) -> (u64, u64) {
-    let set = |sign: i32| literals.iter().filter(|l| l.signum() == sign).map(|l| 1u64 << (l.abs() - 1)).fold(0, |a, b| a | b);
+    let set =
+        |sign: i32| literals.iter().filter(|l| l.signum() == sign).map(|l| 1u64 << (l.abs() - 1)).fold(0, |a, b| a | b);
     (set(1), set(-1))
 }
 
@@ -29,7 +30,9 @@ pub fn text(variables: u32, clauses: &[(u64, u64)], permutations: &[Vec<u8>]) ->
     let joined = |words: Vec<String>| words.join(" ");
     lines.extend(permutations.iter().map(|e| format!("c exch {}", joined(e.iter().map(|x| x.to_string()).collect()))));
     for (positive, negative) in clauses {
-        let literals = |set: u64, sign: &'static str| (1..=64).filter(move |i| set >> (i - 1) & 1 == 1).map(move |i| format!("{sign}{i}"));
+        let literals = |set: u64, sign: &'static str| {
+            (1..=64).filter(move |i| set >> (i - 1) & 1 == 1).map(move |i| format!("{sign}{i}"))
+        };
         let words = literals(*positive, "").chain(literals(*negative, "-")).chain(["0".to_string()]);
         lines.push(joined(words.collect()));
     }
@@ -51,21 +54,36 @@ pub fn search(s: &Sheet, slots: usize) -> Found {
     Found { reply, points, numbers, depths }
 }
 
-// Document 002, example 2: seven clauses over six variables, and its 14 points, written variable 1 first, each with the clause that it falsifies.
+// Document 002, example 2: seven clauses over six variables, and its 14 points, written variable 1 first, each with
+// the clause that it falsifies.
 pub fn paper() -> (Vec<(u64, u64)>, Vec<(u64, u32)>) {
     let clauses = [&[1, 2][..], &[-2, 3], &[-3, 4], &[-4, 1], &[-1, 5], &[-5, 6], &[-6, -1]].map(clause);
     let listed = [
-        ("000000", 1), ("010000", 2), ("011000", 3), ("011100", 4), ("111100", 5), ("111110", 6), ("111111", 7),
-        ("011111", 4), ("011011", 3), ("010011", 2), ("000011", 1), ("100011", 7), ("100010", 6), ("100000", 5),
+        ("000000", 1),
+        ("010000", 2),
+        ("011000", 3),
+        ("011100", 4),
+        ("111100", 5),
+        ("111110", 6),
+        ("111111", 7),
+        ("011111", 4),
+        ("011011", 3),
+        ("010011", 2),
+        ("000011", 1),
+        ("100011", 7),
+        ("100010", 6),
+        ("100000", 5),
     ];
     let point = |digits: &str| digits.bytes().rev().fold(0u64, |x, b| x * 2 + (b - 48) as u64);
     (clauses.to_vec(), listed.iter().map(|(p, c)| (point(p), *c)).collect())
 }
 
-// PH(m + 1, m): each of m + 1 pigeons sits in a hole, and no two in one; variable (i - 1) m + k says that pigeon i sits in hole k.
+// PH(m + 1, m): each of m + 1 pigeons sits in a hole, and no two in one; variable (i - 1) m + k says that pigeon i
+// sits in hole k.
 pub fn pigeons(m: usize) -> Vec<(u64, u64)> {
     let seat = |i: usize, k: usize| (i * m + k + 1) as i32;
-    let mut clauses: Vec<(u64, u64)> = (0..=m).map(|i| clause(&(0..m).map(|k| seat(i, k)).collect::<Vec<_>>())).collect();
+    let mut clauses: Vec<(u64, u64)> =
+        (0..=m).map(|i| clause(&(0..m).map(|k| seat(i, k)).collect::<Vec<_>>())).collect();
     for k in 0..m {
         for i in 0..=m {
             for j in i + 1..=m {
@@ -78,7 +96,15 @@ pub fn pigeons(m: usize) -> Vec<(u64, u64)> {
 
 // Neighbouring holes swapped, and neighbouring pigeons swapped: symmetries of PH(m + 1, m).
 pub fn swaps(m: usize) -> Vec<Vec<u8>> {
-    let swapped = |x: usize, at: usize| if x == at { at + 1 } else if x == at + 1 { at } else { x };
+    let swapped = |x: usize, at: usize| {
+        if x == at {
+            at + 1
+        } else if x == at + 1 {
+            at
+        } else {
+            x
+        }
+    };
     let image = |i: usize, k: usize| (i * m + k + 1) as u8;
     let holes = (0..m - 1).map(|h| (0..=m).flat_map(|i| (0..m).map(move |k| image(i, swapped(k, h)))).collect());
     let pigeons = (0..m).map(|p| (0..=m).flat_map(|i| (0..m).map(move |k| image(swapped(i, p), k))).collect());

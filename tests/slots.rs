@@ -1,5 +1,6 @@
-// The search and the writer over one slice of slots beside those over three slices, on document 01's worked cases A and B and on refusals: each
-// reply, the slots and the output have to be the same. Prints a line a case and a count; exit status 1 if one is not as expected.
+// The search and the writer over one slice of slots beside those over three slices, on document 01's worked cases A
+// and B and on refusals: each reply, the slots and the output have to be the same. Prints a line a case and a count;
+// exit status 1 if one is not as expected.
 mod library;
 mod sheets;
 use library::{joined, Count, Sheet, Slot, REFUSED, SATISFIABLE, UNKNOWN, UNSATISFIABLE, WRITTEN};
@@ -71,12 +72,24 @@ fn refused(count: &mut Count) {
     searched(count, "a permutation that changes the clauses", &flat, 8, [REFUSED, 12, 1, 0]);
     for words in 0..4 {
         let (found, parallel) = both(&case_a(&[]), 8, words);
-        count.expect(&format!("{words} words for the reply"), found == parallel && found.0 == 0 && found.2 == (0..8).map(held).collect::<Vec<_>>());
+        count.expect(
+            &format!("{words} words for the reply"),
+            found == parallel && found.0 == 0 && found.2 == (0..8).map(held).collect::<Vec<_>>(),
+        );
     }
 }
 
-// The writer in both forms, from the slots of a search: the reply, and the output with the bytes behind the certificate.
-fn written(count: &mut Count, name: &str, s: &Sheet, slots: &[Slot], used: u32, bytes: usize, words: usize) -> Vec<u64> {
+// The writer in both forms, from the slots of a search: the reply, and the output with the bytes behind the
+// certificate.
+fn written(
+    count: &mut Count,
+    name: &str,
+    s: &Sheet,
+    slots: &[Slot],
+    used: u32,
+    bytes: usize,
+    words: usize,
+) -> Vec<u64> {
     let points: Vec<u64> = slots.iter().map(|t| t.point).collect();
     let falsified: Vec<u32> = slots.iter().map(|t| t.falsified).collect();
     let depths: Vec<u32> = slots.iter().map(|t| t.depth).collect();
@@ -115,7 +128,10 @@ fn certificates(count: &mut Count) {
 fn all_used(count: &mut Count) {
     let (found, parallel) = both(&sheet(42, &pigeons(6), &[]), 65540, 4);
     count.expect("PH(7, 6), P = 65,540: as the parallel form", found == parallel);
-    count.expect("PH(7, 6), P = 65,540: 65,536 filled", found.1[0] == UNKNOWN && found.1[2] == 65536 && found.2[65535] != held(65535));
+    count.expect(
+        "PH(7, 6), P = 65,540: 65,536 filled",
+        found.1[0] == UNKNOWN && found.1[2] == 65536 && found.2[65535] != held(65535),
+    );
     count.expect("PH(7, 6), P = 65,540: the last four unchanged", (65536..65540).all(|i| found.2[i] == held(i)));
 }
 

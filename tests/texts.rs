@@ -1,5 +1,5 @@
-// Texts for the reader: document 01's executed cases (G.d), each refusal number, each rule of precedence, and hostile texts of 1 MiB. Prints a
-// line a text and a count; exit status 1 if one is not answered as expected.
+// Texts for the reader: document 01's executed cases (G.d), each refusal number, each rule of precedence, and hostile
+// texts of 1 MiB. Prints a line a text and a count; exit status 1 if one is not answered as expected.
 mod library;
 use library::Count;
 

@@ -1,5 +1,6 @@
-// Runs outside vectors against the compiled library, and those of the program `nearest` against the program too: compares each reply and all
-// memory lent, prints a line for each disagreement and a count for each kind. Exit status 1 if anything differs. Usage: vectors FILE PROGRAM.
+// Runs outside vectors against the compiled library, and those of the program `nearest` against the program too:
+// compares each reply and all memory lent, prints a line for each disagreement and a count for each kind. Exit status
+// 1 if anything differs. Usage: vectors FILE PROGRAM.
 use std::collections::HashMap;
 use std::fmt::Debug;
 use std::io::{Read, Write};
@@ -65,10 +66,8 @@ fn run(word: &str) -> Vec<u8> {
         return (0..count as u64).flat_map(|i| (first + i).to_le_bytes()).collect();
     }
     let digits = parts[1].as_bytes();
-    let bytes: Vec<u8> = digits
-        .chunks(2)
-        .map(|p| u8::from_str_radix(std::str::from_utf8(p).expect("text"), 16).expect("hex"))
-        .collect();
+    let bytes: Vec<u8> =
+        digits.chunks(2).map(|p| u8::from_str_radix(std::str::from_utf8(p).expect("text"), 16).expect("hex")).collect();
     bytes.repeat(count)
 }
 
@@ -95,7 +94,8 @@ impl Differences {
     }
 }
 
-// The words of a reply: 0 refused, 1 satisfiable, 2 unsatisfiable, 3 unknown, 4 read, 5 written, 6 opened, 7 accepted, each with its numbers.
+// The words of a reply: 0 refused, 1 satisfiable, 2 unsatisfiable, 3 unknown, 4 read, 5 written, 6 opened, 7
+// accepted, each with its numbers.
 fn reply_words(answer: &[&str]) -> Vec<u64> {
     let (kind, carried) = match answer[0] {
         "refused" => (0, &answer[1..]),
@@ -162,7 +162,8 @@ fn writer(v: &Vector, d: &mut Differences) {
     d.compare("output", out, over(v.bytes("after-bytes"), &before));
 }
 
-// The same sheet searched over one slice of slots, as many as the shortest of the three slices has: the reply and the slots are the parallel form's.
+// The same sheet searched over one slice of slots, as many as the shortest of the three slices has: the reply and the
+// slots are the parallel form's.
 fn builder_slots(v: &Vector, d: &mut Differences) {
     let s = v.sheet();
     let n = v.numbers("lent").into_iter().min().expect("three lengths") as usize;
@@ -181,7 +182,8 @@ fn builder_slots(v: &Vector, d: &mut Differences) {
 fn writer_slots(v: &Vector, d: &mut Differences) {
     let s = v.sheet();
     let lent = v.numbers("lent");
-    let slots = library::joined(&v.numbers("points"), &narrow(v.numbers("numbers")), &narrow(v.filled(lent[0] as usize)));
+    let slots =
+        library::joined(&v.numbers("points"), &narrow(v.numbers("numbers")), &narrow(v.filled(lent[0] as usize)));
     let mut out: Vec<u8> = v.filled(lent[2] as usize).into_iter().map(|x| x as u8).collect();
     let before = out.clone();
     let mut reply = vec![7u64; 5];

@@ -1,5 +1,6 @@
-/* Document 01's worked cases through the C header: texts solved in one call, and the certificate of case A with its exchange byte for byte.
- * Prints a line for each that is not answered as expected and a count; exit status 1 if there is one. */
+/* Document 01's worked cases through the C header: texts solved in one call, and the certificate of case A with its
+ * exchange byte for byte. Prints a line for each that is not answered as expected and a count; exit status 1 if there
+ * is one. */
 #include "../include/jugbowo.h"
 #include <stdio.h>
 #include <string.h>
@@ -21,7 +22,8 @@ static void solved(const char *name, const char *text, size_t slots, const uint6
     static uint32_t falsified[4096], depths[4096];
     static uint8_t out[65536];
     uint64_t reply[4];
-    uint32_t told = jugbowo_solve((const uint8_t *)text, strlen(text), points, slots, falsified, slots, depths, slots, out, sizeof out, reply, 4);
+    uint32_t told = jugbowo_solve((const uint8_t *)text, strlen(text), points, slots, falsified, slots, depths, slots,
+                                  out, sizeof out, reply, 4);
     expect(name, told == 1 && memcmp(reply, wanted, sizeof reply) == 0);
 }
 
@@ -29,8 +31,10 @@ static void solved(const char *name, const char *text, size_t slots, const uint6
 #define TEXT_B "p cnf 3 2\nc wish 000\n1 2 0\n-1 3 0\n"
 
 static void answers(void) {
-    const uint64_t a[] = {JUGBOWO_CERTIFIED, 4, 80, 0}, swapped[] = {JUGBOWO_CERTIFIED, 3, 70, 0}, room[] = {JUGBOWO_UNKNOWN, 1, 3, 0};
-    const uint64_t b[] = {JUGBOWO_SATISFIABLE, 2, 1, 4}, wish[] = {JUGBOWO_SATISFIABLE, 0, 0, 1}, empty[] = {JUGBOWO_CERTIFIED, 1, 44, 0};
+    const uint64_t a[] = {JUGBOWO_CERTIFIED, 4, 80, 0}, swapped[] = {JUGBOWO_CERTIFIED, 3, 70, 0},
+                   room[] = {JUGBOWO_UNKNOWN, 1, 3, 0};
+    const uint64_t b[] = {JUGBOWO_SATISFIABLE, 2, 1, 4}, wish[] = {JUGBOWO_SATISFIABLE, 0, 0, 1},
+                   empty[] = {JUGBOWO_CERTIFIED, 1, 44, 0};
     const uint64_t large[] = {JUGBOWO_REFUSED, 3, 0, 0}, none[] = {JUGBOWO_REFUSED, 13, 0, 0};
     solved("A", "p cnf 2 4\n" CLAUSES_A, 4096, a);
     solved("A with exchange 2 1", "p cnf 2 4\nc exch 2 1\n" CLAUSES_A, 4096, swapped);
@@ -49,21 +53,28 @@ static void answers(void) {
 static void steps(void) {
     const uint8_t images[] = {2, 1};
     const uint64_t positive[] = {3, 2, 1, 0}, negative[] = {0, 1, 2, 3};
-    const uint8_t file[70] = {2, 0, 0, 0, 4, 0, 0, 0, 1, 0, 0, 0, 32, 0, 0, 0, 3, 0, 0, 0, 34, 0, 0, 0, 3, 0, 0, 0, 58, 0, 0, 0, 2, 1,
-                              0, 0, 0, 0, 0, 0, 0, 0, 1, 0, 0, 0, 0, 0, 0, 0, 3, 0, 0, 0, 0, 0, 0, 0, 1, 0, 0, 0, 2, 0, 0, 0, 4, 0, 0, 0};
+    const uint8_t file[70] = {2, 0, 0, 0, 4,  0, 0, 0, 1, 0, 0, 0, 32, 0, 0, 0, 3, 0, 0, 0, 34, 0, 0, 0,
+                              3, 0, 0, 0, 58, 0, 0, 0, 2, 1, 0, 0, 0,  0, 0, 0, 0, 0, 1, 0, 0,  0, 0, 0,
+                              0, 0, 3, 0, 0,  0, 0, 0, 0, 0, 1, 0, 0,  0, 2, 0, 0, 0, 4, 0, 0,  0};
     uint64_t points[5] = {9, 9, 9, 9, 9}, reply[4], contents[8];
     uint32_t falsified[5] = {9, 9, 9, 9, 9}, depths[5] = {9, 9, 9, 9, 9};
     uint8_t out[72];
     memset(out, 9, sizeof out);
-    expect("search", jugbowo_search(2, 4, 0, 1, images, 2, positive, 4, negative, 4, points, 5, falsified, 5, depths, 5, reply, 4) == 1
-                         && reply[0] == JUGBOWO_UNSATISFIABLE && reply[1] == 3);
-    expect("slots", points[0] == 0 && points[1] == 1 && points[2] == 3 && points[3] == 9 && falsified[2] == 4 && depths[2] == 2 && depths[3] == 9);
-    expect("write", jugbowo_write(2, 4, 0, 1, images, 2, positive, 4, negative, 4, points, 5, falsified, 5, depths, 5, 3, out, 72, reply, 4) == 1
-                        && reply[0] == JUGBOWO_WRITTEN && reply[1] == 70);
+    expect("search", jugbowo_search(2, 4, 0, 1, images, 2, positive, 4, negative, 4, points, 5, falsified, 5, depths, 5,
+                                    reply, 4) == 1 &&
+                         reply[0] == JUGBOWO_UNSATISFIABLE && reply[1] == 3);
+    expect("slots", points[0] == 0 && points[1] == 1 && points[2] == 3 && points[3] == 9 && falsified[2] == 4 &&
+                        depths[2] == 2 && depths[3] == 9);
+    expect("write", jugbowo_write(2, 4, 0, 1, images, 2, positive, 4, negative, 4, points, 5, falsified, 5, depths, 5,
+                                  3, out, 72, reply, 4) == 1 &&
+                        reply[0] == JUGBOWO_WRITTEN && reply[1] == 70);
     expect("bytes", memcmp(out, file, 70) == 0 && out[70] == 9 && out[71] == 9);
-    expect("open", jugbowo_open(file, 70, contents, 8, reply, 4) == 1 && reply[0] == JUGBOWO_OPENED && contents[3] == 32 && contents[5] == 34 && contents[7] == 58);
-    expect("check", jugbowo_check(2, 4, 0, 0, images, 0, positive, 4, negative, 4, file, 70, reply, 4) == 1 && reply[0] == JUGBOWO_ACCEPTED);
-    expect("no place to reply", jugbowo_check(2, 4, 0, 0, images, 0, positive, 4, negative, 4, file, 70, reply, 3) == 0);
+    expect("open", jugbowo_open(file, 70, contents, 8, reply, 4) == 1 && reply[0] == JUGBOWO_OPENED &&
+                       contents[3] == 32 && contents[5] == 34 && contents[7] == 58);
+    expect("check", jugbowo_check(2, 4, 0, 0, images, 0, positive, 4, negative, 4, file, 70, reply, 4) == 1 &&
+                        reply[0] == JUGBOWO_ACCEPTED);
+    expect("no place to reply",
+           jugbowo_check(2, 4, 0, 0, images, 0, positive, 4, negative, 4, file, 70, reply, 3) == 0);
 }
 
 /* The same case with its slots in one slice of structs, and case B. */
@@ -76,15 +87,21 @@ static void structs(void) {
     memset(slots, 9, sizeof slots);
     memset(out, 9, sizeof out);
     expect("size of a slot", sizeof(struct jugbowo_slot) == 16);
-    expect("search_slots", jugbowo_search_slots(2, 4, 0, 1, images, 2, positive, 4, negative, 4, slots, 5, reply, 4) == 1
-                               && reply[0] == JUGBOWO_UNSATISFIABLE && reply[1] == 3);
-    expect("slot", slots[2].point == 3 && slots[2].falsified == 4 && slots[2].depth == 2 && slots[3].depth == 0x09090909);
-    expect("write_slots", jugbowo_write_slots(2, 4, 0, 1, images, 2, positive, 4, negative, 4, slots, 5, 3, out, 72, reply, 4) == 1
-                              && reply[0] == JUGBOWO_WRITTEN && reply[1] == 70 && out[66] == 4 && out[70] == 9);
-    expect("check of its output", jugbowo_check(2, 4, 0, 0, images, 0, positive, 4, negative, 4, out, 70, reply, 4) == 1 && reply[0] == JUGBOWO_ACCEPTED);
-    expect("B in slots", jugbowo_search_slots(3, 2, 0, 0, images, 0, yes, 2, no, 2, slots, 5, reply, 4) == 1
-                             && reply[0] == JUGBOWO_SATISFIABLE && reply[1] == 2 && reply[2] == 1 && reply[3] == 4);
-    expect("no place to reply in slots", jugbowo_search_slots(3, 2, 0, 0, images, 0, yes, 2, no, 2, slots, 5, reply, 3) == 0);
+    expect("search_slots",
+           jugbowo_search_slots(2, 4, 0, 1, images, 2, positive, 4, negative, 4, slots, 5, reply, 4) == 1 &&
+               reply[0] == JUGBOWO_UNSATISFIABLE && reply[1] == 3);
+    expect("slot",
+           slots[2].point == 3 && slots[2].falsified == 4 && slots[2].depth == 2 && slots[3].depth == 0x09090909);
+    expect("write_slots",
+           jugbowo_write_slots(2, 4, 0, 1, images, 2, positive, 4, negative, 4, slots, 5, 3, out, 72, reply, 4) == 1 &&
+               reply[0] == JUGBOWO_WRITTEN && reply[1] == 70 && out[66] == 4 && out[70] == 9);
+    expect("check of its output",
+           jugbowo_check(2, 4, 0, 0, images, 0, positive, 4, negative, 4, out, 70, reply, 4) == 1 &&
+               reply[0] == JUGBOWO_ACCEPTED);
+    expect("B in slots", jugbowo_search_slots(3, 2, 0, 0, images, 0, yes, 2, no, 2, slots, 5, reply, 4) == 1 &&
+                             reply[0] == JUGBOWO_SATISFIABLE && reply[1] == 2 && reply[2] == 1 && reply[3] == 4);
+    expect("no place to reply in slots",
+           jugbowo_search_slots(3, 2, 0, 0, images, 0, yes, 2, no, 2, slots, 5, reply, 3) == 0);
 }
 
 int main(void) {

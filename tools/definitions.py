@@ -1,10 +1,12 @@
 #!/usr/bin/env python3
-"""Computes outside vectors with the definitions: each becomes a theorem whose proof is `refl`, in a scratch copy of this repository.
+"""Computes outside vectors with the definitions: each becomes a theorem whose proof is `refl`, in a scratch copy of this
+repository.
 
 usage: tools/definitions.py VECTORS SCRATCH KIND [MOST]
-VECTORS is a file of one JSON object a line, SCRATCH a folder that is made anew, KIND reader, builder, checker or writer. A vector is
-left out if its line has more than MOST characters (default 6000), if it is told in parts, or if its n is beyond what antt should raise
-2 to. Prints how many vectors of each answer were computed, which ids were left out, and what the check says. Not part of the gate.
+VECTORS is a file of one JSON object a line, SCRATCH a folder that is made anew, KIND reader, builder, checker or writer. A
+vector is left out if its line has more than MOST characters (default 6000), if it comes in parts, or if its n is beyond what
+antt should raise 2 to. Prints how many vectors of each answer were computed, which ids were left out, and what the check
+says. Not part of the gate.
 """
 import collections
 import json
@@ -43,8 +45,9 @@ def filled(vector, count, bits):
 
 def formula(sheet):
     images = list(bytes.fromhex(sheet["exchanges"]))
-    return "(record { variables = %d; clauses = %d; target = %d; permutations = %d; images = %s ++ replicate %d 0 })" % (
-        sheet["n"], sheet["rules"], sheet["wish"], sheet["exchange_count"], listed(images), 1024 - len(images))
+    fields = "variables = %d; clauses = %d; target = %d; permutations = %d; images = %s ++ replicate %d 0"
+    values = (sheet["n"], sheet["rules"], sheet["wish"], sheet["exchange_count"], listed(images), 1024 - len(images))
+    return "(record { " + fields % values + " })"
 
 
 def over(new, old):
@@ -69,17 +72,20 @@ def builder(v):
     e = v["expect"]
     lent = min(65536, v["points_len"], v["rules_len"], v["depths_len"])
     told = {"met": "satisfiable %s %s %s" % (e.get("choice"), e.get("changes"), e.get("slots")),
-            "cannot be met": "unsatisfiable %s" % e.get("slots"), "no room": "unknown %s %s" % (e.get("d"), e.get("slots"))}
+            "cannot be met": "unsatisfiable %s" % e.get("slots"),
+            "no room": "unknown %s %s" % (e.get("d"), e.get("slots"))}
     args = "%s %s %s %d" % (formula(v["sheet"]), listed(v["yes"]), listed(v["no"]), lent)
     yield "searchReply bit flip", "searchReply %s ≡ %s" % (args, refusal(e) or told[e["answer"]])
     for part, name, bits in (("point", "points", 64), ("falsified", "rules", 32), ("depth", "depths", 32)):
         old = filled(v, v[name + "_len"], bits)
-        yield "searchSlice bit flip", "searchSlice (λ (s : Slot). s .%s) %s %s ≡ %s" % (part, args, listed(old), listed(over(e.get(name, []), old)))
+        new = listed(over(e.get(name, []), old))
+        yield "searchSlice bit flip", "searchSlice (λ (s : Slot). s .%s) %s %s ≡ %s" % (part, args, listed(old), new)
 
 
 def checker(v):
     file, r = listed(bytes.fromhex(v["file"])), v["reading"]
-    yield "checkReply", "checkReply %s %s %s %s ≡ %s" % (formula(v["sheet"]), listed(v["yes"]), listed(v["no"]), file, refusal(v["expect"]) or "accepted")
+    args = "%s %s %s %s" % (formula(v["sheet"]), listed(v["yes"]), listed(v["no"]), file)
+    yield "checkReply", "checkReply %s ≡ %s" % (args, refusal(v["expect"]) or "accepted")
     yield "openedReply", "openedReply %s ≡ %s" % (file, refusal(r) or "opened")
     if "refused" not in r:
         n, b = r["n"], bytes.fromhex(r["exchanges"])
@@ -92,17 +98,19 @@ def checker(v):
 
 def writer(v):
     e, out = v["expect"], filled(v, v["out_len"], 8)
-    args = "%s %s %s %s %s (replicate %d 0) %d %s" % (formula(v["sheet"]), listed(v["yes"]), listed(v["no"]), listed(v["points"]),
-                                                      listed(v["rules"]), v["depths_len"], v["count"], listed(out))
+    args = "%s %s %s %s %s (replicate %d 0) %d %s" % (
+        formula(v["sheet"]), listed(v["yes"]), listed(v["no"]), listed(v["points"]), listed(v["rules"]), v["depths_len"],
+        v["count"], listed(out))
     yield "writeReply", "writeReply %s ≡ %s" % (args, refusal(e) or "written %d" % e["length"])
     yield "writeOutput", "writeOutput %s ≡ %s" % (args, listed(over(list(bytes.fromhex(e.get("out", ""))), out)))
 
 
 def taken(v, kind, most):
     sheet = v.get("sheet", {})
-    told = all(field in v for field in {"reader": ["text"], "checker": ["file"]}.get(kind, []))
+    whole = all(field in v for field in {"reader": ["text"], "checker": ["file"]}.get(kind, []))
     lent = max(v.get(field, 0) for field in ("yes_len", "no_len", "points_len", "rules_len", "depths_len", "out_len"))
-    return told and len(json.dumps(v)) <= most and lent <= 5000 and sheet.get("n", 0) <= 70000 and sheet.get("exchange_count", 0) <= 70000
+    small = sheet.get("n", 0) <= 70000 and sheet.get("exchange_count", 0) <= 70000
+    return whole and small and len(json.dumps(v)) <= most and lent <= 5000
 
 
 def main():
@@ -114,8 +122,10 @@ def main():
     crate = os.path.join(scratch, "crates", "vectors")
     os.makedirs(os.path.join(crate, "src"))
     os.makedirs(os.path.join(crate, "specs"))
-    names = [line.split(":")[0] for line in open(os.path.join(scratch, "crates.txt")) if ":" in line]
-    names = [name for name in names if os.path.exists(os.path.join(scratch, "crates", name, "src", "lib.rt"))]  # a program is no dependency
+    lines = open(os.path.join(scratch, "crates.txt")).read().splitlines()
+    names = [line.split(":")[0] for line in lines if line and not line.startswith("#")]
+    # a program is no dependency
+    names = [name for name in names if os.path.exists(os.path.join(scratch, "crates", name, "src", "lib.rt"))]
     with open(os.path.join(scratch, "crates.txt"), "a") as f:
         f.write("vectors: %s\n" % " ".join(names))
     with open(os.path.join(crate, "src", "lib.rt"), "w") as f:
@@ -135,7 +145,8 @@ def main():
     answers = collections.Counter(str(v["expect"].get("refused", ["answered"])[0]) for v in chosen)
     print("%s: %d of %d computed: %s" % (kind, len(chosen), len(rows), dict(answers)))
     print("left out: " + " ".join(v["id"] for v in rows if v not in chosen), flush=True)
-    done = subprocess.run(["rt", "check", "vectors"], cwd=scratch, stdout=subprocess.PIPE, stderr=subprocess.STDOUT, text=True).stdout
+    done = subprocess.run(["rt", "check", "vectors"], cwd=scratch, capture_output=True, text=True)
+    done = done.stdout + done.stderr
     told = [line for line in done.splitlines() if "error" in line or line.startswith("rt:")]
     print("\n".join(told)[-4000:])
 

@@ -1,6 +1,7 @@
 #!/usr/bin/env python3
-"""README's map of the crates, made from crates.txt (parts and order), the head comment of each crate's code (its first sentence) and the modules that
-stand in its specs/. `tools/map.py` compares and says how to mend a difference, exit status 1; `tools/map.py --write` writes the map."""
+"""README's map of the crates, made from crates.txt (parts and order), the head comment of each crate's code (its first
+sentence) and the modules that stand in its specs/. `tools/map.py` compares and says how to mend a difference, exit status
+1; `tools/map.py --write` writes the map."""
 import os
 import re
 import sys

@@ -1,15 +1,15 @@
 #!/usr/bin/env python3
 """What moved since a commit: `tools/moved.py COMMIT [--renamed FILE] [--times BEFORE AFTER]`.
 
-Prints, by crate and in all, the lines added and removed of definitions (specs/*.antt), contracts (`requires` and `ensures` in .rt), laws (specs/Laws),
-proofs, code, comments (in .rt and .antt), tests (tests, must-fail edits, examples, benches), tools and documents; then by name the definitions and the
-contracts that changed, are new or are gone. Lines are compared as a bag, white space folded: one that only moved counts in neither column of 'in all'.
-Imports and blank lines do not count.
+Prints, by crate and in all, the lines added and removed of definitions (specs/*.antt), contracts (`requires` and `ensures`
+in .rt), laws (specs/Laws), proofs, code, comments (in .rt and .antt), tests (tests, must-fail edits, examples, benches),
+tools and documents; then by name the definitions and the contracts that changed, are new or are gone. Lines are compared as
+a bag, white space folded: one that only moved counts in neither column of 'in all'. Imports and blank lines do not count.
 
-FILE has one renaming a line, with paths as they are called now but for OLD: `path OLD NEW`, a file or a folder; `name OLD NEW [PATH ..]`, an identifier,
-everywhere or in these files and folders; `phrase PATH: OLD => NEW`, words of one file, where an identifier has two meanings. What differs after these,
-white space aside, has changed. With two logs of the gate, told by `bash -c 'time .ci/run'`, it also prints what each crate's check took before and
-after."""
+FILE has one renaming a line, with paths as they are called now but for OLD: `path OLD NEW`, a file or a folder; `name OLD
+NEW [PATH ..]`, an identifier, everywhere or in these files and folders; `phrase PATH: OLD => NEW`, words of one file, where
+an identifier has two meanings or bytes become text. What differs after these, white space aside, has changed. With two logs
+of the gate, as `bash -c 'time .ci/run'` leaves them, it also prints what each crate's check took before and after."""
 import argparse
 import collections
 import os
@@ -21,6 +21,10 @@ import tempfile
 import tree
 
 KINDS = ["definitions", "contracts", "laws", "proofs", "code", "comments", "tests", "tools", "documents"]
+
+
+def below(path, place):
+    return path == place or path.startswith(place + "/")
 
 
 class Renamings:
@@ -36,11 +40,12 @@ class Renamings:
             elif words[:1] == ["name"]:
                 self.names.append((words[1], words[2], words[3:]))
         self.paths.sort(key=lambda pair: -len(pair[0]))
-        self.crates = {old.split("/")[1]: new.split("/")[1] for old, new in self.paths if re.fullmatch(r"crates/\w+/?", old)}
+        folders = [pair for pair in self.paths if re.fullmatch(r"crates/\w+", pair[0])]
+        self.crates = {old.split("/")[1]: new.split("/")[1] for old, new in folders}
 
     def path(self, path):
         for old, new in self.paths:
-            if path == old or path.startswith(old.rstrip("/") + "/"):
+            if below(path, old):
                 return new + path[len(old):]
         return path
 
@@ -48,7 +53,7 @@ class Renamings:
         """The text of the file that is now called path, with the names of now."""
         for place, old, new in self.phrases:
             text = text.replace(old, new) if place == path else text
-        named = {old: new for old, new, under in self.names if not under or any((path + "/").startswith(at + "/") for at in under)}
+        named = {old: new for old, new, places in self.names if not places or any(below(path, at) for at in places)}
         if named:
             text = re.sub(r"[\w·′₀-₉-]+", lambda m: named.get(m.group(0), m.group(0)), text)
         if self.crates:
@@ -106,7 +111,8 @@ class Tree:
     """The files of one state of the repository, told with the paths and names of now."""
 
     def __init__(self, files, renamed):
-        self.lines, self.definitions, self.believed, self.contracts = collections.Counter(), collections.Counter(), set(), collections.Counter()
+        self.lines, self.definitions, self.contracts = (collections.Counter() for _ in range(3))
+        self.believed = set()
         for old, text in files:
             path = renamed.path(old)
             text = renamed.text(path, text)
@@ -142,7 +148,7 @@ def table(before, after, key, names):
             print("| %s | %s |" % (name, " | ".join(cells)))
 
 
-def told(title, changed):
+def say(title, changed):
     print(f"{title}: " + ("none" if not changed else ", ".join(sorted(changed))))
 
 
@@ -150,20 +156,13 @@ def compared(what, before, after, all_before, all_after):
     """By name, what of two sets of (name, text) the other side does not have anywhere."""
     gone = {name for name, said in before if (name, said) not in all_after}
     new = {name for name, said in after if (name, said) not in all_before}
-    told(f"{what} that changed", gone & new)
-    told(f"{what} that are new", new - gone)
-    told(f"{what} that are gone", gone - new)
+    say(f"{what} that changed", gone & new)
+    say(f"{what} that are new", new - gone)
+    say(f"{what} that are gone", gone - new)
 
 
-def seconds(log, renamed):
-    """Crate by crate the seconds of its check in a log of the gate, by the names of now, and the time of the whole."""
-    text = open(log).read()
-    took = collections.Counter()
-    for crate, n in dict(re.findall(r"^rt: (\w+) proved \((\d+) s\)", text, re.M)).items():
-        took[renamed.crates.get(crate, crate)] += int(n)
-    whole = re.search(r"^real\s+(\d+)m([\d.]+)s", text, re.M)
-    passed = re.findall(r"^(\d+ passed, \d+ failed)$", text, re.M)
-    return took, ("%s min %d s" % (whole.group(1), float(whole.group(2))) if whole else "not told") + (f" ('{passed[-1]}')" if passed else "")
+def listed(*command):
+    return subprocess.run(command, stdout=subprocess.PIPE, check=True, text=True).stdout.split("\n")
 
 
 arguments = argparse.ArgumentParser(description=__doc__, formatter_class=argparse.RawDescriptionHelpFormatter)
@@ -177,10 +176,9 @@ os.chdir(tree.TOP)
 with tempfile.TemporaryDirectory() as folder:
     archive = subprocess.run(["git", "archive", asked.commit], stdout=subprocess.PIPE, check=True).stdout
     subprocess.run(["tar", "-x", "-C", folder], input=archive, check=True)
-    old = subprocess.run(["git", "ls-tree", "-r", "--name-only", asked.commit], stdout=subprocess.PIPE, check=True, text=True).stdout.split("\n")
+    old = listed("git", "ls-tree", "-r", "--name-only", asked.commit)
     before = Tree(read(folder, old), renamed)
-now = subprocess.run(["git", "ls-files", "-co", "--exclude-standard"], stdout=subprocess.PIPE, check=True, text=True).stdout.split("\n")
-after = Tree(read(".", now), same)
+after = Tree(read(".", listed("git", "ls-files", "-co", "--exclude-standard")), same)
 
 print("| crate | " + " | ".join(KINDS) + " |\n|" + "---|" * (len(KINDS) + 1))
 table(before, after, lambda crate: crate, tree.crates() + ["-"])
@@ -190,7 +188,7 @@ inner = [{said for said in state.definitions if said not in state.believed} for 
 compared("definitions inside (specs/Laws)", *inner, before.definitions, after.definitions)
 compared("contracts", before.contracts, after.contracts, before.contracts, after.contracts)
 if logs:
-    (was, whole_was), (took, whole) = seconds(logs[0], renamed), seconds(logs[1], same)
+    (was, whole_was), (took, whole) = (tree.seconds(log, names.crates) for log, names in zip(logs, (renamed, same)))
     print(f"\nThe gate: {whole_was} before, {whole} after.\n\n| crate | before, s | after, s |\n|---|---|---|")
     for crate in tree.crates():
         print(f"| `{crate}` | {was.get(crate, '')} | {took.get(crate, '')} |")

@@ -1,12 +1,15 @@
 #!/usr/bin/env python3
 """Paths into what a proof knows, `c .before .before .fill .ensures`. FUNCTION is a path below proofs/.
 
-tools/paths.py CRATE FUNCTION [NEED ..]    prints for each need of a function the records from `c` backwards, each with the number of `.before` that
-                                           lead to it and its fields
-tools/paths.py --fill CRATE FUNCTION       replaces, in the function's Proof.antt, each `@@field` by the path from the `c` of its declaration to the
-                                           nearest record with that field, `@@/field` by the path to the record itself
-tools/paths.py --unfill CRATE FUNCTION     the way back: each path that --fill would make becomes `@@field` or `@@/field`; run it before a change of the
-                                           code that shifts paths, and --fill after it"""
+tools/paths.py CRATE FUNCTION [NEED ..]
+    prints for each need of a function the records from `c` backwards, each with the number of `.before` that lead to it
+    and its fields
+tools/paths.py --fill CRATE FUNCTION
+    replaces, in the function's Proof.antt, each `@@field` by the path from the `c` of its declaration to the nearest
+    record with that field, `@@/field` by the path to the record itself
+tools/paths.py --unfill CRATE FUNCTION
+    the way back: each path that --fill would make becomes `@@field` or `@@/field`; run it before a change of the code that
+    shifts paths, and --fill after it"""
 import os
 import re
 import subprocess
@@ -76,7 +79,8 @@ def unfilled(record, line):
 if not mode:
     for need, record in needs.items():
         if not wanted or need in wanted:
-            print(need + ":", " ".join(f"{i}:{at}[{','.join(fields.get(at, []))}]" for i, at in enumerate(chain(record))))
+            places = (f"{i}:{at}[{','.join(fields.get(at, []))}]" for i, at in enumerate(chain(record)))
+            print(need + ":", " ".join(places))
     sys.exit()
 
 proof, at, lines = f"crates/{crate}/proofs/{function}/Proof.antt", None, []

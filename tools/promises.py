@@ -1,8 +1,8 @@
 #!/usr/bin/env python3
-"""docs/PROMISES.md and the tree: the column 'In' of each row lists the files under crates/ that carry the row's label in a comment. `tools/promises.py`
-compares, `tools/promises.py --write` writes the column. Also wrong: a label in crates/ without a row, a row that names no file and does not say
-what it waits for, and a name in the column before that is no word of the crates (in backticks, or as crate::function). Prints what is wrong; exit
-status 1 if anything is."""
+"""docs/PROMISES.md and the tree: the column 'In' of each row lists the files under crates/ that carry the row's label in a
+comment. `tools/promises.py` compares, `tools/promises.py --write` writes the column. Also wrong: a label in crates/ without
+a row, a row that names no file and does not say what it waits for, and a name in the column before that is no word of the
+crates (in backticks, or as crate::function). Prints what is wrong; exit status 1 if anything is."""
 import glob
 import os
 import re
@@ -45,7 +45,8 @@ def known():
 def unknown(told, words):
     """The names that a cell tells and the crates do not have."""
     names = re.findall(r"`([A-Za-z][\w.-]*)`", told) + re.findall(r"\b([a-z_]+(?:::\w+)+)", told)
-    return [name for name in names if not all(part in words or part in tree.crates() for part in re.split(r"\.|::", name))]
+    there = words | set(tree.crates())
+    return [name for name in names if not set(re.split(r"\.|::", name)) <= there]
 
 
 os.chdir(tree.TOP)

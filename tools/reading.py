@@ -1,7 +1,8 @@
 #!/usr/bin/env python3
-"""What somebody has to read in order to believe the promises: the modules that the contracts of the entry points and the claim cite, and all that
-these import. Prints the list with line counts. Exit status 1 if the list reaches a law (a module below specs/Laws), if an entry point has a
-`requires`, if a module of definitions stands in specs/ though nothing reads it, or if README tells another figure.
+"""What somebody has to read in order to believe the promises: the modules that the contracts of the entry points and the
+claim cite, and all that these import. Prints the list with line counts. Exit status 1 if the list reaches a law (a module
+below specs/Laws), if an entry point has a `requires`, if a module of definitions stands in specs/ though nothing reads it,
+or if README has another figure.
 
 The entry points are those of README's table, and every exported function (`#[no_mangle]`)."""
 import glob
@@ -15,7 +16,7 @@ CLAIM = ("claims", "Claim")
 # sentences that promised theorems are about, and that no contract cites
 BESIDE = {
     ("claims", "Cases"): "document 01's worked cases, which CasesHold shows",
-    ("dimacs_format", "Accepted"): "which texts are accepted, without a fold; the reader accepts just these (ReaderLaws)",
+    ("dimacs_format", "Accepted"): "which texts are accepted, without a fold; just these are (ReaderLaws)",
     ("check_theory", "Published"): "stable sets as published, which those of document 01 are (StableLaws)",
 }
 
@@ -93,7 +94,7 @@ for module, by in sorted({**core, **whole}.items()):
 for crate in tree.crates():
     for module in tree.believed(crate):
         if module not in whole and module not in BESIDE:
-            wrong.append(f"{tree.module_path(module)} stands among the definitions, and no contract and not the claim reads it")
+            wrong.append(f"{tree.module_path(module)} is no law, yet no contract cites it, nor does the claim")
 figure = listed("entry points and the claim", list(core))
 listed("exported functions and the program's text, beside these", [module for module in whole if module not in core])
 listed("sentences of promised theorems, beside these", list(BESIDE))

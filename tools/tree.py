@@ -1,4 +1,6 @@
-"""What the tools of this folder know of the repository: its parts and crates, the modules of specs, what a module holds, and the contracts of functions."""
+"""What the tools of this folder know of the repository: its parts and crates, the modules of specs, what a module holds,
+and the contracts of functions."""
+import collections
 import glob
 import os
 import re
@@ -79,7 +81,8 @@ DECLARED = re.compile(r"^ *(abbrev |unfoldable )?(?:pub )?(record |data )?([^\s:
 
 
 def items(text):
-    """The declarations of a module: (name, whether it is a definition, its text without comments and `pub`, white space folded)."""
+    """The declarations of a module: (name, whether it is a definition, its text without comments and `pub`, white space
+    folded)."""
     found, lines = [], [re.sub(r"(^|\s)-- .*$", "", line).rstrip() for line in text.split("\n")]
     block = []
     for line in lines + [""]:
@@ -87,11 +90,14 @@ def items(text):
             block.append(line)
             continue
         while block and re.match(r"\s*(use|pub mod|infix|module)\b", block[0]):
-            block = block[1:]
+            heads = [i for i, head in enumerate(block) if head.endswith(" where")] if "module" in block[0] else []
+            block = block[heads[0] + 1:] if heads else block[1:]
         if block:
             named = DECLARED.match(block[0])
             name = named.group(3) if named else block[0].split()[0]
-            found.append((name, bool(named and (named.group(1) or named.group(2))), " ".join(" ".join(block).replace("pub ", "").split())))
+            said = " ".join(" ".join(block).replace("pub ", "").split())
+            said = re.sub(r"[;,]? ([)}])", r"\1", re.sub(r"([({]) ", r"\1", said))  # as the layout has it on one line
+            found.append((name, bool(named and (named.group(1) or named.group(2))), said))
         block = []
     return found
 
@@ -102,13 +108,15 @@ FUNCTION = re.compile(r"^(?: *)(?:pub )?(?:extern \"C\" )?fn (\w+)\(", re.M)
 
 
 def functions(text):
-    """(name, signature, contract, body) of each function of a file; the contract is what stands between the signature and the body."""
+    """(name, signature, contract, place of the body) of each function of a file; the contract is what stands between its
+    signature and its body."""
     for found in FUNCTION.finditer(text):
         opened = re.compile(r"^ *\{$", re.M).search(text, found.end())
         inline = text.find(" {\n", found.end())
         contract = re.compile(r"^ *(?:requires|ensures)\b", re.M).search(text, found.end())
-        if contract and opened and contract.start() < opened.start() and not re.search(r"^\}", text[found.end():contract.start()], re.M):
-            yield found.group(1), text[found.start():contract.start()], text[contract.start():opened.start()], opened.start()
+        if contract and opened and contract.start() < min(opened.start(), len(text) if inline < 0 else inline):
+            at, end = contract.start(), opened.start()
+            yield found.group(1), text[found.start():at], text[at:end], end
         else:
             yield found.group(1), text[found.start():inline], "", inline
 
@@ -116,3 +124,17 @@ def functions(text):
 def clauses(contract):
     """Whether a contract has a `requires`, and its text with white space folded."""
     return bool(re.search(r"\brequires\b", contract)), " ".join(contract.split())
+
+
+# ---- logs of the gate
+
+def seconds(log, renamed):
+    """Crate by crate the seconds of its check in a log of the gate, by the names of now, and the time of the whole."""
+    text = open(log).read()
+    took = collections.Counter()
+    for crate, n in dict(re.findall(r"^rt: (\w+) proved \((\d+) s\)", text, re.M)).items():
+        took[renamed.get(crate, crate)] += int(n)
+    whole = re.search(r"^real\s+(\d+)m([\d.]+)s", text, re.M)
+    passed = re.findall(r"^(\d+ passed, \d+ failed)$", text, re.M)
+    said = "%s min %d s" % (whole.group(1), float(whole.group(2))) if whole else "a time that the log does not have"
+    return took, said + (f" ('{passed[-1]}')" if passed else "")

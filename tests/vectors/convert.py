@@ -2,7 +2,8 @@
 """Turns vectors told as one JSON object a line into the plain form that tests/vectors.rs reads.
 
 usage: convert.py BASE.jsonl > base.txt
-A vector is a block of lines, a key and its words; an empty line ends it. Words are decimal numbers, except that bytes are told as runs:
+A vector is a block of lines, a key and its words; an empty line ends it. Words are decimal numbers, except that bytes are
+given as runs:
 H:hex:times (these bytes so many times) or U:first:count (that many 8-byte numbers counting up, low byte first).
 """
 import json
@@ -56,7 +57,8 @@ def block(v):
         yield "bytes", runs(v, "file")
         r = v.get("reading")
         if r is not None:
-            yield "reading", ["refused"] + r["refused"] if "refused" in r else ["opened", r["n"], r["m"], r["exchange_count"]]
+            opened = ["refused"] + r["refused"] if "refused" in r else ["opened", r["n"], r["m"], r["exchange_count"]]
+            yield "reading", opened
             if "refused" not in r:
                 yield "read-images", runs(r, "exchanges")
                 yield "read-points", r["points"]
@@ -68,7 +70,8 @@ def block(v):
     if v["kind"] == "nearest":
         yield "bytes", runs(v, "stdin")
     yield "answer", answer(e)
-    for name, key in (("yes", "after-yes"), ("no", "after-no"), ("points", "after-points"), ("rules", "after-numbers"), ("depths", "after-depths")):
+    for name, key in (("yes", "after-yes"), ("no", "after-no"), ("points", "after-points"), ("rules", "after-numbers"),
+                      ("depths", "after-depths")):
         if name in e:
             yield key, e[name]
     for name in ("out", "stdout"):

@@ -1,6 +1,7 @@
-//! A style sheet is a CNF formula of at most 64 yes/no variables with a target point. This library hands back the satisfying point nearest to
-//! the target, or a certificate that no point satisfies the clauses, or says that it had no room to tell. Its answers are proved; what each
-//! promise says is in the repository's README. These functions only lend memory to it.
+//! A style sheet is a CNF formula of at most 64 yes/no variables with a target point. This library hands back the
+//! satisfying point nearest to the target, or a certificate that no point satisfies the clauses, or says that it had
+//! no room to tell. Its answers are proved; what each promise says is in the repository's README. These functions
+//! only lend memory to it.
 //!
 //! ```
 //! use jugbowo::{solve, Slots, Solution};
@@ -117,7 +118,8 @@ impl Slots {
     }
 }
 
-/// What a search finds. With `Unsatisfiable` the first `filled` slots are a stable set, of which [`certificate`] makes a file.
+/// What a search finds. With `Unsatisfiable` the first `filled` slots are a stable set, of which [`certificate`]
+/// makes a file.
 #[derive(Clone, Copy, PartialEq, Eq, Debug)]
 pub enum Outcome {
     Satisfiable { point: u64, distance: u32, filled: usize },
@@ -177,7 +179,9 @@ pub fn search(f: &Formula, slots: &mut Slots) -> Result<Outcome, Refusal> {
     let lent = f.lent();
     sys::search(&by_value(f, &lent), &mut slots.points, &mut slots.falsified, &mut slots.depths, &mut reply);
     match reply[0] {
-        sys::SATISFIABLE => Ok(Outcome::Satisfiable { point: reply[1], distance: reply[2] as u32, filled: reply[3] as usize }),
+        sys::SATISFIABLE => {
+            Ok(Outcome::Satisfiable { point: reply[1], distance: reply[2] as u32, filled: reply[3] as usize })
+        }
         sys::UNSATISFIABLE => Ok(Outcome::Unsatisfiable { filled: reply[1] as usize }),
         sys::UNKNOWN => Ok(Outcome::Unknown { bound: reply[1] as u32, filled: reply[2] as usize }),
         _ => Err(refusal(&reply)),
@@ -213,7 +217,15 @@ pub fn certificate(f: &Formula, slots: &Slots, filled: usize) -> Result<Vec<u8>,
     let mut out = Vec::new();
     loop {
         let mut reply = [0; WORDS];
-        sys::write(&by_value(f, &lent), &slots.points, &slots.falsified, &slots.depths, u32::try_from(filled).unwrap_or(u32::MAX), &mut out, &mut reply);
+        sys::write(
+            &by_value(f, &lent),
+            &slots.points,
+            &slots.falsified,
+            &slots.depths,
+            u32::try_from(filled).unwrap_or(u32::MAX),
+            &mut out,
+            &mut reply,
+        );
         let told = refusal(&reply);
         match (reply[0], told.number) {
             (sys::WRITTEN, _) => return Ok(out),
@@ -223,15 +235,21 @@ pub fn certificate(f: &Formula, slots: &Slots, filled: usize) -> Result<Vec<u8>,
     }
 }
 
-/// Whether a file is a certificate that no point satisfies the formula's clauses. The formula's target and permutations do not matter.
+/// Whether a file is a certificate that no point satisfies the formula's clauses. The formula's target and
+/// permutations do not matter.
 pub fn check(f: &Formula, file: &[u8]) -> Result<(), Refusal> {
     let mut reply = [0; WORDS];
     let lent = f.lent();
     sys::check(&by_value(f, &lent), file, &mut reply);
-    if reply[0] == sys::ACCEPTED { Ok(()) } else { Err(refusal(&reply)) }
+    if reply[0] == sys::ACCEPTED {
+        Ok(())
+    } else {
+        Err(refusal(&reply))
+    }
 }
 
-/// Reads a text, searches with the slots lent and, where no point satisfies the clauses, has the certificate written and checked.
+/// Reads a text, searches with the slots lent and, where no point satisfies the clauses, has the certificate written
+/// and checked.
 ///
 /// ```
 /// use jugbowo::{check, read, solve, Slots, Solution};
@@ -246,7 +264,9 @@ pub fn solve(text: &[u8], slots: &mut Slots) -> Result<Solution, Refusal> {
     let mut reply = [0; WORDS];
     sys::solve(text, &mut slots.points, &mut slots.falsified, &mut slots.depths, &mut out, &mut reply);
     match reply[0] {
-        sys::SATISFIABLE => Ok(Solution::Satisfiable { point: reply[1], distance: reply[2] as u32, filled: reply[3] as usize }),
+        sys::SATISFIABLE => {
+            Ok(Solution::Satisfiable { point: reply[1], distance: reply[2] as u32, filled: reply[3] as usize })
+        }
         sys::UNKNOWN => Ok(Solution::Unknown { bound: reply[1] as u32, filled: reply[2] as usize }),
         sys::CERTIFIED => {
             out.truncate(reply[2] as usize);

@@ -14,6 +14,7 @@ replyOfWritten (Bytes size) = written size
 replyOfWritten (Refused code place) = refused code place
 
 -- G.a: what the writer promises: its reply, and the output as it returns
-pub record Wrote (f : Formula) (positive negative points falsified depths : List ℕ) (filled : ℕ) (out : List ℕ) (r : Written) (after : List ℕ) : Type 0 where
+pub record Wrote (f : Formula) (positive negative points falsified depths : List ℕ) (filled : ℕ) (out : List ℕ)
+    (r : Written) (after : List ℕ) : Type 0 where
   pub reply : replyOfWritten r ≡ writeReply f positive negative points falsified depths filled out
   pub output : after ≡ writeOutput f positive negative points falsified depths filled out

@@ -28,7 +28,8 @@ pub enum Written {
     Refused { code: u32, place: usize },
 }
 
-// What was found before; else refusals 16 and 17, in this order, of the first `filled` slots of at most `lent`. `write` sees to what it requires.
+// What was found before; else refusals 16 and 17, in this order, of the first `filled` slots of at most `lent`. `write`
+// sees to what it requires.
 fn slots_refusal(
     found: Checked,
     n: u32,
@@ -40,7 +41,9 @@ fn slots_refusal(
     filled: u32,
 ) -> Checked
     requires { ⌜ (faultOf found ≡ no-fault → Counted maxSlots n lent (pointsOf (now points))) ⌝ }
-    ensures { λ r. ⌜ faultOf r ≡ slotsFault (faultOf found) lent n (numbered (clausesOf (now (positive .entry)) (now (negative .entry)))) filled (pointsOf (now (points .entry))) (now (falsified .entry)) ⌝ }
+    ensures { λ r. ⌜ faultOf r ≡ slotsFault (faultOf found) lent n
+        (numbered (clausesOf (now (positive .entry)) (now (negative .entry)))) filled (pointsOf (now (points .entry)))
+        (now (falsified .entry)) ⌝ }
 {
     let Checked::Passed = found else {
         return found;
@@ -63,8 +66,8 @@ fn length_needed(n: u32, permutations: u32, filled: u32) -> usize
     32 + area + many * 8 + many * 4
 }
 
-// C3: stores a certificate at the front of `out`: its contents, the permutations, the points and the clause numbers. The writer sees to what
-// it requires.
+// C3: stores a certificate at the front of `out`: its contents, the permutations, the points and the clause numbers.
+// The writer sees to what it requires.
 fn put_certificate(
     out: &mut [u8],
     n: u32,
@@ -76,7 +79,8 @@ fn put_certificate(
     filled: u32,
 )
     requires { ⌜ Storable n permutations (now images) (now points) (now falsified) filled (now out) ⌝ }
-    ensures { λ _. ⌜ now (out .exit) ≡ over (parts n m permutations (now (images .entry)) (now (points .entry)) (now (falsified .entry)) filled) (now (out .entry)) ⌝ }
+    ensures { λ _. ⌜ now (out .exit) ≡ over (parts n m permutations (now (images .entry)) (now (points .entry))
+        (now (falsified .entry)) filled) (now (out .entry)) ⌝ }
 {
     let area = permutations as usize * n as usize;
     let many = filled as usize;
@@ -88,8 +92,9 @@ fn put_certificate(
     put_numbers(out, numbers_at, falsified, many);
 }
 
-// D2.4, N5, C6, R19: writes the certificate of the formula and of the first `filled` slots; refusals 10, 11, 12, 16, 17 and 19 leave `out` as it was.
-// Beside refusal 12, it looks each point up among those before it, at most count · (n + 1) comparisons, and stores each byte once.
+// D2.4, N5, C6, R19: writes the certificate of the formula and of the first `filled` slots; refusals 10, 11, 12, 16, 17
+// and 19 leave `out` as it was. Beside refusal 12, it looks each point up among those before it, at most filled · (n +
+// 1) comparisons, and stores each byte once.
 pub fn write(
     f: Formula,
     positive: &[u64],
@@ -100,7 +105,8 @@ pub fn write(
     filled: u32,
     out: &mut [u8],
 ) -> Written
-    ensures { λ r. ⌜ Wrote f (now (positive .entry)) (now (negative .entry)) (now (points .entry)) (now (falsified .entry)) (now (depths .entry)) filled (now (out .entry)) r (now (out .exit)) ⌝ }
+    ensures { λ r. ⌜ Wrote f (now (positive .entry)) (now (negative .entry)) (now (points .entry))
+        (now (falsified .entry)) (now (depths .entry)) filled (now (out .entry)) r (now (out .exit)) ⌝ }
 {
     let found = problem_refusal(f, positive, negative);
     let lent = room(points, falsified, depths);

@@ -8,8 +8,8 @@ ghost use Rattle.formula.specs.Refusals.{faultOf};
 ghost use Rattle.certificate.specs.Rows.{pointsFault};
 ghost use Rattle.check_distinct.specs.Laws.Indexing.{Growable, Grows, Indexable, Sifts, Refuses, Counted};
 
-// Whether the point at index i has no bit at n or above and equals none of the i before it, of which the links are an index; if so it is added.
-// At most n + 1 comparisons.
+// Whether the point at index i has no bit at n or above and equals none of the i before it, of which the links are an
+// index; if so it is added. At most n + 1 comparisons.
 fn point_enters(links: &mut [u32], heads: usize, points: &[u64], n: u32, i: usize) -> bool
     requires { ⌜ Growable heads n i (pointsOf (now points)) (now links) ⌝ }
     ensures { λ r. ⌜ Grows heads n i (pointsOf (now (points .entry))) r (now (links .exit)) ⌝ }
@@ -23,8 +23,8 @@ fn point_enters(links: &mut [u32], heads: usize, points: &[u64], n: u32, i: usiz
     false
 }
 
-// The number, from 1, of the first of `count` points that fails; 0 if all pass, and then the links are an index of them. At most
-// count · (n + 1) comparisons.
+// The number, from 1, of the first of `count` points that fails; 0 if all pass, and then the links are an index of
+// them. At most count · (n + 1) comparisons.
 pub fn index_points(links: &mut [u32], heads: usize, points: &[u64], n: u32, count: usize) -> usize
     requires { ⌜ Indexable heads n count (pointsOf (now points)) (now links) ⌝ }
     ensures { λ r. ⌜ Sifts heads n count (pointsOf (now (points .entry))) r (now (links .exit)) ⌝ }
@@ -40,8 +40,8 @@ pub fn index_points(links: &mut [u32], heads: usize, points: &[u64], n: u32, cou
     0
 }
 
-// R16: refusal 16, of the first `count` points, of which at most `limit` are allowed. Where it finds nothing the links, all 0 before, are an
-// index of the points.
+// R16: refusal 16, of the first `count` points, of which at most `limit` are allowed. Where it finds nothing the links,
+// all 0 before, are an index of the points.
 pub fn points_refusal(
     links: &mut [u32],
     heads: usize,
@@ -85,8 +85,8 @@ fn many_refusal(points: &[u64], n: u32, count: usize, limit: usize) -> Checked
     points_refusal(&mut links, 65536, points, n, count, limit)
 }
 
-// R16: refusal 16 for callers that need no index after it: at most count · (n + 1) comparisons. The array suits the count, since each of its
-// links is made 0 first.
+// R16: refusal 16 for callers that need no index after it: at most count · (n + 1) comparisons. The array suits the
+// count, since each of its links is made 0 first.
 pub fn local_refusal(points: &[u64], n: u32, count: usize, limit: usize) -> Checked
     requires { ⌜ Counted 65536 n limit (pointsOf (now points)) ⌝ }
     ensures { λ r. ⌜ faultOf r ≡ pointsFault limit n count (pointsOf (now (points .entry))) ⌝ }

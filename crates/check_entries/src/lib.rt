@@ -14,8 +14,8 @@ ghost use Rattle.permutation_theory.specs.Permutations.{permutationsIn};
 ghost use Rattle.formula.specs.Refusals.{faultOf};
 ghost use Rattle.check_entries.specs.Laws.Entries.{listsFault, entriesFault, Ready, Decodable, Lent};
 
-// N8: the tests of the first `count` points and numbers of two slices, in their order. The first leaves an index of the points in the links,
-// which are all 0 before. `copied_refusal` hands on what it requires.
+// N8: the tests of the first `count` points and numbers of two slices, in their order. The first leaves an index of the
+// points in the links, which are all 0 before. `copied_refusal` hands on what it requires.
 fn lists_refusal(
     positive: &[u64],
     negative: &[u64],
@@ -29,7 +29,8 @@ fn lists_refusal(
     permutations: u32,
 ) -> Checked
     requires { ⌜ Ready n permutations (now images) (now positive) (now negative) count (now points) heads (now links) ⌝ }
-    ensures { λ r. ⌜ faultOf r ≡ listsFault n (numbered (clausesOf (now (positive .entry)) (now (negative .entry)))) (permutationsIn n permutations (now (images .entry)))
+    ensures { λ r. ⌜ faultOf r ≡ listsFault n (numbered (clausesOf (now (positive .entry)) (now (negative .entry))))
+        (permutationsIn n permutations (now (images .entry)))
         (take count (pointsOf (now (points .entry)))) (take count (now (numbers .entry))) ⌝ }
 {
     let most = Formula::MAX_SLOTS as usize;
@@ -70,9 +71,11 @@ fn copied_refusal(
     links: &mut [u32],
     heads: usize,
 ) -> Checked
-    requires { ⌜ Decodable n permutations (now images) (now positive) (now negative) count heads (now points) (now numbers)
+    requires { ⌜ Decodable n permutations (now images) (now positive) (now negative) count heads (now points)
+        (now numbers)
         × Lent heads (pointsOf (now held)) (now named) (now links) ⌝ }
-    ensures { λ r. ⌜ faultOf r ≡ entriesFault n permutations (now (images .entry)) (now (positive .entry)) (now (negative .entry)) count (now (points .entry)) (now (numbers .entry)) ⌝ }
+    ensures { λ r. ⌜ faultOf r ≡ entriesFault n permutations (now (images .entry)) (now (positive .entry))
+        (now (negative .entry)) count (now (points .entry)) (now (numbers .entry)) ⌝ }
 {
     points_into(held, points, count);
     numbers_into(named, numbers, count);
@@ -101,8 +104,10 @@ fn few_refusal(
     n: u32,
     permutations: u32,
 ) -> Checked
-    requires { ⌜ Decodable n permutations (now images) (now positive) (now negative) count 1024 (now points) (now numbers) ⌝ }
-    ensures { λ r. ⌜ faultOf r ≡ entriesFault n permutations (now (images .entry)) (now (positive .entry)) (now (negative .entry)) count (now (points .entry)) (now (numbers .entry)) ⌝ }
+    requires { ⌜ Decodable n permutations (now images) (now positive) (now negative) count 1024 (now points)
+        (now numbers) ⌝ }
+    ensures { λ r. ⌜ faultOf r ≡ entriesFault n permutations (now (images .entry)) (now (positive .entry))
+        (now (negative .entry)) count (now (points .entry)) (now (numbers .entry)) ⌝ }
 {
     let mut held = [0u64; 1024];
     let mut named = [0u32; 1024];
@@ -134,8 +139,10 @@ fn many_refusal(
     n: u32,
     permutations: u32,
 ) -> Checked
-    requires { ⌜ Decodable n permutations (now images) (now positive) (now negative) count 65536 (now points) (now numbers) ⌝ }
-    ensures { λ r. ⌜ faultOf r ≡ entriesFault n permutations (now (images .entry)) (now (positive .entry)) (now (negative .entry)) count (now (points .entry)) (now (numbers .entry)) ⌝ }
+    requires { ⌜ Decodable n permutations (now images) (now positive) (now negative) count 65536 (now points)
+        (now numbers) ⌝ }
+    ensures { λ r. ⌜ faultOf r ≡ entriesFault n permutations (now (images .entry)) (now (positive .entry))
+        (now (negative .entry)) count (now (points .entry)) (now (numbers .entry)) ⌝ }
 {
     let mut held = [0u64; 65536];
     let mut named = [0u32; 65536];
@@ -156,7 +163,8 @@ fn many_refusal(
     )
 }
 
-// The same, with arrays of a size that suits the count, since each is made 0 first. Refusals 10, 11 and 14 see to what it requires.
+// The same, with arrays of a size that suits the count, since each is made 0 first. Refusals 10, 11 and 14 see to what
+// it requires.
 pub fn decoded_refusal(
     positive: &[u64],
     negative: &[u64],
@@ -167,8 +175,10 @@ pub fn decoded_refusal(
     n: u32,
     permutations: u32,
 ) -> Checked
-    requires { ⌜ Decodable n permutations (now images) (now positive) (now negative) count 65536 (now points) (now numbers) ⌝ }
-    ensures { λ r. ⌜ faultOf r ≡ entriesFault n permutations (now (images .entry)) (now (positive .entry)) (now (negative .entry)) count (now (points .entry)) (now (numbers .entry)) ⌝ }
+    requires { ⌜ Decodable n permutations (now images) (now positive) (now negative) count 65536 (now points)
+        (now numbers) ⌝ }
+    ensures { λ r. ⌜ faultOf r ≡ entriesFault n permutations (now (images .entry)) (now (positive .entry))
+        (now (negative .entry)) count (now (points .entry)) (now (numbers .entry)) ⌝ }
 {
     if count <= 1024 {
         few_refusal(

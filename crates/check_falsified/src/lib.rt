@@ -15,7 +15,8 @@ ghost use Rattle.certificate.specs.Rows.{clauseNumbered, falsifies, numberPasse
 
 // Whether some clause has the number k, and the point falsifies it.
 fn falsifies(positive: &[u64], negative: &[u64], k: u32, x: Point) -> bool
-    ensures { λ r. ⌜ r ≡ falsifies (clauseNumbered (numbered (clausesOf (now (positive .entry)) (now (negative .entry)))) k) x ⌝ }
+    ensures { λ r. ⌜ r ≡ falsifies (clauseNumbered (numbered
+        (clausesOf (now (positive .entry)) (now (negative .entry)))) k) x ⌝ }
 {
     if k < 1 {
         return false;
@@ -38,7 +39,8 @@ fn number_passes(
     numbers: &[u32],
     i: usize,
 ) -> bool
-    ensures { λ r. ⌜ r ≡ numberPasses (numbered (clausesOf (now (positive .entry)) (now (negative .entry)))) (pointsOf (now (points .entry))) (now (numbers .entry)) i ⌝ }
+    ensures { λ r. ⌜ r ≡ numberPasses (numbered (clausesOf (now (positive .entry)) (now (negative .entry))))
+        (pointsOf (now (points .entry))) (now (numbers .entry)) i ⌝ }
 {
     let k = number_at(numbers, i);
     let x = point_at(points, i);
@@ -53,7 +55,9 @@ fn first_bad_number(
     numbers: &[u32],
     count: usize,
 ) -> usize
-    ensures { λ r. ⌜ r ≡ firstFailing (numberPasses (numbered (clausesOf (now (positive .entry)) (now (negative .entry)))) (pointsOf (now (points .entry))) (now (numbers .entry))) (below count) ⌝ }
+    ensures { λ r. ⌜ r ≡ firstFailing (numberPasses (numbered
+        (clausesOf (now (positive .entry)) (now (negative .entry)))) (pointsOf (now (points .entry)))
+        (now (numbers .entry))) (below count) ⌝ }
 {
     let mut i = 0;
     while i < count {
@@ -74,7 +78,8 @@ pub fn numbers_refusal(
     numbers: &[u32],
     count: usize,
 ) -> Checked
-    ensures { λ r. ⌜ faultOf r ≡ numbersFault (numbered (clausesOf (now (positive .entry)) (now (negative .entry)))) count (pointsOf (now (points .entry))) (now (numbers .entry)) ⌝ }
+    ensures { λ r. ⌜ faultOf r ≡ numbersFault (numbered (clausesOf (now (positive .entry)) (now (negative .entry))))
+        count (pointsOf (now (points .entry))) (now (numbers .entry)) ⌝ }
 {
     let k = first_bad_number(positive, negative, points, numbers, count);
     if k == 0 {

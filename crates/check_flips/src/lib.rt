@@ -23,7 +23,8 @@ ghost use Rattle.check_flips.specs.Laws.Loops.{listedBy, allFlips, Testa
 
 // The set of the variables that the clause with the number k lists; the empty set where no clause has it.
 fn variables_of(positive: &[u64], negative: &[u64], k: u32) -> Point
-    ensures { λ r. ⌜ r ≡ listedBy (clauseNumbered (numbered (clausesOf (now (positive .entry)) (now (negative .entry)))) k) ⌝ }
+    ensures { λ r. ⌜ r ≡ listedBy (clauseNumbered (numbered (clausesOf (now (positive .entry)) (now (negative .entry))))
+        k) ⌝ }
 {
     if k < 1 {
         return 0;
@@ -37,8 +38,9 @@ fn variables_of(positive: &[u64], negative: &[u64], k: u32) -> Point
     points::listed(c)
 }
 
-// Whether each flip of x by a variable of the set is covered by the first `count` points, variables lowest first; `moved` holds the images
-// of x. At most n times permutations + 1 look-ups, each of at most n + 1 comparisons. `flips_pass` sees to what it requires.
+// Whether each flip of x by a variable of the set is covered by the first `count` points, variables lowest first;
+// `moved` holds the images of x. At most n times permutations + 1 look-ups, each of at most n + 1 comparisons.
+// `flips_pass` sees to what it requires.
 fn flips_covered(
     links: &[u32],
     heads: usize,
@@ -51,8 +53,10 @@ fn flips_covered(
     x: Point,
     listed: Point,
 ) -> bool
-    requires { ⌜ Coverable heads n count (pointsOf (now points)) (now links) permutations (now images) (pointsOf (now moved)) x × (listed < 2 ^ n) ⌝ }
-    ensures { λ r. ⌜ r ≡ allFlips (covered (permutationsIn n permutations (now (images .entry))) (take count (pointsOf (now (points .entry))))) n x listed ⌝ }
+    requires { ⌜ Coverable heads n count (pointsOf (now points)) (now links) permutations (now images)
+        (pointsOf (now moved)) x × (listed < 2 ^ n) ⌝ }
+    ensures { λ r. ⌜ r ≡ allFlips (covered (permutationsIn n permutations (now (images .entry)))
+        (take count (pointsOf (now (points .entry))))) n x listed ⌝ }
 {
     let mut left = listed;
     let mut v = points::next_variable(left);
@@ -78,7 +82,8 @@ fn flips_covered(
     true
 }
 
-// Whether the flips of the point at index i, by the clause that the number there names, are covered; `moved` has the images of the point.
+// Whether the flips of the point at index i, by the clause that the number there names, are covered; `moved` has the
+// images of the point.
 fn flips_pass(
     positive: &[u64],
     negative: &[u64],
@@ -93,9 +98,11 @@ fn flips_pass(
     moved: &[u64],
     i: usize,
 ) -> bool
-    requires { ⌜ Testable n permutations (now images) (now positive) (now negative) count (now points) heads (now links) × (i < count)
+    requires { ⌜ Testable n permutations (now images) (now positive) (now negative) count (now points) heads (now links)
+        × (i < count)
         × Imaged n permutations (now images) (getD (pointsOf (now points)) i 0) (pointsOf (now moved)) ⌝ }
-    ensures { λ r. ⌜ r ≡ flipsPass n (numbered (clausesOf (now (positive .entry)) (now (negative .entry)))) (permutationsIn n permutations (now (images .entry)))
+    ensures { λ r. ⌜ r ≡ flipsPass n (numbered (clausesOf (now (positive .entry)) (now (negative .entry))))
+        (permutationsIn n permutations (now (images .entry)))
         (take count (pointsOf (now (points .entry)))) (now (numbers .entry)) i ⌝ }
 {
     let k = number_at(numbers, i);
@@ -115,8 +122,8 @@ fn flips_pass(
     )
 }
 
-// The number, from 1, of the first of `count` points with a flip that is not covered; 0 if there is none. From point to point the images are
-// turned, one step for each permutation and each variable in which the points differ.
+// The number, from 1, of the first of `count` points with a flip that is not covered; 0 if there is none. From point to
+// point the images are turned, one step for each permutation and each variable in which the points differ.
 fn first_uncovered(
     positive: &[u64],
     negative: &[u64],
@@ -129,8 +136,11 @@ fn first_uncovered(
     n: u32,
     permutations: u32,
 ) -> usize
-    requires { ⌜ Testable n permutations (now images) (now positive) (now negative) count (now points) heads (now links) ⌝ }
-    ensures { λ r. ⌜ r ≡ firstFailing (flipsPass n (numbered (clausesOf (now (positive .entry)) (now (negative .entry)))) (permutationsIn n permutations (now (images .entry)))
+    requires { ⌜ Testable n permutations (now images) (now positive) (now negative) count (now points) heads (now links)
+        ⌝ }
+    ensures { λ r. ⌜ r ≡ firstFailing (flipsPass n (numbered
+        (clausesOf (now (positive .entry)) (now (negative .entry))))
+        (permutationsIn n permutations (now (images .entry)))
         (take count (pointsOf (now (points .entry)))) (now (numbers .entry))) (below count) ⌝ }
 {
     let mut moved = [0u64; 16];
@@ -162,8 +172,9 @@ fn first_uncovered(
     0
 }
 
-// R18: refusal 18, of the first `count` points and numbers. For each point its images, permutations · n steps, and at most
-// n · (permutations + 1) look-ups, each of at most n + 1 comparisons. Refusals 10, 11 and 16 see to what it requires.
+// R18: refusal 18, of the first `count` points and numbers. For each point its images, permutations · n steps, and at
+// most n · (permutations + 1) look-ups, each of at most n + 1 comparisons. Refusals 10, 11 and 16 see to what it
+// requires.
 pub fn flips_refusal(
     positive: &[u64],
     negative: &[u64],
@@ -176,8 +187,10 @@ pub fn flips_refusal(
     n: u32,
     permutations: u32,
 ) -> Checked
-    requires { ⌜ Testable n permutations (now images) (now positive) (now negative) count (now points) heads (now links) ⌝ }
-    ensures { λ r. ⌜ faultOf r ≡ flipsFault n (numbered (clausesOf (now (positive .entry)) (now (negative .entry)))) (permutationsIn n permutations (now (images .entry)))
+    requires { ⌜ Testable n permutations (now images) (now positive) (now negative) count (now points) heads (now links)
+        ⌝ }
+    ensures { λ r. ⌜ faultOf r ≡ flipsFault n (numbered (clausesOf (now (positive .entry)) (now (negative .entry))))
+        (permutationsIn n permutations (now (images .entry)))
         (take count (pointsOf (now (points .entry)))) (now (numbers .entry)) ⌝ }
 {
     let k = first_uncovered(

@@ -1,5 +1,5 @@
--- Source document 002: neighbourhoods, transport functions and stable sets as published, over any number n of variables. A set of points
--- is a predicate, and the formula is a list of clauses. Assumes nothing.
+-- Source document 002: neighbourhoods, transport functions and stable sets as published, over any number n of
+-- variables. A set of points is a predicate, and the formula is a list of clauses. Assumes nothing.
 use mathlib.Core.Bool.{cond}
 use mathlib.Core.List.{List, [], _∷_}
 use mathlib.Core.Logic.{_⊎_}
@@ -18,7 +18,8 @@ pub record Nbhd (n : ℕ) (p : ℕ) (c : Clause) (q : ℕ) : Type 0 where
   pub near : distance n p q ≡ 1
   pub satisfied : Satisfies c q
 
--- 002, definition 4: "a transport function $g:P \to F$ is meant to assign each point $p \in P$ a clause that is falsified by p"
+-- 002, definition 4: "a transport function $g:P \to F$ is meant to assign each point $p \in P$ a clause that is
+-- falsified by p"
 pub record Transport (clauses : List Numbered) (P : ℕ → Type 0) (g : ℕ → Clause) : Type 0 where
   pub member : (p : ℕ) → P p → g p ∈ clausesIn clauses
   pub falsified : (p : ℕ) → P p → Satisfies (g p) p → ⊥
@@ -31,7 +32,8 @@ pub record StableSet (n : ℕ) (clauses : List Numbered) (P : ℕ → Type 0) (g
   pub transport : Transport clauses P g
   pub closed : (p : ℕ) → P p → (q : ℕ) → Nbhd n p (g p) q → P q
 
--- 002, definitions 8 and 9: "The set of the permutations, with respect to which a CNF formula is symmetric, forms a group", there named G
+-- 002, definitions 8 and 9: "The set of the permutations, with respect to which a CNF formula is symmetric, forms a
+-- group", there named G
 pub record Symmetry (n : ℕ) (clauses : List Numbered) (e : Permutation) : Type 0 where
   pub bijective : IsPermutation n e
   pub keeps : Keeps e clauses
@@ -42,7 +44,8 @@ pub record Symmetric (n : ℕ) (clauses : List Numbered) (p q : ℕ) : Type 0 wh
   pub inGroup : Symmetry n clauses symmetry
   pub maps : (q ≡ imageOfPoint symmetry p) ⊎ (p ≡ imageOfPoint symmetry q)
 
--- 002, definition 11: "every point $p' \in Nbhd(p,g(p))$ is either in P or there is a point p of P that is symmetric to p'"; nonempty as in definition 5
+-- 002, definition 11: "every point $p' \in Nbhd(p,g(p))$ is either in P or there is a point p of P that is symmetric to
+-- p'"; nonempty as in definition 5
 pub record StableModulo (n : ℕ) (clauses : List Numbered) (P : ℕ → Type 0) (g : ℕ → Clause) : Type 0 where
   pub witness : ℕ
   pub nonempty : P witness

@@ -29,7 +29,8 @@ sizesFault n m file = cond (sameSizes n m file) no-fault (fault 15 0)
 -- N6: "Checker: 10 (no wish), 14, 15, 11, 12, 16, 17, 18; 14 measures the bodies by the n in the contents."
 -- K2: "It uses the certificate's exchanges, not the sheet's."
 unfoldable pub checkFault : Formula → List ℕ → List ℕ → List ℕ → Fault
-unfolding problemOf clausesFault fileFault sizesFault filePermutations filePoints fileNumbers permutationFault symmetryFault pointsFault numbersFault flipsFault first
+unfolding problemOf clausesFault fileFault sizesFault filePermutations filePoints fileNumbers permutationFault
+    symmetryFault pointsFault numbersFault flipsFault first
 checkFault f positive negative file =
     let pb = problemOf f positive negative in
     let n = pb .variables in
@@ -50,10 +51,12 @@ unfoldable pub checkReply : Formula → List ℕ → List ℕ → List ℕ → R
 unfolding checkFault unless
 checkReply f positive negative file = unless (checkFault f positive negative file) accepted
 
--- K1: "It accepts a certificate for a sheet's rules exactly if all of these hold: counts and lengths fit, its exchanges are permutations .."
+-- K1: "It accepts a certificate for a sheet's rules exactly if all of these hold: counts and lengths fit, its exchanges
+-- are permutations .."
 pub record Accepts (f : Formula) (positive negative file : List ℕ) : Type 0 where
   pub clausesPass : clausesFault f positive negative ≡ no-fault
   pub inOrder : WellFormed file
   pub sameVariables : contentsOf file .variables ≡ problemOf f positive negative .variables
   pub sameTotal : contentsOf file .clauses ≡ problemOf f positive negative .total
-  pub stable : Stable (problemOf f positive negative .variables) (problemOf f positive negative .clauses) (filePermutations file) (filePoints file) (fileNumbers file)
+  pub stable : Stable (problemOf f positive negative .variables) (problemOf f positive negative .clauses)
+      (filePermutations file) (filePoints file) (fileNumbers file)

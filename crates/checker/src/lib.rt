@@ -32,11 +32,12 @@ fn as_verdict(checked: Checked) -> Verdict
     }
 }
 
-// C8, F4: refusals 11, 12, 16, 17 and 18, each body handed on as its own part of the file. K2: the permutations are the file's. `file_refusal`
-// sees to what it requires.
+// C8, F4: refusals 11, 12, 16, 17 and 18, each body handed on as its own part of the file. K2: the permutations are the
+// file's. `file_refusal` sees to what it requires.
 fn bodies_refusal(c: Contents, positive: &[u64], negative: &[u64], file: &[u8]) -> Checked
     requires { ⌜ Readable c (now positive) (now negative) (now file) ⌝ }
-    ensures { λ r. ⌜ faultOf r ≡ bodiesFault (c .variables) (numbered (clausesOf (now (positive .entry)) (now (negative .entry))))
+    ensures { λ r. ⌜ faultOf r ≡ bodiesFault (c .variables)
+        (numbered (clausesOf (now (positive .entry)) (now (negative .entry))))
         (filePermutations (now (file .entry))) (filePoints (now (file .entry))) (fileNumbers (now (file .entry))) ⌝ }
 {
     let n = c.variables;
@@ -74,7 +75,8 @@ fn bodies_refusal(c: Contents, positive: &[u64], negative: &[u64], file: &[u8]) 
 // R15: refusals 14 and 15, then those of the bodies. Refusal 10 sees to what it requires.
 fn file_refusal(n: u32, clauses: u32, positive: &[u64], negative: &[u64], file: &[u8]) -> Checked
     requires { ⌜ Fits n clauses (now positive) (now negative) ⌝ }
-    ensures { λ r. ⌜ faultOf r ≡ fileRows n clauses (now (positive .entry)) (now (negative .entry)) (now (file .entry)) ⌝ }
+    ensures { λ r. ⌜ faultOf r ≡ fileRows n clauses (now (positive .entry)) (now (negative .entry)) (now (file .entry))
+        ⌝ }
 {
     let opened = certificate::read(file);
     match opened {

@@ -1,5 +1,5 @@
--- Document 01, 'Sheets to try': the cases marked *, one list under one proposition (G.d: "Cases marked
--- * are theorems, gathered as a list under one proposition"). Points are told as numbers: name 1 is bit 0. Assumes nothing.
+-- Document 01, 'Sheets to try': the cases marked *, one list under one proposition (G.d: "Cases marked * are theorems,
+-- gathered as a list under one proposition"). Points are written as numbers: name 1 is bit 0. Assumes nothing.
 use mathlib.Core.List.{List, [], _∷_, map}
 use mathlib.Core.Option.{Option, some, none}
 use mathlib.Core.Path.{_≡_}
@@ -23,7 +23,8 @@ pub record Sizes : Type 0 where
   pub pointsAt : ℕ
   pub numbersAt : ℕ
 
--- a formula, its clauses and a number of slots; the answer, and, where document 01 gives them, the slots and the certificate's sizes
+-- a formula, its clauses and a number of slots; the answer, and, where document 01 gives them, the slots and the
+-- certificate's sizes
 pub record Case : Type 0 where
   pub formula : Formula
   pub positive : List ℕ
@@ -37,7 +38,8 @@ pub record Case : Type 0 where
 abbrev pub certificateIn : Case → List ℕ
 certificateIn c =
     let l = searchSlots (c .formula) (c .positive) (c .negative) (c .lent) in
-    certificateOf (problemOf (c .formula) (c .positive) (c .negative)) (map (λ (s : Slot). s .point) l) (map (λ (s : Slot). s .falsified) l) (length l)
+    certificateOf (problemOf (c .formula) (c .positive) (c .negative)) (map (λ (s : Slot). s .point) l)
+    (map (λ (s : Slot). s .falsified) l) (length l)
 
 -- a thing is what document 01 gives, if it gives it
 abbrev pub Given : {A : Type 0} → Option A → A → Type 0
@@ -102,19 +104,53 @@ caseA-swap =
 
 -- V3: "A, P = 3, no exchange: no room, d 1."
 abbrev pub caseA-3 : Case
-caseA-3 = record { formula = plain 2 4; positive = positiveA; negative = negativeA; lent = 3; reply = unknown 1 3; slots = none; certificate = none }
+caseA-3 = record {
+  formula = plain 2 4;
+  positive = positiveA;
+  negative = negativeA;
+  lent = 3;
+  reply = unknown 1 3;
+  slots = none;
+  certificate = none;
+}
 
 -- V3: "P = 4: cannot be met."
 abbrev pub caseA-4 : Case
-caseA-4 = record { formula = plain 2 4; positive = positiveA; negative = negativeA; lent = 4; reply = unsatisfiable 4; slots = none; certificate = none }
+caseA-4 = record {
+  formula = plain 2 4;
+  positive = positiveA;
+  negative = negativeA;
+  lent = 4;
+  reply = unsatisfiable 4;
+  slots = none;
+  certificate = none;
+}
 
 -- V4: "B: n 3, rules (1 2) (−1 3), wish 000: met by 010, changes 1, slots 4."
 abbrev pub caseB : Case
-caseB = record { formula = plain 3 2; positive = 3 ∷ 4 ∷ []; negative = 0 ∷ 1 ∷ []; lent = 65536; reply = satisfiable 2 1 4; slots = none; certificate = none }
+caseB = record {
+  formula = plain 3 2;
+  positive = 3 ∷ 4 ∷ [];
+  negative = 0 ∷ 1
+      ∷ [];
+  lent = 65536;
+  reply = satisfiable 2 1 4;
+  slots = none;
+  certificate = none;
+}
 
 -- V4: "P = 3: no room, d 1."
 abbrev pub caseB-3 : Case
-caseB-3 = record { formula = plain 3 2; positive = 3 ∷ 4 ∷ []; negative = 0 ∷ 1 ∷ []; lent = 3; reply = unknown 1 3; slots = none; certificate = none }
+caseB-3 = record {
+  formula = plain 3 2;
+  positive = 3 ∷ 4 ∷ [];
+  negative = 0 ∷ 1
+      ∷ [];
+  lent = 3;
+  reply = unknown 1 3;
+  slots = none;
+  certificate = none;
+}
 
 -- V5: "C = 0: met by the wish, changes 0."
 abbrev pub case-none : Case
@@ -131,18 +167,37 @@ case-none =
 
 -- V5: "One empty rule: cannot be met, one slot."
 abbrev pub case-empty : Case
-case-empty = record { formula = plain 1 1; positive = 0 ∷ []; negative = 0 ∷ []; lent = 65536; reply = unsatisfiable 1; slots = none; certificate = none }
+case-empty = record {
+  formula = plain 1 1;
+  positive = 0 ∷ [];
+  negative = 0
+      ∷ [];
+  lent = 65536;
+  reply = unsatisfiable 1;
+  slots = none;
+  certificate = none;
+}
 
 -- V6: "Rule (1 −1), n 1: met by the wish."
 abbrev pub case-both : Case
-case-both = record { formula = plain 1 1; positive = 1 ∷ []; negative = 1 ∷ []; lent = 1; reply = satisfiable 0 0 1; slots = none; certificate = none }
+case-both = record {
+  formula = plain 1 1;
+  positive = 1 ∷ [];
+  negative = 1
+      ∷ [];
+  lent = 1;
+  reply = satisfiable 0 0 1;
+  slots = none;
+  certificate = none;
+}
 
 abbrev pub cases : List Case
 cases = caseA ∷ caseA-swap ∷ caseA-3 ∷ caseA-4 ∷ caseB ∷ caseB-3 ∷ case-none ∷ case-empty ∷ case-both ∷ []
 
 -- ---- a text that says a case
 
--- P2: "For `p cnf 3 2`, `c wish 000`, `1 2 0`, `-1 3 0` on four lines": the reader yields the formula and the clauses of B
+-- P2: "For `p cnf 3 2`, `c wish 000`, `1 2 0`, `-1 3 0` on four lines": the reader yields the formula and the clauses
+-- of B
 pub record Yields (text : List ℕ) (c : Case) : Type 0 where
   pub answer : readReply text (0 ∷ 0 ∷ []) (0 ∷ 0 ∷ []) ≡ parsed
   pub formula : readFormula text (0 ∷ 0 ∷ []) (0 ∷ 0 ∷ []) ≡ c .formula

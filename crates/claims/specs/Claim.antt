@@ -1,5 +1,5 @@
--- K3: the one claim: the third demand whole, over sheet, search, written certificate and checker together. It cites the very definitions that
--- the entry points' contracts cite. Definitions alone; Theorem shows it. Assumes nothing.
+-- K3: the one claim: the third demand whole, over sheet, search, written certificate and checker together. It cites the
+-- very definitions that the entry points' contracts cite. Definitions alone; Theorem shows it. Assumes nothing.
 use mathlib.Core.List.{List}
 use mathlib.Core.Logic.{_↔_}
 use mathlib.Core.Path.{_≡_}
@@ -18,7 +18,8 @@ use Rattle.checker.specs.Checker.{checkReply}
 
 -- ---- an accepted sheet, and the builder's answer to it
 
--- W12: "whether read from text or handed to the builder by value": a text with the two clause slices lent to the reader; or a formula and its clauses
+-- W12: "whether read from text or handed to the builder by value": a text with the two clause slices lent to the
+-- reader; or a formula and its clauses
 pub data Sheet : Type 0 where
   from-text : List ℕ → List ℕ → List ℕ → Sheet
   by-value : Formula → List ℕ → List ℕ → Sheet
@@ -59,18 +60,21 @@ pub record SearchAnswers (s : Sheet) (l : Slots) (r : Reply) : Type 0 where
   pub reply : searchReply (formulaIn s) (positiveIn s) (negativeIn s) (lent l) ≡ r
   pub accepted : (code place : ℕ) → r ≡ refused code place → ⊥
 
--- C7: "what the writer puts out from that sheet and its rules, the lent slots as the builder left them and the number it reported as filled"
+-- C7: "what the writer puts out from that sheet and its rules, the lent slots as the builder left them and the number
+-- it reported as filled"
 abbrev left : Sheet → Slots → (Slot → ℕ) → List ℕ → List ℕ
 left s l part old = searchSlice part (formulaIn s) (positiveIn s) (negativeIn s) (lent l) old
 
 abbrev pub writerReply : Sheet → Slots → ℕ → List ℕ → Reply
 writerReply s l filled out =
-    writeReply (formulaIn s) (positiveIn s) (negativeIn s) (left s l (λ (t : Slot). t .point) (l .points)) (left s l (λ (t : Slot). t .falsified) (l .falsified))
+    writeReply (formulaIn s) (positiveIn s) (negativeIn s) (left s l (λ (t : Slot). t .point) (l .points))
+    (left s l (λ (t : Slot). t .falsified) (l .falsified))
     (left s l (λ (t : Slot). t .depth) (l .depths)) filled out
 
 abbrev pub writerOutput : Sheet → Slots → ℕ → List ℕ → List ℕ
 writerOutput s l filled out =
-    writeOutput (formulaIn s) (positiveIn s) (negativeIn s) (left s l (λ (t : Slot). t .point) (l .points)) (left s l (λ (t : Slot). t .falsified) (l .falsified))
+    writeOutput (formulaIn s) (positiveIn s) (negativeIn s) (left s l (λ (t : Slot). t .point) (l .points))
+    (left s l (λ (t : Slot). t .falsified) (l .falsified))
     (left s l (λ (t : Slot). t .depth) (l .depths)) filled out
 
 -- ---- what is said of it
@@ -84,31 +88,41 @@ pub record Meets (pb : Problem) (x : ℕ) : Type 0 where
 abbrev pub AtLeast : Problem → ℕ → Type 0
 AtLeast pb d = (y : ℕ) → Meets pb y → d ≤ distance (pb .variables) y (pb .target)
 
--- the certificate of k filled slots, `size` bytes long: an output too short is refused by 19 and left as it was; another takes the certificate,
--- keeps what lies behind it, and the checker accepts what was put there
+-- the certificate of the filled slots, `size` bytes long: an output too short is refused by 19 and left as it was;
+-- another takes the certificate, keeps what lies behind it, and the checker accepts what was put there
 pub record Certified (s : Sheet) (l : Slots) (filled size : ℕ) (out : List ℕ) : Type 0 where
-  pub too-short : length out < size → (writerReply s l filled out ≡ refused 19 size) × (writerOutput s l filled out ≡ out)
+  pub too-short : length out < size → (writerReply s l filled out ≡ refused 19 size)
+      × (writerOutput s l filled out ≡ out)
   pub answers : size ≤ length out → writerReply s l filled out ≡ written size
   pub behind : size ≤ length out → drop size (writerOutput s l filled out) ≡ drop size out
-  pub checks : size ≤ length out → checkReply (formulaIn s) (positiveIn s) (negativeIn s) (take size (writerOutput s l filled out)) ≡ accepted
+  pub checks : size ≤ length out → checkReply (formulaIn s) (positiveIn s) (negativeIn s)
+      (take size (writerOutput s l filled out)) ≡ accepted
 
--- ---- the claim: D3.5: "This holds of 01's walk and checker for every accepted sheet, with exchanges or without, whatever the lent slots held."
+-- ---- the claim: D3.5: "This holds of 01's walk and checker for every accepted sheet, with exchanges or without,
+-- whatever the lent slots held."
 
 pub record Claim : Type 0 where
-  -- D3.1: "A choice handed back meets the rules, and every other choice that meets them differs from the client's wish in at least as many names."
+  -- D3.1: "A choice handed back meets the rules, and every other choice that meets them differs from the client's wish
+  -- in at least as many names."
   -- D3.2: "The reported changes are the number of names in which the one handed back differs."
   pub nearest : (s : Sheet) (l : Slots) (x d filled : ℕ) → SearchAnswers s l (satisfiable x d filled)
-      → Meets (problemIn s) x × (d ≡ distance (problemIn s .variables) x (problemIn s .target)) × AtLeast (problemIn s) d
+      → Meets (problemIn s) x × (d ≡ distance (problemIn s .variables) x (problemIn s .target))
+      × AtLeast (problemIn s) d
   -- D3.3: "Unless 'no room' is said, 'cannot be met' is said exactly when none of the 2^n choices meets the rules."
   pub exactly : (s : Sheet) (l : Slots) (r : Reply) → SearchAnswers s l r → ((b filled : ℕ) → r ≡ unknown b filled → ⊥)
       → ((filled : ℕ) × (r ≡ unsatisfiable filled)) ↔ Unsatisfiable (problemIn s)
   -- D3.4: "Its certificate is then accepted."
-  pub certified : (s : Sheet) (l : Slots) (filled : ℕ) → SearchAnswers s l (unsatisfiable filled) → (out : List ℕ) → Certified s l filled (lengthNeeded (problemIn s) filled) out
-  -- D3.6: "An accepted certificate, whoever made it and whether its sheet is an accepted one or not, means that none of the 2^n choices meets the
-  -- rules it was checked against."
-  pub refutes : (f : Formula) (positive negative file : List ℕ) → checkReply f positive negative file ≡ accepted → Unsatisfiable (problemOf f positive negative)
-  -- D3.7: "'No room' carries a number d, and every choice that meets the rules differs from the wish in at least d names."
+  pub certified : (s : Sheet) (l : Slots) (filled : ℕ) → SearchAnswers s l (unsatisfiable filled) → (out : List ℕ)
+      → Certified s l filled (lengthNeeded (problemIn s) filled) out
+  -- D3.6: "An accepted certificate, whoever made it and whether its sheet is an accepted one or not, means that none of
+  -- the 2^n choices meets the rules it was checked against."
+  pub refutes : (f : Formula) (positive negative file : List ℕ) → checkReply f positive negative file ≡ accepted
+      → Unsatisfiable (problemOf f positive negative)
+  -- D3.7: "'No room' carries a number d, and every choice that meets the rules differs from the wish in at least d
+  -- names."
   pub bound : (s : Sheet) (l : Slots) (b filled : ℕ) → SearchAnswers s l (unknown b filled) → AtLeast (problemIn s) b
   -- D3.8: "Where 2^n is at most 65,536 and at least 2^n slots are lent, it is never said."
-  pub enough-room : (s : Sheet) (l : Slots) (b filled : ℕ) → 2 ^ problemIn s .variables ≤ maxSlots → 2 ^ problemIn s .variables ≤ length (l .points)
-      → 2 ^ problemIn s .variables ≤ length (l .falsified) → 2 ^ problemIn s .variables ≤ length (l .depths) → SearchAnswers s l (unknown b filled) → ⊥
+  pub enough-room : (s : Sheet) (l : Slots) (b filled : ℕ) → 2 ^ problemIn s .variables ≤ maxSlots
+      → 2 ^ problemIn s .variables ≤ length (l .points)
+      → 2 ^ problemIn s .variables ≤ length (l .falsified) → 2 ^ problemIn s .variables ≤ length (l .depths)
+      → SearchAnswers s l (unknown b filled) → ⊥

@@ -88,7 +88,8 @@ fn expect_number(line: &[u8], cursor: Cursor) -> Sized
     }
 }
 
-// S11: "byte `p` first, then `cnf`, V, C, parted by blanks, nothing else but trailing blanks". A byte is visited at most five times.
+// S11: "byte `p` first, then `cnf`, V, C, parted by blanks, nothing else but trailing blanks". A byte is visited at
+// most five times.
 pub fn read_problem(line: &[u8]) -> Sizing
     ensures { λ r. ⌜ sizingOf r ≡ problemIn (piece 0 (now (line .entry))) ⌝ }
 {
@@ -136,7 +137,8 @@ fn is_skipped(line: &[u8]) -> bool
     end == line.len()
 }
 
-// S11: "The first other line that isn't all blanks must be the problem line". A byte before it is visited at most three times.
+// S11: "The first other line that isn't all blanks must be the problem line". A byte before it is visited at most three
+// times.
 pub fn find_problem(text: &[u8]) -> Found
     ensures { λ r. ⌜ ProblemFound (now (text .entry)) r ⌝ }
 {
@@ -157,8 +159,8 @@ pub fn find_problem(text: &[u8]) -> Found
 // S7: "The text is at most 1,048,576 bytes."
 const MAX_TEXT: usize = 1048576;
 
-// R3: "V or C outside limits | 3 | line's first byte"; R4: "a rule slice shorter than C | 4 | line's first byte". Refusal 1
-// and the place of the problem line see to what it requires.
+// R3: "V or C outside limits | 3 | line's first byte"; R4: "a rule slice shorter than C | 4 | line's first byte".
+// Refusal 1 and the place of the problem line see to what it requires.
 fn read_sized(
     text: &[u8],
     start: usize,
@@ -169,7 +171,10 @@ fn read_sized(
     negative: &mut [u64],
 ) -> Parsed
     requires { ⌜ (length (now text) ≤ maxText) × (stop ≤ length (now text)) ⌝ }
-    ensures { λ r. ⌜ ParsedAs (withSizes (length (now (text .entry))) (length (now (positive .entry))) (length (now (negative .entry))) (piece start (take (stop - start) (drop start (now (text .entry))))) (linesBehind (now (text .entry)) stop) (record { variables = variables; total = total })) (now (positive .entry)) (now (negative .entry)) r (now (positive .exit)) (now (negative .exit)) ⌝ }
+    ensures { λ r. ⌜ ParsedAs (withSizes (length (now (text .entry))) (length (now (positive .entry)))
+        (length (now (negative .entry))) (piece start (take (stop - start) (drop start (now (text .entry)))))
+        (linesBehind (now (text .entry)) stop) (record { variables = variables; total = total }))
+        (now (positive .entry)) (now (negative .entry)) r (now (positive .exit)) (now (negative .exit)) ⌝ }
 {
     if variables < 1 {
         return refused(3, start);
@@ -190,10 +195,12 @@ fn read_sized(
     read_clauses(text, stop, variables, total, positive, negative)
 }
 
-// D2.1: "A sheet is read as DIMACS CNF, as document 01 fixes it." The work is linear in the text: a byte before the problem line is visited at
-// most three times, one of that line at most six times, one behind it at most nineteen times (`read_lines`).
+// D2.1: "A sheet is read as DIMACS CNF, as document 01 fixes it." The work is linear in the text: a byte before the
+// problem line is visited at most three times, one of that line at most six times, one behind it at most nineteen times
+// (`read_lines`).
 pub fn read(text: &[u8], positive: &mut [u64], negative: &mut [u64]) -> Parsed
-    ensures { λ r. ⌜ Read (now (text .entry)) (now (positive .entry)) (now (negative .entry)) r (now (positive .exit)) (now (negative .exit)) ⌝ }
+    ensures { λ r. ⌜ Read (now (text .entry)) (now (positive .entry)) (now (negative .entry)) r (now (positive .exit))
+        (now (negative .exit)) ⌝ }
 {
     let size = text.len();
     if MAX_TEXT < size {

@@ -8,7 +8,8 @@ use points::Point;
 ghost use Prim.Native.Nat.{_+_, _≤_};
 ghost use lib.ListN.{length};
 ghost use Rattle.dimacs_words.specs.Laws.Scans.{signed};
-ghost use Rattle.dimacs_clauses.specs.Laws.ClauseScans.{clausesFrom, Room, Taking, Ready, Inside, Stepping, Scanning};
+ghost use Rattle.dimacs_clauses.specs.Laws.ClauseScans.{clausesFrom, Room, Taking, Ready, Inside, Stepping};
+ghost use Rattle.dimacs_clauses.specs.Laws.ClauseScans.{Scanning};
 
 // How many clauses are closed, and the one begun.
 pub struct Begun {
@@ -30,7 +31,8 @@ pub enum Stepped {
     Refused { code: u32, place: usize },
 }
 
-// S14: "A zero closes a rule."; refusal 6. The closed clause goes to its place in the slices. The loop over words has seen to the room.
+// S14: "A zero closes a rule."; refusal 6. The closed clause goes to its place in the slices. The loop over words has
+// seen to the room.
 fn take_number(
     n: u32,
     place: usize,
@@ -41,7 +43,8 @@ fn take_number(
     negative: &mut [u64],
 ) -> Taken
     requires { ⌜ Room n (begun .closed) (now positive) (now negative) ⌝ }
-    ensures { λ r. ⌜ Taking n place (now (positive .entry)) (now (negative .entry)) begun (signed negated value) r (now (positive .exit)) (now (negative .exit)) ⌝ }
+    ensures { λ r. ⌜ Taking n place (now (positive .entry)) (now (negative .entry)) begun (signed negated value) r
+        (now (positive .exit)) (now (negative .exit)) ⌝ }
 {
     let k = begun.closed;
     if value == 0 {
@@ -86,8 +89,10 @@ fn clause_word(
     positive: &mut [u64],
     negative: &mut [u64],
 ) -> Stepped
-    requires { ⌜ Ready (record { variables = n; total = total }) (begun .closed) (now positive) (now negative) × Inside start (now line) × (cursor .at ≤ length (now line)) ⌝ }
-    ensures { λ r. ⌜ Stepping (record { variables = n; total = total }) start (now (line .entry)) (cursor .at) (now (positive .entry)) (now (negative .entry)) begun (now (positive .exit)) (now (negative .exit)) r ⌝ }
+    requires { ⌜ Ready (record { variables = n; total = total }) (begun .closed) (now positive) (now negative)
+        × Inside start (now line) × (cursor .at ≤ length (now line)) ⌝ }
+    ensures { λ r. ⌜ Stepping (record { variables = n; total = total }) start (now (line .entry)) (cursor .at)
+        (now (positive .entry)) (now (negative .entry)) begun (now (positive .exit)) (now (negative .exit)) r ⌝ }
 {
     let at = cursor.at;
     let from = run_end(line, at, Class::Blank);
@@ -114,8 +119,8 @@ fn clause_word(
     }
 }
 
-// The words of a line. A byte of the line is visited at most three times: to skip it as a blank, or to find its word's end and to read it.
-// `dimacs_comments::word_line` sees to what it requires.
+// The words of a line. A byte of the line is visited at most three times: to skip it as a blank, or to find its word's
+// end and to read it. `dimacs_comments::word_line` sees to what it requires.
 pub fn clause_line(
     line: &[u8],
     start: usize,
@@ -125,8 +130,11 @@ pub fn clause_line(
     positive: &mut [u64],
     negative: &mut [u64],
 ) -> Taken
-    requires { ⌜ Ready (record { variables = n; total = total }) (begun .closed) (now positive) (now negative) × Inside start (now line) ⌝ }
-    ensures { λ r. ⌜ Scanning (record { variables = n; total = total }) start (now (line .entry)) (clausesFrom (now (positive .entry)) (now (negative .entry)) begun) r (now (positive .exit)) (now (negative .exit)) ⌝ }
+    requires { ⌜ Ready (record { variables = n; total = total }) (begun .closed) (now positive) (now negative)
+        × Inside start (now line) ⌝ }
+    ensures { λ r. ⌜ Scanning (record { variables = n; total = total }) start (now (line .entry))
+        (clausesFrom (now (positive .entry)) (now (negative .entry)) begun) r (now (positive .exit))
+        (now (negative .exit)) ⌝ }
 {
     let mut state = begun;
     let mut cursor = Cursor { at: 0 };

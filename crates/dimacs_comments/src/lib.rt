@@ -26,7 +26,8 @@ pub enum Wanted {
     Malformed,
 }
 
-// What stands next in a permutation line: nothing, the number of a variable with the cursor behind it, or something else.
+// What stands next in a permutation line: nothing, the number of a variable with the cursor behind it, or something
+// else.
 pub enum Image {
     End,
     Variable { value: u32, next: Cursor },
@@ -57,8 +58,8 @@ fn target_digits(bytes: &[u8], n: u32) -> Wanted
     Wanted::Target(x)
 }
 
-// S18: "holds n digits 0 or 1 unparted, name 1 first, then only blanks". One step a byte. `dimacs_comments::target_line` is
-// called below refusal 3, which sees to n.
+// S18: "holds n digits 0 or 1 unparted, name 1 first, then only blanks". One step a byte.
+// `dimacs_comments::target_line` is called below refusal 3, which sees to n.
 pub fn read_target(bytes: &[u8], n: u32) -> Wanted
     requires { ⌜ n ≤ 64 ⌝ }
     ensures { λ r. ⌜ wantedOf r ≡ targetIn n (now (bytes .entry)) ⌝ }
@@ -74,8 +75,8 @@ pub fn read_target(bytes: &[u8], n: u32) -> Wanted
     target_digits(bytes, n)
 }
 
-// S19: "numbers from 1 to n without sign, one to four digits each, .. parted and followed only by blanks": the next one, but that it may be 0,
-// which the permutation test finds. The loop over the numbers stands within the bytes.
+// S19: "numbers from 1 to n without sign, one to four digits each, .. parted and followed only by blanks": the next
+// one, but that it may be 0, which the permutation test finds. The loop over the numbers stands within the bytes.
 fn next_image(bytes: &[u8], cursor: Cursor, n: u32) -> Image
     requires { ⌜ cursor .at ≤ length (now bytes) ⌝ }
     ensures { λ r. ⌜ Imaging n (now (bytes .entry)) (cursor .at) r ⌝ }
@@ -103,7 +104,8 @@ fn next_image(bytes: &[u8], cursor: Cursor, n: u32) -> Image
     Image::Variable { value, next }
 }
 
-// The numbers of a permutation line, into a part of n bytes; whether they are n numbers. A byte of the line is visited at most three times.
+// The numbers of a permutation line, into a part of n bytes; whether they are n numbers. A byte of the line is visited
+// at most three times.
 fn store_numbers(bytes: &[u8], n: u32, part: &mut [u8]) -> bool
     requires { ⌜ (n ≤ 64) × (length (now part) ≡ n) ⌝ }
     ensures { λ r. ⌜ Storing n (now (bytes .entry)) (now (part .exit)) r ⌝ }
@@ -132,8 +134,9 @@ fn store_numbers(bytes: &[u8], n: u32, part: &mut [u8]) -> bool
     }
 }
 
-// S19: "One that begins with `c exch ` holds n numbers from 1 to n without sign, .., every number just one time": into the n bytes at `at`.
-// `dimacs_comments::permutation_line` sees to the room, by its count of at most 16, and refusal 3 to n.
+// S19: "One that begins with `c exch ` holds n numbers from 1 to n without sign, .., every number just one time": into
+// the n bytes at `at`. `dimacs_comments::permutation_line` sees to the room, by its count of at most 16, and refusal 3
+// to n.
 pub fn read_permutation(bytes: &[u8], n: u32, images: &mut [u8], at: usize) -> bool
     requires { ⌜ (n ≤ 64) × (at + n ≤ length (now images)) ⌝ }
     ensures { λ r. ⌜ Permuting n (now (bytes .entry)) at (now (images .entry)) (now (images .exit)) r ⌝ }
@@ -153,7 +156,7 @@ pub fn read_permutation(bytes: &[u8], n: u32, images: &mut [u8], at: usize) -> b
     is_permutation(&images[at..end], n)
 }
 
-// What the lines have said so far, beside the slices of the clauses and the table of the images.
+// What the lines have said so far, beside the slices of the clauses and the images.
 pub struct State {
     pub begun: Begun,
     pub targeted: bool,
@@ -167,7 +170,8 @@ pub enum Advanced {
     Refused { code: u32, place: usize },
 }
 
-// R8: "wish line malformed or second | 8 | line's first byte". `dimacs_lines::read_line` has found the head; refusal 3 sees to n.
+// R8: "wish line malformed or second | 8 | line's first byte". `dimacs_lines::read_line` has found the head; refusal 3
+// sees to n.
 pub fn target_line(line: &[u8], start: usize, n: u32, state: State) -> Advanced
     requires { ⌜ (n ≤ 64) × (7 ≤ length (now line)) ⌝ }
     ensures { λ r. ⌜ TargetTaken n start (now (line .entry)) state r ⌝ }
@@ -194,8 +198,8 @@ pub fn target_line(line: &[u8], start: usize, n: u32, state: State) -> Advanced
     })
 }
 
-// R9: "exchange line malformed or seventeenth | 9 | line's first byte". `dimacs_lines::read_line` has found the head and hands on the table as
-// the lines so far left it; refusal 3 sees to n.
+// R9: "exchange line malformed or seventeenth | 9 | line's first byte". `dimacs_lines::read_line` has found the head
+// and hands on the images as the lines so far left it; refusal 3 sees to n.
 pub fn permutation_line(
     line: &[u8],
     start: usize,
@@ -231,7 +235,8 @@ pub fn permutation_line(
     })
 }
 
-// A line that is no comment. `dimacs_lines::read_line` hands on the slices as the lines so far left them; refusals 1 and 3 see to the rest.
+// A line that is no comment. `dimacs_lines::read_line` hands on the slices as the lines so far left them; refusals 1
+// and 3 see to the rest.
 pub fn word_line(
     line: &[u8],
     start: usize,
@@ -241,8 +246,10 @@ pub fn word_line(
     positive: &mut [u64],
     negative: &mut [u64],
 ) -> Advanced
-    requires { ⌜ Ready (record { variables = n; total = total }) (state .begun .closed) (now positive) (now negative) × Inside start (now line) ⌝ }
-    ensures { λ r. ⌜ WordsTaken (record { variables = n; total = total }) start (now (line .entry)) state (now (positive .entry)) (now (negative .entry)) (now (positive .exit)) (now (negative .exit)) r ⌝ }
+    requires { ⌜ Ready (record { variables = n; total = total }) (state .begun .closed) (now positive) (now negative)
+        × Inside start (now line) ⌝ }
+    ensures { λ r. ⌜ WordsTaken (record { variables = n; total = total }) start (now (line .entry)) state
+        (now (positive .entry)) (now (negative .entry)) (now (positive .exit)) (now (negative .exit)) r ⌝ }
 {
     let begun = state.begun;
     let taken = clause_line(line, start, n, total, begun, positive, negative);

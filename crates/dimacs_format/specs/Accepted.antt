@@ -1,5 +1,5 @@
--- Document 01, 'Sheet': which texts are accepted and what they say, without a fold or a state. ReaderLaws has that the reader accepts just
--- these. Assumes nothing.
+-- Document 01, 'Sheet': which texts are accepted and what they say, without a fold or a state. ReaderLaws has that the
+-- reader accepts just these. Assumes nothing.
 use mathlib.Core.Bool.{true, false, not}
 use mathlib.Core.List.{List, [], _∷_, _++_, map, flatMap}
 use mathlib.Core.Logic.{_⊎_}
@@ -13,7 +13,9 @@ use Rattle.math.specs.Lists.{_∈_, select}
 use Rattle.points.specs.Points.{Clause}
 use Rattle.permutation_theory.specs.Permutations.{Permutation, IsPermutation}
 use Rattle.formula.specs.Limits.{maxVariables, maxClauses, maxPermutations}
-use Rattle.dimacs_format.specs.Text.{maxText, isBlank, Line, Word, lines, words, wordsOf, spelled, isComment, problemWord, formatWord, behindHead, isTargetLine, isPermutationLine, numberIn, Literal, variable, Token, tokenIn, literal, close}
+use Rattle.dimacs_format.specs.Text.{maxText, isBlank, Line, Word, lines, words, wordsOf, spelled, isComment}
+use Rattle.dimacs_format.specs.Text.{problemWord, formatWord, behindHead, isTargetLine, isPermutationLine}
+use Rattle.dimacs_format.specs.Text.{numberIn, Literal, variable, Token, tokenIn, literal, close}
 use Rattle.dimacs_format.specs.Input.{Input, clauseOf}
 
 -- ---- the problem line
@@ -40,7 +42,8 @@ pub record Within (n : ℕ) (l : Literal) : Type 0 where
   pub low : 1 ≤ variable l
   pub high : variable l ≤ n
 
--- S13, S14: "signed decimal numbers", "A zero closes a rule.": literals of the variables 1 to n in groups, each closed by a zero and a clause
+-- S13, S14: "signed decimal numbers", "A zero closes a rule.": literals of the variables 1 to n in groups, each closed
+-- by a zero and a clause
 pub record Grouped (n : ℕ) (ws : List Word) (cs : List Clause) : Type 0 where
   pub groups : List (List Literal)
   pub tokens : map (λ (w : Word). tokenIn (w .bytes)) ws ≡ flatMap closedBy0 groups
@@ -65,7 +68,8 @@ pub data Targeted (n : ℕ) : List Line → ℕ → Type 0 where
   no-line : Targeted n [] 0
   one-line : {l : Line} {x : ℕ} → TargetLine n l x → Targeted n (l ∷ []) x
 
--- S19: "holds n numbers from 1 to n without sign, .., the first right behind those seven bytes, .., every number just one time"
+-- S19: "holds n numbers from 1 to n without sign, .., the first right behind those seven bytes, .., every number just
+-- one time"
 pub record PermutationLine (n : ℕ) (l : Line) (e : Permutation) : Type 0 where
   pub byte : ℕ
   pub rest : List ℕ
@@ -77,7 +81,8 @@ pub record PermutationLine (n : ℕ) (l : Line) (e : Permutation) : Type 0 where
 -- S19: "such lines", in order the permutations
 pub data Permuted (n : ℕ) : List Line → List Permutation → Type 0 where
   none-left : Permuted n [] []
-  one-more : {l : Line} {ls : List Line} {e : Permutation} {es : List Permutation} → PermutationLine n l e → Permuted n ls es → Permuted n (l ∷ ls) (e ∷ es)
+  one-more : {l : Line} {ls : List Line} {e : Permutation} {es : List Permutation} → PermutationLine n l e
+      → Permuted n ls es → Permuted n (l ∷ ls) (e ∷ es)
 
 -- ---- the whole text
 
@@ -90,7 +95,8 @@ wordsAmong ls = flatMap wordsOf (select (λ l. not (isComment l)) ls)
 abbrev pub Skipped : Line → Type 0
 Skipped l = (isComment l ≡ true) ⊎ ((b : ℕ) → b ∈ l .bytes → isBlank b ≡ true)
 
--- D2.1: "A sheet is read as DIMACS CNF, as document 01 fixes it.": the text is accepted and says d, with slices of p and q places for its clauses
+-- D2.1: "A sheet is read as DIMACS CNF, as document 01 fixes it.": the text is accepted and says d, with slices of p
+-- and q places for its clauses
 pub record Accepts (text : List ℕ) (p q : ℕ) (d : Input) : Type 0 where
   -- S7: "The text is at most 1,048,576 bytes."
   pub size : length text ≤ maxText
@@ -109,7 +115,8 @@ pub record Accepts (text : List ℕ) (p q : ℕ) (d : Input) : Type 0 where
   -- R4: "a rule slice shorter than C"
   pub room-positive : length (d .clauses) ≤ p
   pub room-negative : length (d .clauses) ≤ q
-  -- S13: "Afterwards words parted by blanks or line ends are signed decimal numbers"; S15: "Exactly C rules are closed."
+  -- S13: "Afterwards words parted by blanks or line ends are signed decimal numbers"; S15: "Exactly C rules are
+  -- closed."
   pub grouped : Grouped (d .variables) (wordsAmong after) (d .clauses)
   -- S17: "After the problem line two comments have meaning, also inside a rule."
   pub targeted : Targeted (d .variables) (select isTargetLine after) (d .target)

@@ -1,5 +1,5 @@
--- What an accepted text says, how its clauses come from their literals, and how all of it lies in a formula by value and two slices.
--- Assumes nothing.
+-- What an accepted text says, how its clauses come from their literals, and how all of it lies in a formula by value
+-- and two slices. Assumes nothing.
 use mathlib.Core.List.{List, [], _∷_, _++_, map, flatMap}
 use mathlib.Core.Bool.{true}
 use mathlib.Core.Path.{_≡_}
@@ -46,7 +46,8 @@ clauseOf g = withLiterals emptyClause g
 -- "names wanted yes, names wanted no": what the two sets are, variable i + 1 being bit i
 pub record IsClause (g : List Literal) (c : Clause) : Type 0 where
   pub wanted : (i : ℕ) → (bit (c .positive) i ≡ true → pos (suc i) ∈ g) × (pos (suc i) ∈ g → bit (c .positive) i ≡ true)
-  pub unwanted : (i : ℕ) → (bit (c .negative) i ≡ true → neg (suc i) ∈ g) × (neg (suc i) ∈ g → bit (c .negative) i ≡ true)
+  pub unwanted : (i : ℕ) → (bit (c .negative) i ≡ true → neg (suc i) ∈ g)
+      × (neg (suc i) ∈ g → bit (c .negative) i ≡ true)
 
 -- ---- the formula by value
 

@@ -1,5 +1,5 @@
--- Document 01, 'Sheet' and rows 1 to 9 of 'When the desk says no': the reader, as a fold over the lines of the text. Accepted has the
--- same for texts that are not refused, without a fold. Assumes nothing.
+-- Document 01, 'Sheet' and rows 1 to 9 of 'When the desk says no': the reader, as a fold over the lines of the text.
+-- Accepted has the same for texts that are not refused, without a fold. Assumes nothing.
 use mathlib.Core.Bool.{Bool, true, false, not, cond, _&&_, _||_}
 use mathlib.Core.List.{List, [], _∷_, _++_}
 use mathlib.Core.Option.{Option, some, none, Option·getD}
@@ -13,7 +13,10 @@ use Rattle.formula.specs.Limits.{maxVariables, maxClauses, maxPermutations}
 use Rattle.formula.specs.Problem.{emptyFormula}
 use Rattle.formula.specs.Reply.{Reply, parsed, refused}
 use Rattle.formula.specs.declared.Formula.{Formula}
-use Rattle.dimacs_format.specs.Text.{maxText, isBlank, Line, Word, lines, words, wordsOf, spelled, sameBytes, begins, isComment, allBlank, problemWord, formatWord, behindHead, isTargetLine, isPermutationLine, numberIn, variable, Token, tokenIn, literal, close, malformed}
+use Rattle.dimacs_format.specs.Text.{maxText, isBlank, Line, Word, lines, words, wordsOf, spelled, sameBytes}
+use Rattle.dimacs_format.specs.Text.{begins, isComment, allBlank, problemWord, formatWord, behindHead}
+use Rattle.dimacs_format.specs.Text.{isTargetLine, isPermutationLine, numberIn, variable, Token, tokenIn, literal}
+use Rattle.dimacs_format.specs.Text.{close, malformed}
 use Rattle.dimacs_format.specs.Input.{Input, emptyClause, withLiteral, formulaOf, positives, negatives}
 
 -- ---- steps that may refuse
@@ -56,10 +59,12 @@ problemWords [] = none
 problemWords (p ∷ []) = none
 problemWords (p ∷ f ∷ []) = none
 problemWords (p ∷ f ∷ v ∷ []) = none
-problemWords (p ∷ f ∷ v ∷ c ∷ []) = cond (sameBytes p problemWord && sameBytes f formatWord) (sizesIn (numberIn v) (numberIn c)) none
+problemWords (p ∷ f ∷ v ∷ c ∷ []) = cond (sameBytes p problemWord && sameBytes f formatWord)
+    (sizesIn (numberIn v) (numberIn c)) none
 problemWords (p ∷ f ∷ v ∷ c ∷ w ∷ ws) = none
 
--- S11: "byte `p` first, then `cnf`, V, C, parted by blanks, nothing else but trailing blanks"; S12: "both have one to four decimal digits"
+-- S11: "byte `p` first, then `cnf`, V, C, parted by blanks, nothing else but trailing blanks"; S12: "both have one to
+-- four decimal digits"
 unfoldable pub problemIn : Line → Option Sizes
 unfolding begins words problemWords
 problemIn l = cond (begins problemWord (l .bytes)) (problemWords (spelled (wordsOf l))) none
@@ -86,7 +91,8 @@ tokenStep n s place (literal l) =
 -- R7: "word after C closed rules", 7 at the "word's first byte"; N3: "7 precedes 5 and 6 at a word"
 unfoldable pub wordStep : Sizes → Clauses → Word → Step Clauses
 unfolding tokenStep tokenIn
-wordStep z s w = cond (ltb (length (s .closed)) (z .total)) (tokenStep (z .variables) s (w .start) (tokenIn (w .bytes))) (refuses 7 (w .start))
+wordStep z s w = cond (ltb (length (s .closed)) (z .total)) (tokenStep (z .variables) s (w .start) (tokenIn (w .bytes)))
+    (refuses 7 (w .start))
 
 -- ---- the comments with meaning
 
@@ -102,7 +108,8 @@ binary (b ∷ bs) = (b - 48) + 2 * binary bs
 -- S18: "holds n digits 0 or 1 unparted, name 1 first, then only blanks"
 unfoldable pub targetIn : ℕ → List ℕ → Option ℕ
 unfolding all isBinary allBlank binary
-targetIn n bytes = cond (leb n (length bytes) && all isBinary (take n bytes) && allBlank (drop n bytes)) (some (binary (take n bytes))) none
+targetIn n bytes = cond (leb n (length bytes) && all isBinary (take n bytes) && allBlank (drop n bytes))
+    (some (binary (take n bytes))) none
 
 -- the target of a line, unless it is malformed
 unfoldable pub targetKept : ℕ → Option ℕ → Step (Option ℕ)
@@ -139,7 +146,8 @@ unfolding isPermutation
 permuting n none = none
 permuting n (some vs) = cond (isPermutation n (record { images = vs })) (some (record { images = vs })) none
 
--- S19: "One that begins with `c exch ` holds n numbers from 1 to n without sign, .., the first right behind those seven bytes, .."
+-- S19: "One that begins with `c exch ` holds n numbers from 1 to n without sign, .., the first right behind those seven
+-- bytes, .."
 unfoldable pub permutationIn : ℕ → List ℕ → Option Permutation
 unfolding beginsWord words numbersIn permuting
 permutationIn n bytes = cond (beginsWord bytes) (permuting n (numbersIn (spelled (words 0 bytes)))) none
@@ -152,7 +160,8 @@ permutationKept es place (some e) = goes (es ++ e ∷ [])
 -- S19: "at most 16 such lines"; R9: "exchange line malformed or seventeenth | 9 | line's first byte"
 unfoldable pub permutationStep : ℕ → List Permutation → Line → Step (List Permutation)
 unfolding permutationIn permutationKept
-permutationStep n es l = cond (ltb (length es) maxPermutations) (permutationKept es (l .start) (permutationIn n (behindHead l))) (refuses 9 (l .start))
+permutationStep n es l = cond (ltb (length es) maxPermutations)
+    (permutationKept es (l .start) (permutationIn n (behindHead l))) (refuses 9 (l .start))
 
 -- ---- a line behind the problem line
 
@@ -189,11 +198,14 @@ begin = record { clauses = record { closed = []; begun = emptyClause }; target =
 unfoldable pub handled : Sizes → Progress → Line → Kind → Step Progress
 unfolding walk wordStep targetStep permutationStep
 handled z s l clause-line =
-    andThen (walk (wordStep z) (s .clauses) (wordsOf l)) (λ c. goes (record { clauses = c; target = s .target; permutations = s .permutations }))
+    andThen (walk (wordStep z) (s .clauses) (wordsOf l))
+    (λ c. goes (record { clauses = c; target = s .target; permutations = s .permutations }))
 handled z s l target-line =
-    andThen (targetStep (z .variables) (s .target) l) (λ t. goes (record { clauses = s .clauses; target = t; permutations = s .permutations }))
+    andThen (targetStep (z .variables) (s .target) l) (λ t. goes
+    (record { clauses = s .clauses; target = t; permutations = s .permutations }))
 handled z s l permutation-line =
-    andThen (permutationStep (z .variables) (s .permutations) l) (λ es. goes (record { clauses = s .clauses; target = s .target; permutations = es }))
+    andThen (permutationStep (z .variables) (s .permutations) l)
+    (λ es. goes (record { clauses = s .clauses; target = s .target; permutations = es }))
 handled z s l remark = goes s
 
 -- S17: one line behind the problem line
@@ -216,7 +228,13 @@ fromProblem (l ∷ ls) = cond (isSkipped l) (fromProblem ls) (l ∷ ls)
 
 -- S18: "without it the wish is all 0"
 abbrev pub inputOf : ℕ → Progress → Input
-inputOf n s = record { variables = n; clauses = s .clauses .closed; target = Option·getD (s .target) 0; permutations = s .permutations }
+inputOf n s = record {
+  variables = n;
+  clauses = s .clauses .closed;
+  target = Option·getD (s .target) 0;
+  permutations =
+      s .permutations;
+}
 
 -- S15: "Exactly C rules are closed."; R7: "or too few closed", 7 at the "text length"
 unfoldable pub atEnd : ℕ → Sizes → Progress → Step Input
@@ -225,7 +243,8 @@ atEnd size z s = cond (eqb (length (s .clauses .closed)) (z .total)) (goes (inpu
 -- R4: "a rule slice shorter than C | 4 | line's first byte"; p and q are the lengths of the two slices
 unfoldable pub withRoom : ℕ → ℕ → ℕ → Line → List Line → Sizes → Step Input
 unfolding andThen walk lineStep atEnd
-withRoom size p q l after z = cond (leb (z .total) p && leb (z .total) q) (andThen (walk (lineStep z) begin after) (atEnd size z)) (refuses 4 (l .start))
+withRoom size p q l after z = cond (leb (z .total) p && leb (z .total) q)
+    (andThen (walk (lineStep z) begin after) (atEnd size z)) (refuses 4 (l .start))
 
 -- R3: "V or C outside limits | 3 | line's first byte"
 unfoldable pub withSizes : ℕ → ℕ → ℕ → Line → List Line → Sizes → Step Input
@@ -247,7 +266,8 @@ withLines size p q (l ∷ after) = withProblem size p q l after (problemIn l)
 -- R1: "text too long | 1 | 1,048,576"; N3: "Reader: 1, 2, 3, 4, then the first fault in text order"
 unfoldable pub reading : List ℕ → ℕ → ℕ → Step Input
 unfolding withLines fromProblem lines
-reading text p q = cond (leb (length text) maxText) (withLines (length text) p q (fromProblem (lines 0 text))) (refuses 1 maxText)
+reading text p q = cond (leb (length text) maxText) (withLines (length text) p q (fromProblem (lines 0 text)))
+    (refuses 1 maxText)
 
 -- ---- what the reader answers, and what it leaves in the slices
 

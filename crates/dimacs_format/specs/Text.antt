@@ -1,5 +1,5 @@
--- Document 01, 'Sheet', the text: its lines, their words, and the numbers that words are. Definitions alone; TextLaws has what follows.
--- Assumes nothing.
+-- Document 01, 'Sheet', the text: its lines, their words, and the numbers that words are. Definitions alone; TextLaws
+-- has what follows. Assumes nothing.
 use mathlib.Core.Bool.{Bool, true, false, not, cond, _&&_, _||_}
 use mathlib.Core.List.{List, [], _∷_, _++_, map}
 use mathlib.Core.Option.{Option, some, none}
@@ -51,7 +51,8 @@ Clean t run = all (λ b. not (t b)) run ≡ true
 -- the runs between separators, in order; the first byte of all stands at the given place
 pub data Split (t : ℕ → Bool) : ℕ → List ℕ → List Piece → Type 0 where
   split-last : {at : ℕ} {run : List ℕ} → Clean t run → Split t at run (piece at run ∷ [])
-  split-more : {at b : ℕ} {run rest : List ℕ} {ps : List Piece} → Clean t run → t b ≡ true → Split t (suc (at + length run)) rest ps
+  split-more : {at b : ℕ} {run rest : List ℕ} {ps : List Piece} → Clean t run → t b ≡ true
+      → Split t (suc (at + length run)) rest ps
       → Split t at (run ++ b ∷ rest) (piece at run ∷ ps)
 
 -- a byte in front of the runs behind it: one that separates leaves an empty run, another one belongs to the first run
@@ -75,7 +76,8 @@ Line = Piece
 abbrev pub Word : Type 0
 Word = Piece
 
--- S8: "Lines end with byte 10; the last may lack it." Behind a last byte 10 stands one more line, an empty one, which is all blanks.
+-- S8: "Lines end with byte 10; the last may lack it." Behind a last byte 10 stands one more line, an empty one, which
+-- is all blanks.
 unfoldable pub lines : ℕ → List ℕ → List Line
 unfolding pieces endsLine
 lines at bytes = pieces endsLine at bytes
@@ -84,7 +86,8 @@ lines at bytes = pieces endsLine at bytes
 unfoldable pub holdsBytes : Piece → Bool
 holdsBytes p = leb 1 (length (p .bytes))
 
--- S13: "words parted by blanks": the runs of bytes that are no blanks, none of them empty; the first byte of all stands at the given place
+-- S13: "words parted by blanks": the runs of bytes that are no blanks, none of them empty; the first byte of all stands
+-- at the given place
 unfoldable pub words : ℕ → List ℕ → List Word
 unfolding pieces isBlank select holdsBytes
 words at bytes = select holdsBytes (pieces isBlank at bytes)

@@ -16,7 +16,8 @@ use points::Point;
 ghost use mathlib.Core.Path.{_≡_};
 ghost use Prim.Native.Nat.{_≤_};
 ghost use lib.ListN.{length, take};
-ghost use Rattle.dimacs_lines.specs.Laws.LineScans.{nothingSaid, Standing, Advancing, LinesRead, advancedOf, progressFrom, Stands};
+ghost use Rattle.dimacs_lines.specs.Laws.LineScans.{nothingSaid, Standing, Advancing, LinesRead, advancedOf};
+ghost use Rattle.dimacs_lines.specs.Laws.LineScans.{progressFrom, Stands};
 ghost use Rattle.dimacs_format.specs.Text.{maxText};
 ghost use Rattle.dimacs_clauses.specs.Laws.ClauseScans.{Inside};
 ghost use Rattle.math.specs.Lists.{over};
@@ -24,8 +25,9 @@ ghost use Rattle.dimacs_format.specs.Reader.{andThen, walk, lineStep, begin, at
 ghost use Rattle.dimacs_words.specs.Laws.Scans.{linesBehind};
 ghost use Rattle.dimacs_lines.specs.Laws.ParsedAs.{wantedOr0, refusedWith, ParsedAs, Limited, HasRoom};
 
-// S17: "After the problem line two comments have meaning, also inside a rule." F2: the heads are fixed byte strings. One line behind the
-// problem line; the heads are at most fifteen bytes to compare, and each handler says how often it visits a byte.
+// S17: "After the problem line two comments have meaning, also inside a rule." F2: the heads are fixed byte strings.
+// One line behind the problem line; the heads are at most fifteen bytes to compare, and each handler says how often it
+// visits a byte.
 fn read_line(
     line: &[u8],
     start: usize,
@@ -36,8 +38,11 @@ fn read_line(
     negative: &mut [u64],
     images: &mut [u8],
 ) -> Advanced
-    requires { ⌜ Standing (record { variables = n; total = total }) state (now positive) (now negative) (now images) × Inside start (now line) ⌝ }
-    ensures { λ r. ⌜ Advancing (record { variables = n; total = total }) start (now (line .entry)) state (now (positive .entry)) (now (negative .entry)) (now (images .entry)) r (now (positive .exit)) (now (negative .exit)) (now (images .exit)) ⌝ }
+    requires { ⌜ Standing (record { variables = n; total = total }) state (now positive) (now negative) (now images)
+        × Inside start (now line) ⌝ }
+    ensures { λ r. ⌜ Advancing (record { variables = n; total = total }) start (now (line .entry)) state
+        (now (positive .entry)) (now (negative .entry)) (now (images .entry)) r (now (positive .exit))
+        (now (negative .exit)) (now (images .exit)) ⌝ }
 {
     let comment = begins(b"c", line);
     if !comment {
@@ -71,9 +76,10 @@ fn begin() -> State
     }
 }
 
-// N3: "then the first fault in text order": the lines behind the one that ends at `end`. A byte of the text is visited once to find its line's
-// end, at most fifteen times as part of a head, and at most three times more, so the work is linear in the text. `dimacs_lines::collect`
-// sees to what it requires: refusals 1 and 3, slices with room for C clauses, a table of zeros.
+// N3: "then the first fault in text order": the lines behind the one that ends at `end`. A byte of the text is visited
+// once to find its line's end, at most fifteen times as part of a head, and at most three times more, so the work is
+// linear in the text. `dimacs_lines::collect` sees to what it requires: refusals 1 and 3, slices with room for C
+// clauses, images of zeros.
 pub fn read_lines(
     text: &[u8],
     end: usize,
@@ -83,8 +89,10 @@ pub fn read_lines(
     negative: &mut [u64],
     images: &mut [u8],
 ) -> Advanced
-    requires { ⌜ Standing (record { variables = n; total = total }) nothingSaid (now positive) (now negative) (now images) × (length (now text) ≤ maxText) × (end ≤ length (now text)) ⌝ }
-    ensures { λ r. ⌜ LinesRead (record { variables = n; total = total }) (now (text .entry)) end r (now (positive .exit)) (now (negative .exit)) (now (images .exit)) ⌝ }
+    requires { ⌜ Standing (record { variables = n; total = total }) nothingSaid (now positive) (now negative)
+        (now images) × (length (now text) ≤ maxText) × (end ≤ length (now text)) ⌝ }
+    ensures { λ r. ⌜ LinesRead (record { variables = n; total = total }) (now (text .entry)) end r
+        (now (positive .exit)) (now (negative .exit)) (now (images .exit)) ⌝ }
 {
     let mut state = begin();
     let mut last = end;
@@ -153,7 +161,8 @@ fn wanted(targeted: bool, x: Point) -> Point
     if targeted { x } else { 0 }
 }
 
-// S15: "Exactly C rules are closed." Then, and not before, the clauses go to the lent slices. Refusals 3 and 4 see to the room.
+// S15: "Exactly C rules are closed." Then, and not before, the clauses go to the lent slices. Refusals 3 and 4 see to
+// the room.
 fn accept(
     size: usize,
     n: u32,
@@ -165,8 +174,11 @@ fn accept(
     positive: &mut [u64],
     negative: &mut [u64],
 ) -> Parsed
-    requires { ⌜ Standing (record { variables = n; total = total }) state (now p) (now q) images × HasRoom total (now positive) (now negative) ⌝ }
-    ensures { λ r. ⌜ ParsedAs (atEnd size (record { variables = n; total = total }) (progressFrom n (now (p .entry)) (now (q .entry)) images state)) (now (positive .entry)) (now (negative .entry)) r (now (positive .exit)) (now (negative .exit)) ⌝ }
+    requires { ⌜ Standing (record { variables = n; total = total }) state (now p) (now q) images
+        × HasRoom total (now positive) (now negative) ⌝ }
+    ensures { λ r. ⌜ ParsedAs (atEnd size (record { variables = n; total = total })
+        (progressFrom n (now (p .entry)) (now (q .entry)) images state)) (now (positive .entry)) (now (negative .entry))
+        r (now (positive .exit)) (now (negative .exit)) ⌝ }
 {
     let begun = state.begun;
     if begun.closed < total {
@@ -202,8 +214,11 @@ fn finish(
     positive: &mut [u64],
     negative: &mut [u64],
 ) -> Parsed
-    requires { ⌜ Stands (record { variables = n; total = total }) done (now p) (now q) images × HasRoom total (now positive) (now negative) ⌝ }
-    ensures { λ r. ⌜ ParsedAs (andThen (advancedOf n (now (p .entry)) (now (q .entry)) images done) (atEnd size (record { variables = n; total = total }))) (now (positive .entry)) (now (negative .entry)) r (now (positive .exit)) (now (negative .exit)) ⌝ }
+    requires { ⌜ Stands (record { variables = n; total = total }) done (now p) (now q) images
+        × HasRoom total (now positive) (now negative) ⌝ }
+    ensures { λ r. ⌜ ParsedAs (andThen (advancedOf n (now (p .entry)) (now (q .entry)) images done)
+        (atEnd size (record { variables = n; total = total }))) (now (positive .entry)) (now (negative .entry)) r
+        (now (positive .exit)) (now (negative .exit)) ⌝ }
 {
     match done {
         Advanced::On(state) => { accept(size, n, total, state, p, q, images, positive, negative) }
@@ -211,8 +226,8 @@ fn finish(
     }
 }
 
-// N1: the clauses are collected in `p` and `q`, so that a later refusal finds the lent slices unchanged. `read_clauses` sees to what it
-// requires.
+// N1: the clauses are collected in `p` and `q`, so that a later refusal finds the lent slices unchanged. `read_clauses`
+// sees to what it requires.
 fn collect(
     text: &[u8],
     end: usize,
@@ -223,8 +238,12 @@ fn collect(
     positive: &mut [u64],
     negative: &mut [u64],
 ) -> Parsed
-    requires { ⌜ Limited n total × HasRoom total (now p) (now q) × HasRoom total (now positive) (now negative) × (length (now text) ≤ maxText) × (end ≤ length (now text)) ⌝ }
-    ensures { λ r. ⌜ ParsedAs (andThen (walk (lineStep (record { variables = n; total = total })) begin (linesBehind (now (text .entry)) end)) (atEnd (length (now (text .entry))) (record { variables = n; total = total }))) (now (positive .entry)) (now (negative .entry)) r (now (positive .exit)) (now (negative .exit)) ⌝ }
+    requires { ⌜ Limited n total × HasRoom total (now p) (now q) × HasRoom total (now positive) (now negative)
+        × (length (now text) ≤ maxText) × (end ≤ length (now text)) ⌝ }
+    ensures { λ r. ⌜ ParsedAs (andThen (walk (lineStep (record { variables = n; total = total })) begin
+        (linesBehind (now (text .entry)) end)) (atEnd (length (now (text .entry)))
+        (record { variables = n; total = total }))) (now (positive .entry)) (now (negative .entry)) r
+        (now (positive .exit)) (now (negative .exit)) ⌝ }
 {
     let size = text.len();
     let mut images = [0u8; 1024];
@@ -232,8 +251,8 @@ fn collect(
     finish(size, n, total, done, p, q, images, positive, negative)
 }
 
-// The lines, with arrays of the function's own to collect the clauses in. `dimacs::read_sized` sees to what it requires, by
-// refusals 1, 3 and 4.
+// The lines, with arrays of the function's own to collect the clauses in. `dimacs::read_sized` sees to what it
+// requires, by refusals 1, 3 and 4.
 pub fn read_clauses(
     text: &[u8],
     end: usize,
@@ -242,8 +261,12 @@ pub fn read_clauses(
     positive: &mut [u64],
     negative: &mut [u64],
 ) -> Parsed
-    requires { ⌜ Limited n total × HasRoom total (now positive) (now negative) × (length (now text) ≤ maxText) × (end ≤ length (now text)) ⌝ }
-    ensures { λ r. ⌜ ParsedAs (andThen (walk (lineStep (record { variables = n; total = total })) begin (linesBehind (now (text .entry)) end)) (atEnd (length (now (text .entry))) (record { variables = n; total = total }))) (now (positive .entry)) (now (negative .entry)) r (now (positive .exit)) (now (negative .exit)) ⌝ }
+    requires { ⌜ Limited n total × HasRoom total (now positive) (now negative) × (length (now text) ≤ maxText)
+        × (end ≤ length (now text)) ⌝ }
+    ensures { λ r. ⌜ ParsedAs (andThen (walk (lineStep (record { variables = n; total = total })) begin
+        (linesBehind (now (text .entry)) end)) (atEnd (length (now (text .entry)))
+        (record { variables = n; total = total }))) (now (positive .entry)) (now (negative .entry)) r
+        (now (positive .exit)) (now (negative .exit)) ⌝ }
 {
     let mut p = [0u64; 4096];
     let mut q = [0u64; 4096];

@@ -6,7 +6,7 @@ use export_words::put_parse;
 use formula::Formula;
 ghost use Rattle.exports.specs.Reading.{ReadReturns};
 
-// The reader, its answer told in the first four words of `reply`, beside the formula: its four numbers in `numbers`, its images in `images`,
+// The reader, its answer put into the first four words of `reply`, beside the formula: its four numbers in `numbers`, its images in `images`,
 // 0 throughout after a refusal. It returns 1; where one of the three has no room it returns 0 and changes nothing.
 #[no_mangle]
 pub extern "C" fn jugbowo_read(

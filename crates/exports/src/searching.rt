@@ -6,7 +6,7 @@ use search::search;
 ghost use Rattle.export_words.specs.Words.{formulaFrom};
 ghost use Rattle.exports.specs.Searching.{SearchReturns};
 
-// The search, its answer told in the first four words of `reply`. It returns 1; where `reply` has no room it returns 0 and changes nothing.
+// The search, its answer put into the first four words of `reply`. It returns 1; where `reply` has no room it returns 0 and changes nothing.
 #[no_mangle]
 pub extern "C" fn jugbowo_search(
     variables: u32,

@@ -4,7 +4,7 @@ use export_words::put_solution;
 use solver::solve;
 ghost use Rattle.exports.specs.Solving.{SolveReturns};
 
-// The solver: a text read, searched and, where it cannot be met, its certificate written to `out` and checked. Its answer is told in the first four
+// The solver: a text read, searched and, where it cannot be met, its certificate written to `out` and checked. Its answer is put into the first four
 // words of `reply`. It returns 1; where `reply` has no room it returns 0 and changes nothing.
 #[no_mangle]
 pub extern "C" fn jugbowo_solve(

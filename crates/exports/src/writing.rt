@@ -6,7 +6,7 @@ use export_words::put_written;
 ghost use Rattle.export_words.specs.Words.{formulaFrom};
 ghost use Rattle.exports.specs.Writing.{WriteReturns};
 
-// The writer, its answer told in the first four words of `reply`. It returns 1; where `reply` has no room it returns 0 and changes nothing.
+// The writer, its answer put into the first four words of `reply`. It returns 1; where `reply` has no room it returns 0 and changes nothing.
 #[no_mangle]
 pub extern "C" fn jugbowo_write(
     variables: u32,

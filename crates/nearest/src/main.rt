@@ -16,7 +16,8 @@ struct Got {
     failed: bool,
 }
 
-// One read of standard input to the front of the buffer. It may bring fewer bytes than there is room for; at the end of the input it brings none.
+// One read of standard input to the front of the buffer. It may bring fewer bytes than there is room for; at the end of
+// the input it brings none.
 fn read_some(buffer: &mut [u8]) -> Got
     ensures { λ r. ⌜ r .count ≤ length (now (buffer .exit)) ⌝ }
 {

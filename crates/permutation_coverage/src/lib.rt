@@ -13,10 +13,12 @@ ghost use Rattle.point_slices.specs.Slices.{pointsOf};
 ghost use Rattle.permutation_theory.specs.Permutations.{covered, permutationsIn};
 ghost use Rattle.permutation_coverage.specs.Laws.Coverage.{Permuting, Imaged, Coverable, Turns, Sends};
 
-// The image stored at index i, flipped where the permutation of index i sends variable v: the image of the flipped point (`image-flip`).
+// The image stored at index i, flipped where the permutation of index i sends variable v: the image of the flipped
+// point (`image-flip`).
 fn flipped_image(moved: &[u64], images: &[u8], n: u32, i: usize, v: u32) -> Point
     requires { ⌜ Sends n i v (now images) ⌝ }
-    ensures { λ r. ⌜ r ≡ flip (getD (pointsOf (now (moved .entry))) i 0) (getD (now (images .entry)) (i * n + v) 0 - 1) ⌝ }
+    ensures { λ r. ⌜ r ≡ flip (getD (pointsOf (now (moved .entry))) i 0) (getD (now (images .entry)) (i * n + v) 0 - 1)
+        ⌝ }
 {
     let place = i * n as usize + v as usize;
     let to = images[place] as u32 - 1;
@@ -27,7 +29,8 @@ fn flipped_image(moved: &[u64], images: &[u8], n: u32, i: usize, v: u32) -> Poin
 // Turns the images of a point into those of the point with variable v flipped: one step for each permutation.
 fn flip_images(moved: &mut [u64], images: &[u8], n: u32, permutations: u32, v: u32)
     requires { ⌜ Permuting n permutations (now images) × (permutations ≤ length (now moved)) × (v < n) ⌝ }
-    ensures { λ _. ⌜ Turns n permutations (now (images .entry)) v (pointsOf (now (moved .entry))) (pointsOf (now (moved .exit))) ⌝ }
+    ensures { λ _. ⌜ Turns n permutations (now (images .entry)) v (pointsOf (now (moved .entry)))
+        (pointsOf (now (moved .exit))) ⌝ }
 {
     let group = permutations as usize;
     let mut i = 0;
@@ -38,10 +41,11 @@ fn flip_images(moved: &mut [u64], images: &[u8], n: u32, permutations: u32, v: u
     }
 }
 
-// Turns the images of x into those of y: one step for each permutation and each variable in which they differ, which are two where both were
-// filled from one point.
+// Turns the images of x into those of y: one step for each permutation and each variable in which they differ, which
+// are two where both were filled from one point.
 pub fn move_images(moved: &mut [u64], images: &[u8], n: u32, permutations: u32, x: Point, y: Point)
-    requires { ⌜ Permuting n permutations (now images) × Imaged n permutations (now images) x (pointsOf (now moved)) × (y < 2 ^ n) ⌝ }
+    requires { ⌜ Permuting n permutations (now images) × Imaged n permutations (now images) x (pointsOf (now moved))
+        × (y < 2 ^ n) ⌝ }
     ensures { λ _. ⌜ Imaged n permutations (now (images .entry)) y (pointsOf (now (moved .exit))) ⌝ }
 {
     let mut left = points::differing(x, y);
@@ -53,8 +57,9 @@ pub fn move_images(moved: &mut [u64], images: &[u8], n: u32, permutations: u32, 
     }
 }
 
-// Whether x with variable v flipped, or an image of that, is among the first k points, of which the links are an index; `moved` holds the
-// images of x. At most permutations + 1 look-ups, each of at most n + 1 comparisons, and one step for each image.
+// Whether x with variable v flipped, or an image of that, is among the first k points, of which the links are an index;
+// `moved` holds the images of x. At most permutations + 1 look-ups, each of at most n + 1 comparisons, and one step for
+// each image.
 pub fn flip_covered(
     links: &[u32],
     heads: usize,
@@ -67,8 +72,10 @@ pub fn flip_covered(
     x: Point,
     v: u32,
 ) -> bool
-    requires { ⌜ Coverable heads n k (pointsOf (now points)) (now links) permutations (now images) (pointsOf (now moved)) x × (v < n) ⌝ }
-    ensures { λ r. ⌜ r ≡ covered (permutationsIn n permutations (now (images .entry))) (take k (pointsOf (now (points .entry)))) (flip x v) ⌝ }
+    requires { ⌜ Coverable heads n k (pointsOf (now points)) (now links) permutations (now images)
+        (pointsOf (now moved)) x × (v < n) ⌝ }
+    ensures { λ r. ⌜ r ≡ covered (permutationsIn n permutations (now (images .entry)))
+        (take k (pointsOf (now (points .entry)))) (flip x v) ⌝ }
 {
     let flipped = points::flip(x, v);
     if contains(links, heads, points, n, k, flipped) {

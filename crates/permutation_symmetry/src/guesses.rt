@@ -1,5 +1,6 @@
-// Guesses where a clause stands, in a lent slice: each entry is 0, or 1 more than the index of a clause. Nothing is promised of it, whatever
-// it holds: who takes a guess compares. The guesses for a clause are 16 entries in a row, up to the first that is 0.
+// Guesses where a clause stands, in a lent slice: each entry is 0, or 1 more than the index of a clause. Nothing is
+// promised of it, whatever it holds: who takes a guess compares. The guesses for a clause are 16 entries in a row, up
+// to the first that is 0.
 use point_index::head_of;
 use point_slices::clause_at;
 use point_slices::clause_count;
@@ -18,8 +19,8 @@ ghost use Rattle.permutation_theory.specs.Permutations.{sameClause};
 // How many entries the slice should have; with fewer there are fewer guesses. At most half of them hold one.
 pub const ENTRIES: usize = 8192;
 
-// Where the guesses for a clause begin: 15 entries and more follow. The factors differ, so that clauses over the same variables begin apart,
-// and are large, since the hashes of points of few digits are small.
+// Where the guesses for a clause begin: 15 entries and more follow. The factors differ, so that clauses over the same
+// variables begin apart, and are large, since the hashes of points of few digits are small.
 fn place_of(c: Clause) -> usize
     ensures { λ r. ⌜ r < 8177 ⌝ }
 {
@@ -30,7 +31,8 @@ fn place_of(c: Clause) -> usize
 
 // Whether the clause at index i is the clause c.
 fn stands_at(positive: &[u64], negative: &[u64], i: usize, c: Clause) -> bool
-    ensures { λ r. ⌜ (r ≡ true → any (sameClause (clauseOf c)) (clausesOf (now (positive .entry)) (now (negative .entry))) ≡ true) ⌝ }
+    ensures { λ r. ⌜ (r ≡ true → any (sameClause (clauseOf c))
+        (clausesOf (now (positive .entry)) (now (negative .entry))) ≡ true) ⌝ }
 {
     let end = clause_count(positive, negative);
     if end <= i {
@@ -40,9 +42,11 @@ fn stands_at(positive: &[u64], negative: &[u64], i: usize, c: Clause) -> bool
     crate::same_clause(c, d)
 }
 
-// Whether a guess for the clause is right: then it is among those of the slices. At most 16 comparisons, one where the first is right.
+// Whether a guess for the clause is right: then it is among those of the slices. At most 16 comparisons, one where the
+// first is right.
 pub fn guessed(guesses: &[u32], positive: &[u64], negative: &[u64], c: Clause) -> bool
-    ensures { λ r. ⌜ (r ≡ true → any (sameClause (clauseOf c)) (clausesOf (now (positive .entry)) (now (negative .entry))) ≡ true) ⌝ }
+    ensures { λ r. ⌜ (r ≡ true → any (sameClause (clauseOf c))
+        (clausesOf (now (positive .entry)) (now (negative .entry))) ≡ true) ⌝ }
 {
     let mut i = place_of(c);
     let end = i + 16;

@@ -44,11 +44,12 @@ pub fn has_clause(guesses: &[u32], positive: &[u64], negative: &[u64], c: Clause
     false
 }
 
-// Whether the image of each clause is among the clauses. For each clause an image, 2n steps, and about one comparison where the guesses have
-// it, never more than 16 and one a clause.
+// Whether the image of each clause is among the clauses. For each clause an image, 2n steps, and about one comparison
+// where the guesses have it, never more than 16 and one a clause.
 pub fn keeps(e: &[u8], guesses: &[u32], positive: &[u64], negative: &[u64]) -> bool
     requires { ⌜ Movable (now e) ⌝ }
-    ensures { λ r. ⌜ r ≡ keeps (numbered (clausesOf (now (positive .entry)) (now (negative .entry)))) (record { images = now (e .entry) }) ⌝ }
+    ensures { λ r. ⌜ r ≡ keeps (numbered (clausesOf (now (positive .entry)) (now (negative .entry))))
+        (record { images = now (e .entry) }) ⌝ }
 {
     let end = clause_count(positive, negative);
     let mut i = 0;

@@ -1,5 +1,5 @@
--- Document 01, 'Exchanges': permutations of variables, what they do to points and clauses, and which points a set covers.
--- Assumes nothing.
+-- Document 01, 'Exchanges': permutations of variables, what they do to points and clauses, and which points a set
+-- covers. Assumes nothing.
 use mathlib.Core.Bool.{Bool, _&&_, _||_}
 use mathlib.Core.List.{List, [], _∷_, map}
 use mathlib.Core.Path.{_≡_}
@@ -66,8 +66,8 @@ unfoldable pub keeps : List Numbered → Permutation → Bool
 unfolding all any imageOfClause sameClause
 keeps cs e = all (imageAmong (clausesIn cs) e) (clausesIn cs)
 
--- E6: "A choice is covered by a set if it or its image under one listed exchange is in the set." E4: "Doing nothing always counts as an
--- exchange, unlisted" (itself); E5: "here one listed exchange, applied one time, counts" (by-image)
+-- E6: "A choice is covered by a set if it or its image under one listed exchange is in the set." E4: "Doing nothing
+-- always counts as an exchange, unlisted" (itself); E5: "here one listed exchange, applied one time, counts" (by-image)
 pub data Covered (es : List Permutation) (ps : List ℕ) (x : ℕ) : Type 0 where
   itself : x ∈ ps → Covered es ps x
   by-image : (e : Permutation) → e ∈ es → imageOfPoint e x ∈ ps → Covered es ps x

@@ -22,7 +22,8 @@ pub struct Spot {
     pub link: usize,
 }
 
-// The head link of a point: a hash of its halves. A leaf function on points, kept beside the tree; `permutation_symmetry::guesses` hashes clauses by it.
+// The head link of a point: a hash of its halves. A leaf function on points, kept beside the tree;
+// `permutation_symmetry::guesses` hashes clauses by it.
 pub fn head_of(x: Point, heads: usize) -> usize
     requires { ⌜ 1 ≤ heads ⌝ }
     ensures { λ r. ⌜ r ≡ headOf heads x ⌝ }
@@ -80,11 +81,12 @@ pub fn contains(links: &[u32], heads: usize, points: &[u64], n: u32, k: usize, x
     found.held
 }
 
-// Adds x behind the first k points, where the caller stores it, and answers whether it was among them; then nothing is stored. At most n + 1
-// comparisons, and one store.
+// Adds x behind the first k points, where the caller stores it, and answers whether it was among them; then nothing is
+// stored. At most n + 1 comparisons, and one store.
 pub fn add(links: &mut [u32], heads: usize, points: &[u64], n: u32, k: usize, x: Point) -> bool
     requires { ⌜ Addable heads n k (pointsOf (now points)) (now links) x ⌝ }
-    ensures { λ r. ⌜ Adds heads n (take k (pointsOf (now (points .entry)))) (now (links .entry)) x r (now (links .exit)) ⌝ }
+    ensures { λ r. ⌜ Adds heads n (take k (pointsOf (now (points .entry)))) (now (links .entry)) x r (now (links .exit))
+        ⌝ }
 {
     let spot = find(links, heads, points, n, k, x);
     if spot.held {

@@ -86,7 +86,8 @@ pub fn clause_at(positive: &[u64], negative: &[u64], i: usize) -> Clause
 
 // The number, from 1, of the first clause that the point falsifies; 0 where it satisfies all. One step a clause.
 pub fn first_falsified(positive: &[u64], negative: &[u64], x: Point) -> usize
-    ensures { λ r. ⌜ r ≡ numberOf (firstFalsified (numbered (clausesOf (now (positive .entry)) (now (negative .entry)))) x) ⌝ }
+    ensures { λ r. ⌜ r ≡ numberOf (firstFalsified (numbered (clausesOf (now (positive .entry)) (now (negative .entry))))
+        x) ⌝ }
 {
     let end = clause_count(positive, negative);
     let mut i = 0;

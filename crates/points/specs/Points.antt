@@ -1,4 +1,5 @@
--- Document 01, 'Sheet': names, choices and rules, here variables, points and clauses. Sizes are open: a point is a number.
+-- Document 01, 'Sheet': names, choices and rules, here variables, points and clauses. Sizes are open: a point is a
+-- number.
 -- S1: "A name is a variable, numbered 1 to n": variable i is digit i − 1.
 -- Assumes nothing.
 use mathlib.Core.Bool.{Bool, true, false, not, cond, _||_, xor}
@@ -11,7 +12,8 @@ use lib.Dec.{eqb}
 use Rattle.math.specs.Bits.{bit, members}
 use Rattle.math.specs.Lists.{_∈_, count, below}
 
--- S2: "A choice (point) is a 64-bit number: bit i−1 is 1 where name i is yes; bits n and up are 0": a point of n variables
+-- S2: "A choice (point) is a 64-bit number: bit i−1 is 1 where name i is yes; bits n and up are 0": a point of n
+-- variables
 abbrev pub Point : ℕ → ℕ → Type 0
 Point n x = x < 2 ^ n
 

@@ -1,5 +1,5 @@
--- Document 01, 'Sheets to try': what the program `nearest` prints for its input. Definitions alone; ProgramLaws has what follows.
--- Assumes nothing.
+-- Document 01, 'Sheets to try': what the program `nearest` prints for its input. Definitions alone; ProgramLaws has
+-- what follows. Assumes nothing.
 use mathlib.Core.Bool.{cond}
 use mathlib.Core.List.{List}
 use Prim.Native.Nat.{ℕ}

@@ -14,8 +14,8 @@ ghost use Rattle.program.specs.Program.{slots, sheetIn, printed};
 // P1: "a sheet of at most 65,536 bytes"
 pub const MAX_INPUT: usize = 65536;
 
-// Searches with the slots in three lent slices and puts the text of the answer. The clauses stand at the front of two slices, as the reader
-// leaves them. `search_sheet` and `read_sheet` see to what it requires.
+// Searches with the slots in three lent slices and puts the text of the answer. The clauses stand at the front of two
+// slices, as the reader leaves them. `search_sheet` and `read_sheet` see to what it requires.
 fn search_with(
     f: Formula,
     positive: &[u64],
@@ -25,8 +25,11 @@ fn search_with(
     depths: &mut [u32],
     out: &mut [u8],
 ) -> usize
-    requires { ⌜ (f .clauses ≤ length (now positive)) × (f .clauses ≤ length (now negative)) × (f .variables ≤ 64) × (312 ≤ length (now out)) ⌝ }
-    ensures { λ r. ⌜ Printed (reportOf (f .variables) (searchReply f (take (f .clauses) (now (positive .entry))) (take (f .clauses) (now (negative .entry))) (lentBy (now (points .entry)) (now (falsified .entry)) (now (depths .entry)))))
+    requires { ⌜ (f .clauses ≤ length (now positive)) × (f .clauses ≤ length (now negative)) × (f .variables ≤ 64)
+        × (312 ≤ length (now out)) ⌝ }
+    ensures { λ r. ⌜ Printed (reportOf (f .variables) (searchReply f (take (f .clauses) (now (positive .entry)))
+        (take (f .clauses) (now (negative .entry))) (lentBy (now (points .entry)) (now (falsified .entry))
+        (now (depths .entry)))))
         (now (out .entry)) r (now (out .exit)) ⌝ }
 {
     let n = f.variables;
@@ -39,8 +42,10 @@ fn search_with(
 
 // P1: "with 4,096 slots": they stand in local arrays, 64 KiB.
 fn search_sheet(f: Formula, positive: &[u64], negative: &[u64], out: &mut [u8]) -> usize
-    requires { ⌜ (f .clauses ≤ length (now positive)) × (f .clauses ≤ length (now negative)) × (f .variables ≤ 64) × (312 ≤ length (now out)) ⌝ }
-    ensures { λ r. ⌜ Printed (reportOf (f .variables) (searchReply f (take (f .clauses) (now (positive .entry))) (take (f .clauses) (now (negative .entry))) slots)) (now (out .entry)) r (now (out .exit)) ⌝ }
+    requires { ⌜ (f .clauses ≤ length (now positive)) × (f .clauses ≤ length (now negative)) × (f .variables ≤ 64)
+        × (312 ≤ length (now out)) ⌝ }
+    ensures { λ r. ⌜ Printed (reportOf (f .variables) (searchReply f (take (f .clauses) (now (positive .entry)))
+        (take (f .clauses) (now (negative .entry))) slots)) (now (out .entry)) r (now (out .exit)) ⌝ }
 {
     let mut points = [0u64; 4096];
     let mut falsified = [0u32; 4096];
@@ -59,7 +64,8 @@ fn search_sheet(f: Formula, positive: &[u64], negative: &[u64], out: &mut [u8]) 
 // Reads a text that is not too long, with the clauses in local arrays, 64 KiB, and searches. `answer` sees to the room.
 fn read_sheet(text: &[u8], out: &mut [u8]) -> usize
     requires { ⌜ 312 ≤ length (now out) ⌝ }
-    ensures { λ r. ⌜ Printed (reportOf (formulaIn (sheetIn (now (text .entry))) .variables) (sheetReply (sheetIn (now (text .entry))) slots)) (now (out .entry)) r (now (out .exit)) ⌝ }
+    ensures { λ r. ⌜ Printed (reportOf (formulaIn (sheetIn (now (text .entry))) .variables)
+        (sheetReply (sheetIn (now (text .entry))) slots)) (now (out .entry)) r (now (out .exit)) ⌝ }
 {
     let mut positive = [0u64; 4096];
     let mut negative = [0u64; 4096];
@@ -72,8 +78,8 @@ fn read_sheet(text: &[u8], out: &mut [u8]) -> usize
     }
 }
 
-// P1, P4: what the program prints for an input: the bytes are put to the front of the output, and the answer is their number. The program's output
-// array has the 312 bytes that the longest text takes.
+// P1, P4: what the program prints for an input: the bytes are put to the front of the output, and the answer is their
+// number. The program's output array has the 312 bytes that the longest text takes.
 pub fn answer(text: &[u8], out: &mut [u8]) -> usize
     requires { ⌜ 312 ≤ length (now out) ⌝ }
     ensures { λ r. ⌜ Printed (printed (now (text .entry))) (now (out .entry)) r (now (out .exit)) ⌝ }

@@ -17,9 +17,14 @@ replyOfOutcome (Unsatisfiable filled) = unsatisfiable filled
 replyOfOutcome (Unknown b filled) = unknown b filled
 replyOfOutcome (Refused code place) = refused code place
 
--- G.a, D2.2: "The builder's answer and slots are those of the walk in 01.": the answer, and the three slices as it returns
-pub record Searched (f : Formula) (positive negative points₀ falsified₀ depths₀ : List ℕ) (r : Outcome) (points₁ falsified₁ depths₁ : List ℕ) : Type 0 where
+-- G.a, D2.2: "The builder's answer and slots are those of the walk in 01.": the answer, and the three slices as it
+-- returns
+pub record Searched (f : Formula) (positive negative points₀ falsified₀ depths₀ : List ℕ) (r : Outcome)
+    (points₁ falsified₁ depths₁ : List ℕ) : Type 0 where
   pub reply : replyOfOutcome r ≡ searchReply f positive negative (lentBy points₀ falsified₀ depths₀)
-  pub points : pointsOf points₁ ≡ searchSlice (λ (s : Slot). s .point) f positive negative (lentBy points₀ falsified₀ depths₀) (pointsOf points₀)
-  pub falsified : falsified₁ ≡ searchSlice (λ (s : Slot). s .falsified) f positive negative (lentBy points₀ falsified₀ depths₀) falsified₀
-  pub depths : depths₁ ≡ searchSlice (λ (s : Slot). s .depth) f positive negative (lentBy points₀ falsified₀ depths₀) depths₀
+  pub points : pointsOf points₁ ≡ searchSlice (λ (s : Slot). s .point) f positive negative
+      (lentBy points₀ falsified₀ depths₀) (pointsOf points₀)
+  pub falsified : falsified₁ ≡ searchSlice (λ (s : Slot). s .falsified) f positive negative
+      (lentBy points₀ falsified₀ depths₀) falsified₀
+  pub depths : depths₁ ≡ searchSlice (λ (s : Slot). s .depth) f positive negative (lentBy points₀ falsified₀ depths₀)
+      depths₀

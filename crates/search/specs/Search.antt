@@ -1,5 +1,5 @@
--- Document 01, 'Walk' and rows 10 to 13 of 'When the desk says no': the builder's reply and what it leaves in the three slot slices.
--- Assumes nothing.
+-- Document 01, 'Walk' and rows 10 to 13 of 'When the desk says no': the builder's reply and what it leaves in the three
+-- slot slices. Assumes nothing.
 use mathlib.Core.List.{List, [], _∷_, map}
 use Prim.Native.Nat.{ℕ, zero, suc}
 use lib.ListN.{length}
@@ -45,4 +45,5 @@ searchSlots f positive negative lent = walked (problemOf f positive negative) le
 unfoldable pub searchSlice : (Slot → ℕ) → Formula → List ℕ → List ℕ → ℕ → List ℕ → List ℕ
 unfolding searchFault searchSlots unlessKept over
 searchSlice part f positive negative lent old =
-    let new = over (map part (searchSlots f positive negative lent)) old in unlessKept (searchFault f positive negative lent) new old
+    let new = over (map part (searchSlots f positive negative lent)) old in unlessKept
+    (searchFault f positive negative lent) new old

@@ -14,8 +14,8 @@ ghost use Rattle.search.specs.Contract.{replyOfOutcome, Searched};
 // A slot's depth: how many flips lie between the target and its point.
 pub type Depth = search_expansion::Depth;
 
-// What the search answers. Of an unknown result the bound is a number of variables: every satisfying point differs from the target in at
-// least so many.
+// What the search answers. Of an unknown result the bound is a number of variables: every satisfying point differs from
+// the target in at least so many.
 pub enum Outcome {
     Satisfiable {
         point: Point,
@@ -57,9 +57,10 @@ fn as_outcome(a: Conclusion) -> Outcome
     }
 }
 
-// D2.2: searches from the formula's target, with the slots in the three lent slices; refusals 10 to 13 leave all three as they were.
-// A search of k slots takes at most k steps: each a scan of the clauses, one step for each permutation and each variable in which its point differs
-// from the one before, and for each variable of a clause at most permutations + 2 look-ups, none of more than n + 1 comparisons.
+// D2.2: searches from the formula's target, with the slots in the three lent slices; refusals 10 to 13 leave all three
+// as they were. A search takes at most as many steps as slots are filled: each a scan of the clauses, one step for each
+// permutation and each variable in which its point differs from the one before, and for each variable of a clause at
+// most permutations + 2 look-ups, none of more than n + 1 comparisons.
 pub fn search(
     f: Formula,
     positive: &[u64],
@@ -68,7 +69,8 @@ pub fn search(
     falsified: &mut [u32],
     depths: &mut [Depth],
 ) -> Outcome
-    ensures { λ r. ⌜ Searched f (now (positive .entry)) (now (negative .entry)) (now (points .entry)) (now (falsified .entry)) (now (depths .entry)) r
+    ensures { λ r. ⌜ Searched f (now (positive .entry)) (now (negative .entry)) (now (points .entry))
+        (now (falsified .entry)) (now (depths .entry)) r
         (now (points .exit)) (now (falsified .exit)) (now (depths .exit)) ⌝ }
 {
     let checked = problem_refusal(f, positive, negative);

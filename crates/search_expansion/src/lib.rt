@@ -17,7 +17,8 @@ ghost use Rattle.point_index.specs.Laws.Index.{Indexed};
 // A slot's depth: how many flips lie between the target and its point.
 pub type Depth = u32;
 
-// What stays the same during a search: the number of variables and of permutations, the number of slots, and the target.
+// What stays the same during a search: the number of variables and of permutations, the number of slots, and the
+// target.
 pub struct Frame {
     pub variables: u32,
     pub permutations: u32,
@@ -31,8 +32,8 @@ pub struct Grown {
     pub enough: bool,
 }
 
-// Fills the slot of index i with a point, its depth, and 0 for its clause, as no slot is processed that is just filled. A caller fills
-// slots below the shortest length lent.
+// Fills the slot of index i with a point, its depth, and 0 for its clause, as no slot is processed that is just filled.
+// A caller fills slots below the shortest length lent.
 pub fn fill(
     points: &mut [u64],
     falsified: &mut [u32],
@@ -42,7 +43,8 @@ pub fn fill(
     depth: Depth,
 )
     requires { ⌜ (i < length (now falsified)) × (i < length (now depths)) ⌝ }
-    ensures { λ _. ⌜ Stored (memory (now (points .entry)) (now (falsified .entry)) (now (depths .entry))) i (slot x 0 depth)
+    ensures { λ _. ⌜ Stored (memory (now (points .entry)) (now (falsified .entry)) (now (depths .entry))) i
+        (slot x 0 depth)
         (memory (now (points .exit)) (now (falsified .exit)) (now (depths .exit))) ⌝ }
 {
     put_point(points, i, x);
@@ -50,9 +52,10 @@ pub fn fill(
     depths[i] = depth;
 }
 
-// W7, W8: tries the point x, of depth d, with the variable v flipped: unless it is covered it fills the next slot, one deeper, if there is
-// one. It and its image under each permutation, one step each, are looked up in the index of the filled slots: permutations + 1 look-ups of at
-// most n + 1 comparisons, and one more where a slot is filled. `expand` hands on what it requires.
+// W7, W8: tries the point x, of depth d, with the variable v flipped: unless it is covered it fills the next slot, one
+// deeper, if there is one. It and its image under each permutation, one step each, are looked up in the index of the
+// filled slots: permutations + 1 look-ups of at most n + 1 comparisons, and one more where a slot is filled. `expand`
+// hands on what it requires.
 pub fn try_flip(
     g: Frame,
     images: &[u8],
@@ -67,9 +70,11 @@ pub fn try_flip(
     d: Depth,
     v: u32,
 ) -> Grown
-    requires { ⌜ Fillable (g .variables) (g .permutations) (now images) (now moved) (g .room) x d filled heads (now links) (memory (now points) (now falsified) (now depths))
+    requires { ⌜ Fillable (g .variables) (g .permutations) (now images) (now moved) (g .room) x d filled heads
+        (now links) (memory (now points) (now falsified) (now depths))
         × Headed (filled + 1) (g .room) heads × (v < g .variables) ⌝ }
-    ensures { λ r. ⌜ Tries (permutationsIn (g .variables) (g .permutations) (now (images .entry))) (g .room) x d v filled
+    ensures { λ r. ⌜ Tries (permutationsIn (g .variables) (g .permutations) (now (images .entry))) (g .room) x d v
+        filled
         (memory (now (points .entry)) (now (falsified .entry)) (now (depths .entry))) (r .enough) (r .filled)
         (memory (now (points .exit)) (now (falsified .exit)) (now (depths .exit)))
         × Follows heads (g .variables) filled (r .filled) (pointsOf (now (points .exit))) (now (links .exit)) ⌝ }
@@ -110,8 +115,8 @@ pub fn try_flip(
     }
 }
 
-// W7: tries the flips of the variables of a set, lowest first, until one finds no room; `moved` has the images of x. At most n flips, and
-// permutations + 2 look-ups for each. `process` sees to what it requires, by refusal 10 for the set.
+// W7: tries the flips of the variables of a set, lowest first, until one finds no room; `moved` has the images of x. At
+// most n flips, and permutations + 2 look-ups for each. `process` sees to what it requires, by refusal 10 for the set.
 pub fn expand(
     g: Frame,
     images: &[u8],
@@ -126,9 +131,11 @@ pub fn expand(
     d: Depth,
     listed: Point,
 ) -> Grown
-    requires { ⌜ Fillable (g .variables) (g .permutations) (now images) (now moved) (g .room) x d filled heads (now links) (memory (now points) (now falsified) (now depths))
+    requires { ⌜ Fillable (g .variables) (g .permutations) (now images) (now moved) (g .room) x d filled heads
+        (now links) (memory (now points) (now falsified) (now depths))
         × Headed (filled + g .variables) (g .room) heads × (listed < 2 ^ g .variables) ⌝ }
-    ensures { λ r. ⌜ Advances (permutationsIn (g .variables) (g .permutations) (now (images .entry))) (g .room) x d (members (g .variables) listed) filled
+    ensures { λ r. ⌜ Advances (permutationsIn (g .variables) (g .permutations) (now (images .entry))) (g .room) x d
+        (members (g .variables) listed) filled
         (memory (now (points .entry)) (now (falsified .entry)) (now (depths .entry))) (r .enough) [] (r .filled)
         (memory (now (points .exit)) (now (falsified .exit)) (now (depths .exit)))
         × Indexed heads (g .variables) (take (r .filled) (pointsOf (now (points .exit)))) (now (links .exit)) ⌝ }

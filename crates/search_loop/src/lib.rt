@@ -17,7 +17,8 @@ ghost use Rattle.search_expansion.specs.Laws.Memory.{memory, Lends};
 ghost use Rattle.search_step.specs.Laws.Stepping.{framed, Searchable, Linked, Midway};
 ghost use Rattle.search_loop.specs.Laws.Exploring.{Explores};
 
-// What exploring comes to: the search's answer, or where it paused, since the index might be too small for one more step.
+// What exploring comes to: the search's answer, or where it paused, since the index might be too small for one more
+// step.
 pub enum Stage {
     Concluded(Conclusion),
     Paused { at: usize, filled: usize },
@@ -36,9 +37,10 @@ fn outgrown(g: Frame, heads: usize, filled: usize) -> bool
     }
 }
 
-// W4, W9: processes the slots one after the other, from index `from` on with `filled` slots filled, until one gives the answer, none is left, or
-// the index might be too small. At most `room` steps; from one to the next the images of the points are turned, one step for each permutation and
-// each variable in which the points differ. Its callers see to what it requires: they have stored the target and indexed the points.
+// W4, W9: processes the slots one after the other, from index `from` on with `filled` slots filled, until one gives the
+// answer, none is left, or the index might be too small. At most `room` steps; from one to the next the images of the
+// points are turned, one step for each permutation and each variable in which the points differ. Its callers see to
+// what it requires: they have stored the target and indexed the points.
 pub fn explore(
     g: Frame,
     images: &[u8],
@@ -52,10 +54,13 @@ pub fn explore(
     from: usize,
     filled: usize,
 ) -> Stage
-    requires { ⌜ Searchable g (now images) (now positive) (now negative) × Lends (g .room) (memory (now points) (now falsified) (now depths))
-        × Midway (framed g (now images) (now positive) (now negative)) (g .room) from filled (memory (now points) (now falsified) (now depths))
+    requires { ⌜ Searchable g (now images) (now positive) (now negative)
+        × Lends (g .room) (memory (now points) (now falsified) (now depths))
+        × Midway (framed g (now images) (now positive) (now negative)) (g .room) from filled
+        (memory (now points) (now falsified) (now depths))
         × Linked (g .variables) heads filled (pointsOf (now points)) (now links) ⌝ }
-    ensures { λ r. ⌜ Explores (framed g (now (images .entry)) (now (positive .entry)) (now (negative .entry))) (g .room) heads from filled
+    ensures { λ r. ⌜ Explores (framed g (now (images .entry)) (now (positive .entry)) (now (negative .entry))) (g .room)
+        heads from filled
         (memory (now (points .entry)) (now (falsified .entry)) (now (depths .entry))) r
         (memory (now (points .exit)) (now (falsified .exit)) (now (depths .exit))) ⌝ }
 {

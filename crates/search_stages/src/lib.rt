@@ -14,8 +14,8 @@ ghost use Rattle.search_expansion.specs.Laws.Memory.{memory, Lends};
 ghost use Rattle.search_step.specs.Laws.Stepping.{replyOfConclusion, framed, Searchable, Midway, Ended};
 ghost use Rattle.search_loop.specs.Laws.Exploring.{Explores, Concludes};
 
-// Explores from index `at` on with an index of at most `heads` points, made here of those filled: one look-up each. The stages see to what it
-// requires.
+// Explores from index `at` on with an index of at most `heads` points, made here of those filled: one look-up each. The
+// stages see to what it requires.
 fn explore_with(
     g: Frame,
     images: &[u8],
@@ -29,9 +29,12 @@ fn explore_with(
     at: usize,
     filled: usize,
 ) -> Stage
-    requires { ⌜ Searchable g (now images) (now positive) (now negative) × Lends (g .room) (memory (now points) (now falsified) (now depths))
-        × Midway (framed g (now images) (now positive) (now negative)) (g .room) at filled (memory (now points) (now falsified) (now depths)) × Links heads (now links) ⌝ }
-    ensures { λ r. ⌜ Explores (framed g (now (images .entry)) (now (positive .entry)) (now (negative .entry))) (g .room) heads at filled
+    requires { ⌜ Searchable g (now images) (now positive) (now negative)
+        × Lends (g .room) (memory (now points) (now falsified) (now depths))
+        × Midway (framed g (now images) (now positive) (now negative)) (g .room) at filled
+        (memory (now points) (now falsified) (now depths)) × Links heads (now links) ⌝ }
+    ensures { λ r. ⌜ Explores (framed g (now (images .entry)) (now (positive .entry)) (now (negative .entry))) (g .room)
+        heads at filled
         (memory (now (points .entry)) (now (falsified .entry)) (now (depths .entry))) r
         (memory (now (points .exit)) (now (falsified .exit)) (now (depths .exit))) ⌝ }
 {
@@ -54,7 +57,8 @@ fn explore_with(
     )
 }
 
-// The last stage: an index for all the slots that there can be, 768 KiB of links, so that it never pauses: the answer for that case is not given.
+// The last stage: an index for all the slots that there can be, 768 KiB of links, so that it never pauses: the answer
+// for that case is not given.
 fn finish(
     g: Frame,
     images: &[u8],
@@ -66,9 +70,12 @@ fn finish(
     at: usize,
     filled: usize,
 ) -> Conclusion
-    requires { ⌜ Searchable g (now images) (now positive) (now negative) × Lends (g .room) (memory (now points) (now falsified) (now depths))
-        × Midway (framed g (now images) (now positive) (now negative)) (g .room) at filled (memory (now points) (now falsified) (now depths)) ⌝ }
-    ensures { λ r. ⌜ Concludes (framed g (now (images .entry)) (now (positive .entry)) (now (negative .entry))) (g .room) at filled
+    requires { ⌜ Searchable g (now images) (now positive) (now negative)
+        × Lends (g .room) (memory (now points) (now falsified) (now depths))
+        × Midway (framed g (now images) (now positive) (now negative)) (g .room) at filled
+        (memory (now points) (now falsified) (now depths)) ⌝ }
+    ensures { λ r. ⌜ Concludes (framed g (now (images .entry)) (now (positive .entry)) (now (negative .entry)))
+        (g .room) at filled
         (memory (now (points .entry)) (now (falsified .entry)) (now (depths .entry))) (replyOfConclusion r)
         (memory (now (points .exit)) (now (falsified .exit)) (now (depths .exit))) ⌝ }
 {
@@ -107,9 +114,12 @@ fn resume(
     at: usize,
     filled: usize,
 ) -> Conclusion
-    requires { ⌜ Searchable g (now images) (now positive) (now negative) × Lends (g .room) (memory (now points) (now falsified) (now depths))
-        × Midway (framed g (now images) (now positive) (now negative)) (g .room) at filled (memory (now points) (now falsified) (now depths)) ⌝ }
-    ensures { λ r. ⌜ Concludes (framed g (now (images .entry)) (now (positive .entry)) (now (negative .entry))) (g .room) at filled
+    requires { ⌜ Searchable g (now images) (now positive) (now negative)
+        × Lends (g .room) (memory (now points) (now falsified) (now depths))
+        × Midway (framed g (now images) (now positive) (now negative)) (g .room) at filled
+        (memory (now points) (now falsified) (now depths)) ⌝ }
+    ensures { λ r. ⌜ Concludes (framed g (now (images .entry)) (now (positive .entry)) (now (negative .entry)))
+        (g .room) at filled
         (memory (now (points .entry)) (now (falsified .entry)) (now (depths .entry))) (replyOfConclusion r)
         (memory (now (points .exit)) (now (falsified .exit)) (now (depths .exit))) ⌝ }
 {
@@ -143,8 +153,8 @@ fn resume(
     }
 }
 
-// W3: stores the target in the first slot and searches from there; up to 512 slots in the first stage, 6 KiB of links. `search::search` sees to
-// what it requires, by refusals 10 to 13.
+// W3: stores the target in the first slot and searches from there; up to 512 slots in the first stage, 6 KiB of links.
+// `search::search` sees to what it requires, by refusals 10 to 13.
 pub fn start(
     g: Frame,
     images: &[u8],
@@ -154,9 +164,11 @@ pub fn start(
     falsified: &mut [u32],
     depths: &mut [Depth],
 ) -> Conclusion
-    requires { ⌜ Searchable g (now images) (now positive) (now negative) × Lends (g .room) (memory (now points) (now falsified) (now depths)) ⌝ }
+    requires { ⌜ Searchable g (now images) (now positive) (now negative)
+        × Lends (g .room) (memory (now points) (now falsified) (now depths)) ⌝ }
     ensures { λ r. ⌜ Ended (framed g (now (images .entry)) (now (positive .entry)) (now (negative .entry))) (g .room)
-        (memory (now (points .entry)) (now (falsified .entry)) (now (depths .entry))) [] (slot (g .target) 0 0 ∷ []) (replyOfConclusion r)
+        (memory (now (points .entry)) (now (falsified .entry)) (now (depths .entry))) [] (slot (g .target) 0 0 ∷ [])
+        (replyOfConclusion r)
         (memory (now (points .exit)) (now (falsified .exit)) (now (depths .exit))) ⌝ }
 {
     fill(points, falsified, depths, 0, g.target, 0);

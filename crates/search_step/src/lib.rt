@@ -34,9 +34,9 @@ pub enum Step {
     Goes { filled: usize },
 }
 
-// W5 to W8: processes the slot of index `at`. Its point satisfies all clauses, or the number of the first that it falsifies is stored, and
-// then the flips of that clause's variables are tried; `moved` has the images of the point. One scan of the clauses, and at most n times
-// permutations + 2 look-ups. `explore` sees to what it requires.
+// W5 to W8: processes the slot of index `at`. Its point satisfies all clauses, or the number of the first that it
+// falsifies is stored, and then the flips of that clause's variables are tried; `moved` has the images of the point.
+// One scan of the clauses, and at most n times permutations + 2 look-ups. `explore` sees to what it requires.
 pub fn process(
     g: Frame,
     images: &[u8],
@@ -51,11 +51,15 @@ pub fn process(
     at: usize,
     filled: usize,
 ) -> Step
-    requires { ⌜ Searchable g (now images) (now positive) (now negative) × Lends (g .room) (memory (now points) (now falsified) (now depths)) × (at < filled)
-        × Midway (framed g (now images) (now positive) (now negative)) (g .room) at filled (memory (now points) (now falsified) (now depths))
-        × Linked (g .variables) heads filled (pointsOf (now points)) (now links) × Headed (filled + g .variables) (g .room) heads
+    requires { ⌜ Searchable g (now images) (now positive) (now negative)
+        × Lends (g .room) (memory (now points) (now falsified) (now depths)) × (at < filled)
+        × Midway (framed g (now images) (now positive) (now negative)) (g .room) at filled
+        (memory (now points) (now falsified) (now depths))
+        × Linked (g .variables) heads filled (pointsOf (now points)) (now links)
+        × Headed (filled + g .variables) (g .room) heads
         × Next (g .variables) (g .permutations) (now images) (pointsOf (now points)) at (pointsOf (now moved)) ⌝ }
-    ensures { λ r. ⌜ Steps (framed g (now (images .entry)) (now (positive .entry)) (now (negative .entry))) (g .room) at filled
+    ensures { λ r. ⌜ Steps (framed g (now (images .entry)) (now (positive .entry)) (now (negative .entry))) (g .room) at
+        filled
         (memory (now (points .entry)) (now (falsified .entry)) (now (depths .entry))) r
         (memory (now (points .exit)) (now (falsified .exit)) (now (depths .exit)))
         × StillLinked (g .variables) heads r (pointsOf (now (points .exit))) (now (links .exit)) ⌝ }

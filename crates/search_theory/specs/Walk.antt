@@ -1,5 +1,5 @@
--- Document 01, 'Walk': the search over a problem and a number of slots, first as a sentence (Walks), then computed (walk). Slots are told
--- in two lists, those processed and those that wait, each oldest first. Assumes nothing.
+-- Document 01, 'Walk': the search over a problem and a number of slots, first as a sentence (Walks), then computed
+-- (walk). Slots stand in two lists, those processed and those that wait, each oldest first. Assumes nothing.
 use mathlib.Core.Bool.{Bool, true, false}
 use mathlib.Core.List.{List, [], _∷_, _++_, map}
 use mathlib.Core.Option.{Option, some, none}
@@ -12,7 +12,8 @@ use Rattle.permutation_theory.specs.Permutations.{Permutation, Covered, covered
 use Rattle.formula.specs.Problem.{Problem}
 use Rattle.formula.specs.Reply.{Reply, satisfiable, unsatisfiable, unknown}
 
--- W1: "Each slot holds a point, the rule that moved it and its depth": the clause is the one that the point falsifies, 0 while unprocessed
+-- W1: "Each slot holds a point, the rule that moved it and its depth": the clause is the one that the point falsifies,
+-- 0 while unprocessed
 pub record Slot : Type 0 where
   pub point : ℕ
   pub falsified : ℕ
@@ -52,19 +53,22 @@ pub data Expansion : Type 0 where
 
 -- `known` are the processed slots, the last of them that of the point x at depth d
 module _ (es : List Permutation) (capacity : ℕ) (known : List Slot) (x d : ℕ) where
-  -- W7: "the point with that name flipped .. fills the next slot with rule 0 and depth one more": the slot of a flip y, behind those that wait
+  -- W7: "the point with that name flipped .. fills the next slot with rule 0 and depth one more": the slot of a flip y,
+  -- behind those that wait
   abbrev pub filledBy : ℕ → Slot
   filledBy y = slot y 0 (suc d)
 
   abbrev pub queued : List Slot → Slot → List Slot
   queued w t = w ++ t ∷ []
 
-  -- W7: "For each name listed there, ascending, the point with that name flipped, if not covered by the filled slots, fills the next slot
-  -- with rule 0 and depth one more." W8: "If P are filled already: answer no room"
+  -- W7: "For each name listed there, ascending, the point with that name flipped, if not covered by the filled slots,
+  -- fills the next slot with rule 0 and depth one more." W8: "If P are filled already: answer no room"
   pub data Fills : List ℕ → List Slot → Expansion → Type 0 where
     no-more : {w : List Slot} → Fills [] w (complete w)
-    skipped : {v : ℕ} {vs : List ℕ} {w : List Slot} {r : Expansion} → Covered es (pointsIn (known ++ w)) (flip x v) → Fills vs w r → Fills (v ∷ vs) w r
-    filled-next : {v : ℕ} {vs : List ℕ} {w : List Slot} {r : Expansion} → (Covered es (pointsIn (known ++ w)) (flip x v) → ⊥)
+    skipped : {v : ℕ} {vs : List ℕ} {w : List Slot} {r : Expansion} → Covered es (pointsIn (known ++ w)) (flip x v)
+        → Fills vs w r → Fills (v ∷ vs) w r
+    filled-next : {v : ℕ} {vs : List ℕ} {w : List Slot} {r : Expansion}
+        → (Covered es (pointsIn (known ++ w)) (flip x v) → ⊥)
         → length (known ++ w) < capacity → Fills vs (queued w (filledBy (flip x v))) r → Fills (v ∷ vs) w r
     no-room : {v : ℕ} {vs : List ℕ} {w : List Slot} → (Covered es (pointsIn (known ++ w)) (flip x v) → ⊥)
         → capacity ≤ length (known ++ w) → Fills (v ∷ vs) w (full w)
@@ -77,7 +81,8 @@ module _ (es : List Permutation) (capacity : ℕ) (known : List Slot) (x d : ℕ
 
   unfoldable pub tryFlip : ℕ → Expansion → Expansion
   unfolding placed covered flip
-  tryFlip v (complete w) = placed (covered es (pointsIn (known ++ w)) (flip x v)) (ltb (length (known ++ w)) capacity) (flip x v) w
+  tryFlip v (complete w) = placed (covered es (pointsIn (known ++ w)) (flip x v)) (ltb (length (known ++ w)) capacity)
+      (flip x v) w
   tryFlip v (full w) = full w
 
   unfoldable pub expand : List ℕ → Expansion → Expansion
@@ -88,20 +93,28 @@ module _ (es : List Permutation) (capacity : ℕ) (known : List Slot) (x d : ℕ
 -- ---- the search
 
 module _ (pb : Problem) (capacity : ℕ) where
-  -- W4: "Then repeatedly the oldest slot not yet processed is taken": from a state the search answers r and leaves these slots filled
+  -- W4: "Then repeatedly the oldest slot not yet processed is taken": from a state the search answers r and leaves
+  -- these slots filled
   pub data Walks : State → Reply → List Slot → Type 0 where
     -- W9: "None left: answer cannot be met, with slots filled."
     none-left : {p : List Slot} → Walks (state p []) (unsatisfiable (length p)) p
-    -- W5: "it meets all rules: answer met (its slot's rule stays 0), with the choice, its changes .. and the number of slots filled"
+    -- W5: "it meets all rules: answer met (its slot's rule stays 0), with the choice, its changes .. and the number of
+    -- slots filled"
     met : {p w : List Slot} {s : Slot} → SatisfiesAll (pb .clauses) (s .point)
-        → Walks (state p (s ∷ w)) (satisfiable (s .point) (distance (pb .variables) (s .point) (pb .target)) (length (p ++ s ∷ w))) (p ++ s ∷ w)
-    -- W6: "otherwise its rule is the lowest-numbered one unmet; that number goes into its slot first, and stays there on 'no room'."
+        → Walks (state p (s ∷ w)) (satisfiable (s .point) (distance (pb .variables) (s .point) (pb .target))
+        (length (p ++ s ∷ w))) (p ++ s ∷ w)
+    -- W6: "otherwise its rule is the lowest-numbered one unmet; that number goes into its slot first, and stays there
+    -- on 'no room'."
     -- W8: "answer no room, with d the depth of the point being processed and slots filled"
     stuck : {p w w′ : List Slot} {s : Slot} {c : Numbered} → FirstFalsified (pb .clauses) (s .point) c
-        → Fills (pb .permutations) capacity (p ++ withNumber s c ∷ []) (s .point) (s .depth) (variables (pb .variables) (c .clause)) w (full w′)
-        → Walks (state p (s ∷ w)) (unknown (s .depth) (length ((p ++ withNumber s c ∷ []) ++ w′))) ((p ++ withNumber s c ∷ []) ++ w′)
-    goes-on : {p w w′ : List Slot} {s : Slot} {c : Numbered} {r : Reply} {l : List Slot} → FirstFalsified (pb .clauses) (s .point) c
-        → Fills (pb .permutations) capacity (p ++ withNumber s c ∷ []) (s .point) (s .depth) (variables (pb .variables) (c .clause)) w (complete w′)
+        → Fills (pb .permutations) capacity (p ++ withNumber s c ∷ []) (s .point) (s .depth)
+        (variables (pb .variables) (c .clause)) w (full w′)
+        → Walks (state p (s ∷ w)) (unknown (s .depth) (length ((p ++ withNumber s c ∷ []) ++ w′)))
+        ((p ++ withNumber s c ∷ []) ++ w′)
+    goes-on : {p w w′ : List Slot} {s : Slot} {c : Numbered} {r : Reply} {l : List Slot}
+        → FirstFalsified (pb .clauses) (s .point) c
+        → Fills (pb .permutations) capacity (p ++ withNumber s c ∷ []) (s .point) (s .depth)
+        (variables (pb .variables) (c .clause)) w (complete w′)
         → Walks (state (p ++ withNumber s c ∷ []) w′) r l → Walks (state p (s ∷ w)) r l
 
   -- the same, computed: one step ends with an answer and the slots, or leads to a state
@@ -115,10 +128,12 @@ module _ (pb : Problem) (capacity : ℕ) where
 
   unfoldable pub processedBy : List Slot → Slot → List Slot → Option Numbered → Stepped
   unfolding expanded expand variables distance bit
-  processedBy p s w none = ends (satisfiable (s .point) (distance (pb .variables) (s .point) (pb .target)) (length (p ++ s ∷ w))) (p ++ s ∷ w)
+  processedBy p s w none = ends (satisfiable (s .point) (distance (pb .variables) (s .point) (pb .target))
+      (length (p ++ s ∷ w))) (p ++ s ∷ w)
   processedBy p s w (some c) =
       let known = p ++ withNumber s c ∷ [] in
-      expanded known (s .depth) (expand (pb .permutations) capacity known (s .point) (s .depth) (variables (pb .variables) (c .clause)) (complete w))
+      expanded known (s .depth) (expand (pb .permutations) capacity known (s .point) (s .depth)
+      (variables (pb .variables) (c .clause)) (complete w))
 
   unfoldable pub stepFrom : List Slot → List Slot → Stepped
   unfolding processedBy firstFalsified
@@ -135,7 +150,8 @@ module _ (pb : Problem) (capacity : ℕ) where
   followed (ends r l) k = record { reply = r; slots = l }
   followed (goes st) k = k st
 
-  -- at most so many steps; each but the last processes a slot, so one more than the slots is enough and 0 is never reached
+  -- at most so many steps; each but the last processes a slot, so one more than the slots is enough and 0 is never
+  -- reached
   unfoldable pub walk : ℕ → State → Ending
   unfolding followed stepFrom
   walk zero st = record { reply = unknown 0 0; slots = filled st }

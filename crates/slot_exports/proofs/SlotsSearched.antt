@@ -15,7 +15,8 @@ use prog.Routine.{Routine}
 use prog.Wp.{Heap}
 use ghost.Atoms.{Atoms}
 use contract.Monad.{Fun}
-use types.Kit.{Goal, Soaks, Given, Item, ‵, raw, _⊛_, Seq, Step, step, _$_, move, drop, split, join, fsplit, fjoin, feqL}
+use types.Kit.{Goal, Soaks, Given, Item, ‵, raw, _⊛_, Seq, Step, step, _$_, move, drop, split, join, fsplit, fjoin}
+use types.Kit.{feqL}
 use denote.Laws.{Is, shows}
 use denote.Builtin.{u64}
 use denote.Enum.Laws as EL

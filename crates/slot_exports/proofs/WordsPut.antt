@@ -1,4 +1,5 @@
--- A call in a walk of a function that writes an answer's words to the front of a slice, whichever answer it is: what it asks for, and what is had after it.
+-- A call in a walk of a function that writes an answer's words to the front of a slice, whichever answer it is: what it
+-- asks for, and what is had after it.
 --     E, told      the type of the answer, and its words
 -- Assumes `Given`.
 use mathlib.Core.Path.{_≡_}
@@ -13,7 +14,8 @@ use base.Fml.{Lft, GName, Share, ftrue, flft}
 use prog.Wp.{Heap}
 use ghost.Atoms.{Atoms}
 use contract.Monad.{fact, factI}
-use types.Kit.{Goal, Soaks, Given, Item, ‵, raw, _⊛_, Seq, Step, step, _$_, move, drop, split, join, fsplit, fjoin, feqL}
+use types.Kit.{Goal, Soaks, Given, Item, ‵, raw, _⊛_, Seq, Step, step, _$_, move, drop, split, join, fsplit, fjoin}
+use types.Kit.{feqL}
 use denote.RattleType.{RattleType}
 use denote.Builtin.{u64, unit}
 use denote.Exit.{yes}

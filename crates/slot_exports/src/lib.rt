@@ -11,7 +11,8 @@ ghost use Rattle.exports.specs.Searching.{SearchReturns};
 ghost use Rattle.exports.specs.Writing.{WriteReturns};
 ghost use Rattle.export_words.specs.Words.{formulaFrom};
 
-// The search over a slice of slots, its answer told in the first four words of `reply`. It returns 1; where `reply` has no room it returns 0 and changes nothing.
+// The search over a slice of slots, its answer put into the first four words of `reply`. It returns 1; where `reply`
+// has no room it returns 0 and changes nothing.
 #[no_mangle]
 pub extern "C" fn jugbowo_search_slots(
     variables: u32,
@@ -24,8 +25,11 @@ pub extern "C" fn jugbowo_search_slots(
     slots: &mut [Slot],
     reply: &mut [u64],
 ) -> u32
-    ensures { λ r. ⌜ SearchReturns (formulaFrom variables clauses target permutations (now (images .entry))) (now (positive .entry)) (now (negative .entry)) (pointsIn (now (slots .entry))) (falsifiedIn (now (slots .entry))) (depthsIn (now (slots .entry))) (now (reply .entry)) r
-        (pointsIn (now (slots .exit))) (falsifiedIn (now (slots .exit))) (depthsIn (now (slots .exit))) (now (reply .exit)) ⌝ }
+    ensures { λ r. ⌜ SearchReturns (formulaFrom variables clauses target permutations (now (images .entry)))
+        (now (positive .entry)) (now (negative .entry)) (pointsIn (now (slots .entry)))
+        (falsifiedIn (now (slots .entry))) (depthsIn (now (slots .entry))) (now (reply .entry)) r
+        (pointsIn (now (slots .exit))) (falsifiedIn (now (slots .exit))) (depthsIn (now (slots .exit)))
+        (now (reply .exit)) ⌝ }
 {
     if reply.len() < WORDS {
         return 0;
@@ -36,7 +40,8 @@ pub extern "C" fn jugbowo_search_slots(
     1
 }
 
-// The writer from a slice of slots, its answer told in the first four words of `reply`. It returns 1; where `reply` has no room it returns 0 and changes nothing.
+// The writer from a slice of slots, its answer put into the first four words of `reply`. It returns 1; where `reply`
+// has no room it returns 0 and changes nothing.
 #[no_mangle]
 pub extern "C" fn jugbowo_write_slots(
     variables: u32,
@@ -51,7 +56,10 @@ pub extern "C" fn jugbowo_write_slots(
     out: &mut [u8],
     reply: &mut [u64],
 ) -> u32
-    ensures { λ r. ⌜ WriteReturns (formulaFrom variables clauses target permutations (now (images .entry))) (now (positive .entry)) (now (negative .entry)) (pointsIn (now (slots .entry))) (falsifiedIn (now (slots .entry))) (depthsIn (now (slots .entry))) filled (now (out .entry)) (now (reply .entry)) r
+    ensures { λ r. ⌜ WriteReturns (formulaFrom variables clauses target permutations (now (images .entry)))
+        (now (positive .entry)) (now (negative .entry)) (pointsIn (now (slots .entry)))
+        (falsifiedIn (now (slots .entry))) (depthsIn (now (slots .entry))) filled (now (out .entry))
+        (now (reply .entry)) r
         (now (out .exit)) (now (reply .exit)) ⌝ }
 {
     if reply.len() < WORDS {

@@ -21,7 +21,8 @@ pub fn search_front(
     k: usize,
 ) -> Outcome
     requires { ⌜ Within k k (length (now points)) (length (now falsified)) (length (now depths)) ⌝ }
-    ensures { λ r. ⌜ Searched f (now (positive .entry)) (now (negative .entry)) (take k (now (points .entry))) (take k (now (falsified .entry))) (take k (now (depths .entry))) r
+    ensures { λ r. ⌜ Searched f (now (positive .entry)) (now (negative .entry)) (take k (now (points .entry)))
+        (take k (now (falsified .entry))) (take k (now (depths .entry))) r
         (take k (now (points .exit))) (take k (now (falsified .exit))) (take k (now (depths .exit))) ⌝ }
 {
     search(
@@ -47,7 +48,8 @@ pub fn write_front(
     out: &mut [u8],
 ) -> Written
     requires { ⌜ Within k k (length (now points)) (length (now falsified)) (length (now depths)) ⌝ }
-    ensures { λ r. ⌜ Wrote f (now (positive .entry)) (now (negative .entry)) (take k (now (points .entry))) (take k (now (falsified .entry))) (take k (now (depths .entry))) filled
+    ensures { λ r. ⌜ Wrote f (now (positive .entry)) (now (negative .entry)) (take k (now (points .entry)))
+        (take k (now (falsified .entry))) (take k (now (depths .entry))) filled
         (now (out .entry)) r (now (out .exit)) ⌝ }
 {
     write(

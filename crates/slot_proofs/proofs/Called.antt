@@ -1,6 +1,7 @@
 -- Steps of a walk that hold of any call and of any locals.
 --     asked        a call is made from the tokens of its lifetimes, what its parameters own, and what it requires
---     answered     once it has returned: the tokens, the result, what is said of its `&mut` parameters, and what it ensures
+--     answered     once it has returned: the tokens, the result, what is said of its `&mut` parameters, and what it
+-- ensures
 --     given-up     a `&mut` slice that is as it was passed: its last list is the one it has
 --     free-all     all locals are freed, the first first
 --     placed       a function's locals with where they stand
@@ -14,7 +15,8 @@ use base.Logic.{SProp, ent, id⊢, sep, emp, via, comm∗, emp∗, monoL}
 use base.Fml.{Lft, froom, fdies, fres}
 use prog.Wp.{Heap, Env}
 use ghost.Atoms.{Atoms}
-use types.Kit.{Goal, Soaks, Given, Item, ‵, mean, raw, _⊛_, some, later, frees, Seq, Step, step, _$_, use1, use2, move, drop, split, pick, await, fsplit}
+use types.Kit.{Goal, Soaks, Given, Item, ‵, mean, raw, _⊛_, some, later, frees, Seq, Step, step, _$_, use1, use2, move}
+use types.Kit.{drop, split, pick, await, fsplit}
 use types.Run.{free1, free0}
 use denote.RattleType.{RattleType, owns}
 use denote.Ref.{RefT, name, now}

@@ -1,8 +1,11 @@
--- Steps for a function that lends what it has in memory to the functions that it calls, each time for a lifetime of the call's own.
---     lend, unlend     a row of elements is lent as a `&mut` slice; it is back, at the last list, once the lifetime is ended
+-- Steps for a function that lends what it has in memory to the functions that it calls, each time for a lifetime of the
+-- call's own.
+--     lend, unlend     a row of elements is lent as a `&mut` slice; it is back, at the last list, once the lifetime is
+-- ended
 --     share, unshare   the same as a `&` slice, and the list is as it was
 --     zeros-typed      the machine value of n zeros has its type
---     abstracted, emptied  a local array of n zeros is a row of n elements; a row of n elements is a local array's room again
+--     abstracted, emptied  a local array of n zeros is a row of n elements; a row of n elements is a local array's room
+-- again
 --     room64, room32   arrays of 65,536 elements have room
 --     big-lit      a constant that is written with its bound to be shown
 -- Assumes `Given`.
@@ -19,7 +22,8 @@ use base.Logic.{via, guardI}
 use base.Fml.{GName, fsep, fat, froom, flft, flent}
 use prog.Wp.{Heap, Env}
 use ghost.Atoms.{Atoms}
-use types.Kit.{Goal, Soaks, Given, Item, ‵, _⊛_, some, later, Seq, Step, step, _$_, use1, use3, move, drop, split, pick, rewrite, await, fsplit, fjoin, fpick, fpack, feqL, feqI}
+use types.Kit.{Goal, Soaks, Given, Item, ‵, _⊛_, some, later, Seq, Step, step, _$_, use1, use3, move, drop, split, pick}
+use types.Kit.{rewrite, await, fsplit, fjoin, fpick, fpack, feqL, feqI}
 use types.Run.{Opd, forget}
 use types.Tokens.{lft-new, lft-end, lent-back}
 use types.SemTy.{cells, Arr}

@@ -1,4 +1,5 @@
--- The places of the local arrays that hold copies of slots: how many are used, and the arrays once the slots are copied out. Assumes nothing.
+-- The places of the local arrays that hold copies of slots: how many are used, and the arrays once the slots are copied
+-- out. Assumes nothing.
 use mathlib.Core.Path.{_≡_, _∙_}
 use Prim.Native.Nat.{ℕ, _<_, _≤_, _^_, min}
 use native.Mathlib.Nat.{lt-of-le-of-lt, le-refl}

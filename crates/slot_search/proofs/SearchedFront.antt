@@ -1,5 +1,5 @@
--- A call of `search_front` in a walk, on three slices that are lent for it, and on two that the caller has: what it asks for, and what is had after it.
--- Assumes `Given`.
+-- A call of `search_front` in a walk, on three slices that are lent for it, and on two that the caller has: what it
+-- asks for, and what is had after it. Assumes `Given`.
 use mathlib.Core.Path.{_≡_, refl}
 use Prim.Native.Nat.{ℕ, _<_, _^_}
 use mathlib.Core.List.{List, [], _∷_}
@@ -16,7 +16,8 @@ use prog.Routine.{Routine}
 use prog.Wp.{Heap}
 use ghost.Atoms.{Atoms}
 use contract.Monad.{Fun, factI}
-use types.Kit.{Goal, Soaks, Given, Item, ‵, raw, _⊛_, Seq, Step, step, _$_, move, drop, split, join, fsplit, fjoin, feqL}
+use types.Kit.{Goal, Soaks, Given, Item, ‵, raw, _⊛_, Seq, Step, step, _$_, move, drop, split, join, fsplit, fjoin}
+use types.Kit.{feqL}
 use denote.Laws.{Is}
 use denote.Plain.{uint-makes}
 use denote.Builtin.{usize, u32, u64}
@@ -88,5 +89,6 @@ module _ (f : Formula) (us vs : List ℕ) (κ₀ κ₁ : Lft) (q₀ q₁ : Share
           fsplit t $ drop t $ fsplit t $ drop t $ fsplit t $ drop t $ fsplit t $ fsplit t $ move t (1 ∷ []) $ feqL t (λ e₁. move t (1 ∷ []) $ fsplit t $ fsplit t $ move t (1 ∷ []) $ feqL t (λ e₂. move t (1 ∷ []) $ fsplit t $ fsplit t $ move t (1 ∷ []) $ feqL t (λ e₃.
           -- [depths' last list; the rest; falsified's; points'; the tokens; the result]
           move t (1 ∷ []) $ drop t $ move t (3 ∷ 4 ∷ []) $ split t $ move t (1 ∷ []) $ split t $ move t (1 ∷ []) $ split t $ move t (1 ∷ []) $ split t $ move t (1 ∷ []) $ split t $ move t (1 ∷ []) $ drop t $
-          -- [depths' token; falsified's; points'; negative's; positive's; the result; depths' last list; falsified's; points']
+          -- [depths' token; falsified's; points'; negative's; positive's; the result; depths' last list; falsified's;
+          -- points']
           move t (4 ∷ 3 ∷ 2 ∷ 1 ∷ 0 ∷ 8 ∷ 7 ∷ 6 ∷ 5 ∷ []) $ goes-on r (zs .1 .1 .1 .0) (zs .1 .1 .1 .1 .0) (zs .1 .1 .1 .1 .1 .0) e₁ e₂ e₃ e)))))

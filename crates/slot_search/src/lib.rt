@@ -11,9 +11,11 @@ ghost use Rattle.search.specs.Contract.{Searched};
 // A visited point, the number of the clause that it falsifies, and its depth.
 pub type Slot = slot_columns::Slot;
 
-// D2.2: the search with the slots in one lent slice, by the definition of `search::search`; refusals 10 to 13 leave the slice as it was.
+// D2.2: the search with the slots in one lent slice, by the definition of `search::search`; refusals 10 to 13 leave the
+// slice as it was.
 pub fn search_slots(f: Formula, positive: &[u64], negative: &[u64], slots: &mut [Slot]) -> Outcome
-    ensures { λ r. ⌜ Searched f (now (positive .entry)) (now (negative .entry)) (pointsIn (now (slots .entry))) (falsifiedIn (now (slots .entry))) (depthsIn (now (slots .entry))) r
+    ensures { λ r. ⌜ Searched f (now (positive .entry)) (now (negative .entry)) (pointsIn (now (slots .entry)))
+        (falsifiedIn (now (slots .entry))) (depthsIn (now (slots .entry))) r
         (pointsIn (now (slots .exit))) (falsifiedIn (now (slots .exit))) (depthsIn (now (slots .exit))) ⌝ }
 {
     let mut points = [0u64; 65536];

@@ -1,5 +1,5 @@
--- A call of `write_front` in a walk, on four slices that are lent for it, and on two that the caller has: what it asks for, and what is had after it.
--- Assumes `Given`.
+-- A call of `write_front` in a walk, on four slices that are lent for it, and on two that the caller has: what it asks
+-- for, and what is had after it. Assumes `Given`.
 use mathlib.Core.Path.{_≡_, refl}
 use Prim.Native.Nat.{ℕ, _<_, _^_}
 use mathlib.Core.List.{List, [], _∷_}
@@ -16,7 +16,8 @@ use prog.Routine.{Routine}
 use prog.Wp.{Heap}
 use ghost.Atoms.{Atoms}
 use contract.Monad.{Fun, factI}
-use types.Kit.{Goal, Soaks, Given, Item, ‵, raw, _⊛_, Seq, Step, step, _$_, move, drop, split, join, fsplit, fjoin, feqL}
+use types.Kit.{Goal, Soaks, Given, Item, ‵, raw, _⊛_, Seq, Step, step, _$_, move, drop, split, join, fsplit, fjoin}
+use types.Kit.{feqL}
 use denote.Laws.{Is}
 use denote.Plain.{uint-makes}
 use denote.Builtin.{usize, u8, u32, u64}

@@ -8,7 +8,8 @@ use slot_prefixes::write_front;
 ghost use Rattle.certificate_writer.specs.Contract.{Wrote};
 ghost use Rattle.slot_columns.specs.Slots.{pointsIn, falsifiedIn, depthsIn};
 
-// D2.4: writes the certificate of the formula and of the first `filled` slots of one lent slice, by the definition of `certificate_writer::write`.
+// D2.4: writes the certificate of the formula and of the first `filled` slots of one lent slice, by the definition of
+// `certificate_writer::write`.
 pub fn write_slots(
     f: Formula,
     positive: &[u64],
@@ -17,7 +18,8 @@ pub fn write_slots(
     filled: u32,
     out: &mut [u8],
 ) -> Written
-    ensures { λ r. ⌜ Wrote f (now (positive .entry)) (now (negative .entry)) (pointsIn (now (slots .entry))) (falsifiedIn (now (slots .entry))) (depthsIn (now (slots .entry))) filled
+    ensures { λ r. ⌜ Wrote f (now (positive .entry)) (now (negative .entry)) (pointsIn (now (slots .entry)))
+        (falsifiedIn (now (slots .entry))) (depthsIn (now (slots .entry))) filled
         (now (out .entry)) r (now (out .exit)) ⌝ }
 {
     let mut points = [0u64; 65536];

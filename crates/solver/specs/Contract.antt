@@ -1,5 +1,5 @@
--- What the solver promises: its answer and every lent slice as it returns, by the definitions of reader, builder, writer and checker, and the
--- claim's sentences about that. Assumes nothing.
+-- What the solver promises: its answer and every lent slice as it returns, by the definitions of reader, builder,
+-- writer and checker, and the claim's sentences about that. Assumes nothing.
 use mathlib.Core.List.{List}
 use mathlib.Core.Logic.{_↔_}
 use mathlib.Core.Option.{Option, some, none}
@@ -16,9 +16,11 @@ use Rattle.checker.specs.Checker.{checkReply}
 use Rattle.claims.specs.Claim.{Sheet, formulaIn, positiveIn, negativeIn, problemIn, Slots, lent, Meets, AtLeast}
 use Rattle.solver.specs.Solver.{sheetReply, sheetSlice, certificateReply, certificateOutput}
 use Rattle.solver.specs.declared.Solution.{Solution}
-use Rattle.solver.specs.declared.Solution.the-variants.{Satisfiable, Unsatisfiable as Refutes, Uncertified, Unknown, Refused}
+use Rattle.solver.specs.declared.Solution.the-variants.{Satisfiable, Unsatisfiable as Refutes, Uncertified}
+use Rattle.solver.specs.declared.Solution.the-variants.{Unknown, Refused}
 
--- what the solver tells in document 01's terms: the reader's refusal or the builder's reply and, beside 'cannot be met', the writer's reply
+-- what the solver tells in document 01's terms: the reader's refusal or the builder's reply and, beside 'cannot be
+-- met', the writer's reply
 pub record SolverReply : Type 0 where
   pub reply : Reply
   pub certificate : Option Reply
@@ -27,33 +29,47 @@ pub record SolverReply : Type 0 where
 unfoldable pub replyOfSolution : Solution → SolverReply
 replyOfSolution (Satisfiable x d filled) = record { reply = satisfiable x d filled; certificate = none }
 replyOfSolution (Refutes filled size) = record { reply = unsatisfiable filled; certificate = some (written size) }
-replyOfSolution (Uncertified filled needed) = record { reply = unsatisfiable filled; certificate = some (refused 19 needed) }
+replyOfSolution (Uncertified filled needed) = record {
+  reply = unsatisfiable filled;
+  certificate = some
+      (refused 19 needed);
+}
 replyOfSolution (Unknown b filled) = record { reply = unknown b filled; certificate = none }
 replyOfSolution (Refused code place) = record { reply = refused code place; certificate = none }
 
 pub record Promises (s : Sheet) (l : Slots) (t : SolverReply) (out₀ out₁ : List ℕ) : Type 0 where
-  -- D3.1: "A choice handed back meets the rules, and every other choice that meets them differs from the client's wish in at least as many names."
+  -- D3.1: "A choice handed back meets the rules, and every other choice that meets them differs from the client's wish
+  -- in at least as many names."
   -- D3.2: "The reported changes are the number of names in which the one handed back differs."
   pub nearest : (x d filled : ℕ) → t .reply ≡ satisfiable x d filled
-      → Meets (problemIn s) x × (d ≡ distance (problemIn s .variables) x (problemIn s .target)) × AtLeast (problemIn s) d
+      → Meets (problemIn s) x × (d ≡ distance (problemIn s .variables) x (problemIn s .target))
+      × AtLeast (problemIn s) d
   -- D3.3: "Unless 'no room' is said, 'cannot be met' is said exactly when none of the 2^n choices meets the rules."
-  pub exactly : ((code place : ℕ) → t .reply ≡ refused code place → ⊥) → ((b filled : ℕ) → t .reply ≡ unknown b filled → ⊥)
+  pub exactly : ((code place : ℕ) → t .reply ≡ refused code place → ⊥)
+      → ((b filled : ℕ) → t .reply ≡ unknown b filled → ⊥)
       → ((filled : ℕ) × (t .reply ≡ unsatisfiable filled)) ↔ Unsatisfiable (problemIn s)
   -- D3.4: "Its certificate is then accepted.": the first `size` bytes of the output; those behind them are as they were
   pub certified : (size : ℕ) → t .certificate ≡ some (written size)
-      → (checkReply (formulaIn s) (positiveIn s) (negativeIn s) (take size out₁) ≡ accepted) × (drop size out₁ ≡ drop size out₀)
+      → (checkReply (formulaIn s) (positiveIn s) (negativeIn s) (take size out₁) ≡ accepted)
+      × (drop size out₁ ≡ drop size out₀)
   -- R19: "output too short | 19 | length needed": the one refusal of the writer here; the output is as it was
-  pub uncertified : (code needed : ℕ) → t .certificate ≡ some (refused code needed) → (code ≡ 19) × (length out₀ < needed) × (out₁ ≡ out₀)
+  pub uncertified : (code needed : ℕ) → t .certificate ≡ some (refused code needed)
+      → (code ≡ 19) × (length out₀ < needed) × (out₁ ≡ out₀)
   -- D3.6: "An accepted certificate .. means that none of the 2^n choices meets the rules it was checked against."
-  pub refutes : (file : List ℕ) → checkReply (formulaIn s) (positiveIn s) (negativeIn s) file ≡ accepted → Unsatisfiable (problemIn s)
-  -- D3.7: "'No room' carries a number d, and every choice that meets the rules differs from the wish in at least d names."
+  pub refutes : (file : List ℕ) → checkReply (formulaIn s) (positiveIn s) (negativeIn s) file ≡ accepted
+      → Unsatisfiable (problemIn s)
+  -- D3.7: "'No room' carries a number d, and every choice that meets the rules differs from the wish in at least d
+  -- names."
   pub bound : (b filled : ℕ) → t .reply ≡ unknown b filled → AtLeast (problemIn s) b
   -- D3.8: "Where 2^n is at most 65,536 and at least 2^n slots are lent, it is never said."
-  pub enough-room : (b filled : ℕ) → 2 ^ problemIn s .variables ≤ maxSlots → 2 ^ problemIn s .variables ≤ length (l .points) → 2 ^ problemIn s .variables ≤ length (l .falsified)
+  pub enough-room : (b filled : ℕ) → 2 ^ problemIn s .variables ≤ maxSlots
+      → 2 ^ problemIn s .variables ≤ length (l .points) → 2 ^ problemIn s .variables ≤ length (l .falsified)
       → 2 ^ problemIn s .variables ≤ length (l .depths) → t .reply ≡ unknown b filled → ⊥
 
--- G.a: what the solver promises for a sheet: its answer and every lent slice as it returns, by the definitions, and the claim's sentences
-pub record Solved (s : Sheet) (l : Slots) (out₀ : List ℕ) (r : Solution) (points₁ falsified₁ depths₁ out₁ : List ℕ) : Type 0 where
+-- G.a: what the solver promises for a sheet: its answer and every lent slice as it returns, by the definitions, and the
+-- claim's sentences
+pub record Solved (s : Sheet) (l : Slots) (out₀ : List ℕ) (r : Solution) (points₁ falsified₁ depths₁ out₁ : List ℕ) :
+    Type 0 where
   pub reply : replyOfSolution r .reply ≡ sheetReply s (lent l)
   pub certificate : replyOfSolution r .certificate ≡ certificateReply s l out₀
   pub points : pointsOf points₁ ≡ sheetSlice (λ (t : Slot). t .point) s (lent l) (pointsOf (l .points))

@@ -1,4 +1,5 @@
--- The solver composes reader, builder, writer and checker: what it answers and leaves in lent memory, by their definitions. Assumes nothing.
+-- The solver composes reader, builder, writer and checker: what it answers and leaves in lent memory, by their
+-- definitions. Assumes nothing.
 use mathlib.Core.List.{List}
 use mathlib.Core.Option.{Option, some, none}
 use Prim.Native.Nat.{ℕ}
@@ -7,7 +8,8 @@ use Rattle.formula.specs.Reply.{Reply, refused, satisfiable, unsatisfiable, unk
 use Rattle.dimacs_format.specs.Reader.{readReply}
 use Rattle.search_theory.specs.Walk.{Slot}
 use Rattle.search.specs.Search.{searchReply, searchSlice}
-use Rattle.claims.specs.Claim.{Sheet, from-text, by-value, formulaIn, positiveIn, negativeIn, Slots, lent, writerReply, writerOutput}
+use Rattle.claims.specs.Claim.{Sheet, from-text, by-value, formulaIn, positiveIn, negativeIn, Slots, lent, writerReply}
+use Rattle.claims.specs.Claim.{writerOutput}
 
 -- three lent slices as slots
 abbrev pub slotsOf : List ℕ → List ℕ → List ℕ → Slots
@@ -38,16 +40,18 @@ module _ {A : Type 0} where
 
 unfoldable pub sheetReply : Sheet → ℕ → Reply
 unfolding afterReading
-sheetReply s slots = afterReading (readingOf s) (readingOf s) (searchReply (formulaIn s) (positiveIn s) (negativeIn s) slots)
+sheetReply s slots = afterReading (readingOf s) (readingOf s)
+    (searchReply (formulaIn s) (positiveIn s) (negativeIn s) slots)
 
 unfoldable pub sheetSlice : (Slot → ℕ) → Sheet → ℕ → List ℕ → List ℕ
 unfolding afterReading
-sheetSlice part s slots old = afterReading (readingOf s) old (searchSlice part (formulaIn s) (positiveIn s) (negativeIn s) slots old)
+sheetSlice part s slots old = afterReading (readingOf s) old
+    (searchSlice part (formulaIn s) (positiveIn s) (negativeIn s) slots old)
 
 -- ---- then, for 'cannot be met', the writer
 
 module _ {A : Type 0} where
-  -- of k filled slots, or nothing new
+  -- of the filled slots, or nothing new
   unfoldable pub onRefutation : Reply → A → (ℕ → A) → A
   onRefutation (unsatisfiable filled) kept new = new filled
   onRefutation (refused code place) kept new = kept

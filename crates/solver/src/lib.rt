@@ -15,8 +15,8 @@ ghost use Rattle.solver.specs.Solver.{slotsOf, blank};
 ghost use Rattle.solver.specs.Contract.{Solved};
 ghost use Rattle.solver.specs.Laws.Steps.{Refuted, Certifies, unsatisfiableWith};
 
-// What the solver answers. A certificate is `size` bytes at the front of the output, written and checked; where the output has no room for
-// the bytes needed, nothing is put there.
+// What the solver answers. A certificate is `size` bytes at the front of the output, written and checked; where the
+// output has no room for the bytes needed, nothing is put there.
 pub enum Solution {
     Satisfiable {
         point: Point,
@@ -50,7 +50,8 @@ fn confirm(
     size: usize,
     filled: u32,
 ) -> Solution
-    requires { ⌜ (size ≤ length (now file)) × (checkReply f (now positive) (now negative) (take size (now file)) ≡ accepted) ⌝ }
+    requires { ⌜ (size ≤ length (now file)) × (checkReply f (now positive) (now negative) (take size (now file))
+        ≡ accepted) ⌝ }
     ensures { λ r. ⌜ r ≡ unsatisfiableWith filled size ⌝ }
 {
     let verdict = checker::check(f, positive, negative, &file[0..size]);
@@ -60,7 +61,8 @@ fn confirm(
     }
 }
 
-// D3.4: writes the certificate of slots that a search left and has it checked. `solve_formula` sees to what it requires.
+// D3.4: writes the certificate of slots that a search left and has it checked. `solve_formula` sees to what it
+// requires.
 fn certify(
     f: Formula,
     positive: &[u64],
@@ -72,7 +74,8 @@ fn certify(
     out: &mut [u8],
 ) -> Solution
     requires { ⌜ Refuted f (now positive) (now negative) (now points) (now falsified) (now depths) filled ⌝ }
-    ensures { λ r. ⌜ Certifies f (now (positive .entry)) (now (negative .entry)) (now (points .entry)) (now (falsified .entry)) (now (depths .entry)) filled (now (out .entry)) r (now (out .exit)) ⌝ }
+    ensures { λ r. ⌜ Certifies f (now (positive .entry)) (now (negative .entry)) (now (points .entry))
+        (now (falsified .entry)) (now (depths .entry)) filled (now (out .entry)) r (now (out .exit)) ⌝ }
 {
     let written = certificate_writer::write(
         f,
@@ -103,7 +106,8 @@ pub fn solve_formula(
     depths: &mut [u32],
     out: &mut [u8],
 ) -> Solution
-    ensures { λ r. ⌜ Solved (by-value f (now (positive .entry)) (now (negative .entry))) (slotsOf (now (points .entry)) (now (falsified .entry)) (now (depths .entry))) (now (out .entry)) r
+    ensures { λ r. ⌜ Solved (by-value f (now (positive .entry)) (now (negative .entry)))
+        (slotsOf (now (points .entry)) (now (falsified .entry)) (now (depths .entry))) (now (out .entry)) r
         (now (points .exit)) (now (falsified .exit)) (now (depths .exit)) (now (out .exit)) ⌝ }
 {
     let outcome = search::search(f, positive, negative, points, falsified, depths);
@@ -145,7 +149,9 @@ fn solve_read(
     out: &mut [u8],
 ) -> Solution
     requires { ⌜ (f .clauses ≤ length (now positive)) × (f .clauses ≤ length (now negative)) ⌝ }
-    ensures { λ r. ⌜ Solved (by-value f (take (f .clauses) (now (positive .entry))) (take (f .clauses) (now (negative .entry)))) (slotsOf (now (points .entry)) (now (falsified .entry)) (now (depths .entry))) (now (out .entry)) r
+    ensures { λ r. ⌜ Solved (by-value f (take (f .clauses) (now (positive .entry)))
+        (take (f .clauses) (now (negative .entry)))) (slotsOf (now (points .entry)) (now (falsified .entry))
+        (now (depths .entry))) (now (out .entry)) r
         (now (points .exit)) (now (falsified .exit)) (now (depths .exit)) (now (out .exit)) ⌝ }
 {
     let total = f.clauses as usize;
@@ -154,8 +160,8 @@ fn solve_read(
     solve_formula(f, wanted, unwanted, points, falsified, depths, out)
 }
 
-// K3, the product's main promise: reads a text, searches, and writes and checks the certificate of one that cannot be met. The clauses stay in
-// local arrays, 64 KiB, so that after a refusal nothing that was lent has changed.
+// K3, the product's main promise: reads a text, searches, and writes and checks the certificate of one that cannot be
+// met. The clauses stay in local arrays, 64 KiB, so that after a refusal nothing that was lent has changed.
 pub fn solve(
     text: &[u8],
     points: &mut [u64],
@@ -163,7 +169,8 @@ pub fn solve(
     depths: &mut [u32],
     out: &mut [u8],
 ) -> Solution
-    ensures { λ r. ⌜ Solved (from-text (now (text .entry)) blank blank) (slotsOf (now (points .entry)) (now (falsified .entry)) (now (depths .entry))) (now (out .entry)) r
+    ensures { λ r. ⌜ Solved (from-text (now (text .entry)) blank blank)
+        (slotsOf (now (points .entry)) (now (falsified .entry)) (now (depths .entry))) (now (out .entry)) r
         (now (points .exit)) (now (falsified .exit)) (now (depths .exit)) (now (out .exit)) ⌝ }
 {
     let mut positive = [0u64; 4096];

@@ -1,4 +1,5 @@
--- `certificate_writer::slots_refusal` meets its contract: each is tested over everything before the next. Assumes nothing.
+-- `certificate_writer::slots_refusal` meets its contract: each is tested over everything before the next. Assumes
+-- nothing.
 use mathlib.Core.Path.{sym, ap, _∙_, subst}
 use borrow.Author.Needs.{needs}
 use Rattle.formula.specs.Laws.ReplyLaws.{IsFault}

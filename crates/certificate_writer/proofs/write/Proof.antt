@@ -2,7 +2,8 @@
 use mathlib.Core.Path.{_≡_, sym}
 use lib.ListN.{length}
 use borrow.Author.Needs.{needs}
-use Rattle.certificate_writer.specs.Laws.WriteLaws.{slots-counted, wrote-faulty, within-limits, wrote-too-short, storable-of, wrote-all}
+use Rattle.certificate_writer.specs.Laws.WriteLaws.{slots-counted, wrote-faulty, within-limits, wrote-too-short}
+use Rattle.certificate_writer.specs.Laws.WriteLaws.{storable-of, wrote-all}
 use Rattle.certificate_writer.proofs.write.Statement.{statement}
 use Rattle.certificate_writer.proofs.write.Tie as tie
 

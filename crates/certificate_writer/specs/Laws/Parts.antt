@@ -15,11 +15,13 @@ unfolding first pointsFault numbersFault
 slotsFault earlier limit n clauses filled points falsified =
     first (earlier ∷ pointsFault limit n filled points ∷ numbersFault clauses filled points falsified ∷ [])
 
--- C3: "Bodies follow without gaps": the contents, then the bytes of the permutations as they stand, the points and the clause numbers
+-- C3: "Bodies follow without gaps": the contents, then the bytes of the permutations as they stand, the points and the
+-- clause numbers
 abbrev pub parts : ℕ → ℕ → ℕ → List ℕ → List ℕ → List ℕ → ℕ → List ℕ
 parts n m permutations images points falsified filled =
     joined (bytesOf fieldWidth) (fieldsOf (layout n m permutations filled filled)) ++ take (permutations * n) images
-    ++ joined (bytesOf pointWidth) (take filled (pointsOf points)) ++ joined (bytesOf numberWidth) (take filled falsified)
+    ++ joined (bytesOf pointWidth) (take filled (pointsOf points))
+    ++ joined (bytesOf numberWidth) (take filled falsified)
 
 -- what is to be stored is there, and the output has room for it
 pub record Storable (n permutations : ℕ) (images points falsified : List ℕ) (filled : ℕ) (out : List ℕ) : Type 0 where

@@ -39,7 +39,8 @@ module _ (earlier : Fault) (limit n : ℕ) (clauses : List Numbered) (filled : �
     -- else what row 16 finds
     pub stops-16 : IsFault r → r ≡ slotsFault earlier limit n clauses filled points falsified
     unfolding slotsFault
-    stops-16 h = answers-rest r earlier (sixteen ∷ seventeen ∷ []) passed (answers-first r sixteen (seventeen ∷ []) tested h)
+    stops-16 h = answers-rest r earlier (sixteen ∷ seventeen ∷ []) passed
+        (answers-first r sixteen (seventeen ∷ []) tested h)
 
     -- and else what row 17 does
     pub ends-17 : r ≡ no-fault → seventeen ≡ slotsFault earlier limit n clauses filled points falsified
@@ -50,7 +51,8 @@ module _ (earlier : Fault) (limit n : ℕ) (clauses : List Numbered) (filled : �
 
 -- ---- the stores
 
-module _ (n m a : ℕ) (images points falsified : List ℕ) (filled : ℕ) (out : List ℕ) (storable : Storable n a images points falsified filled out) where
+module _ (n m a : ℕ) (images points falsified : List ℕ) (filled : ℕ) (out : List ℕ)
+    (storable : Storable n a images points falsified filled out) where
   abbrev contentsPart : List ℕ
   contentsPart = joined (bytesOf fieldWidth) (fieldsOf (layout n m a filled filled))
 
@@ -62,39 +64,50 @@ module _ (n m a : ℕ) (images points falsified : List ℕ) (filled : ℕ) (out 
   begins-images = length-contents (layout n m a filled filled)
 
   begins-points : length (contentsPart ++ take (a * n) images) ≡ contentsLength + a * n
-  begins-points = length-append contentsPart (take (a * n) images) ∙ ap₂ _+_ begins-images (length-take-le (a * n) images (storable .imagesHeld))
+  begins-points = length-append contentsPart (take (a * n) images)
+      ∙ ap₂ _+_ begins-images (length-take-le (a * n) images (storable .imagesHeld))
 
-  begins-numbers : length (contentsPart ++ take (a * n) images ++ pointsPart) ≡ contentsLength + a * n + filled * pointWidth
+  begins-numbers : length (contentsPart ++ take (a * n) images ++ pointsPart)
+      ≡ contentsLength + a * n + filled * pointWidth
   begins-numbers =
       length-append (contentsPart ++ take (a * n) images) pointsPart
-      ∙ ap₂ _+_ begins-points (length-joined (bytesOf pointWidth) pointWidth (take filled points) (λ x _. length-bytesOf pointWidth x)
+      ∙ ap₂ _+_ begins-points (length-joined (bytesOf pointWidth) pointWidth (take filled points)
+      (λ x _. length-bytesOf pointWidth x)
       ∙ ap (λ (k : ℕ). k * pointWidth) (length-take-le filled points (storable .pointsHeld)))
 
   -- behind the parts stored so far, the next
-  behind : (place : ℕ) (front part before after : List ℕ) → length front ≡ place → before ≡ spliced 0 front out → after ≡ spliced place part before → after ≡ spliced 0 (front ++ part) out
-  behind place front part before after e = part-stored 0 place front part out before after zero-le (sym (zero-add (length front) ∙ e))
+  behind : (place : ℕ) (front part before after : List ℕ) → length front ≡ place → before ≡ spliced 0 front out
+      → after ≡ spliced place part before → after ≡ spliced 0 (front ++ part) out
+  behind place front part before after e = part-stored 0 place front part out before after zero-le
+      (sym (zero-add (length front) ∙ e))
 
   pub certificate-stored : (one two three four : List ℕ)
       → one ≡ spliced 0 contentsPart out
       → two ≡ spliced contentsLength (take (a * n) images) one
       → three ≡ spliced (contentsLength + a * n) pointsPart two
-      → four ≡ spliced (contentsLength + a * n + filled * pointWidth) (joined (bytesOf numberWidth) (take filled falsified)) three
+      → four ≡ spliced (contentsLength + a * n + filled * pointWidth)
+      (joined (bytesOf numberWidth) (take filled falsified)) three
       → four ≡ over (parts n m a images points falsified filled) out
   certificate-stored one two three four e f g h =
-      behind _ _ _ three four begins-numbers (behind _ _ _ two three begins-points (behind _ _ _ one two begins-images e f) g) h
+      behind _ _ _ three four begins-numbers (behind _ _ _ two three begins-points
+      (behind _ _ _ one two begins-images e f) g) h
       ∙ spliced-front (parts n m a images points falsified filled) out
 
 -- the parts are those of the certificate of what they stand for
-pub parts-encode : (n m a : ℕ) (images points falsified : List ℕ) (filled : ℕ) → filled ≤ length points → filled ≤ length falsified
-    → parts n m a images points falsified filled ≡ encode n m (permutationsIn n a images) (take filled (pointsOf points)) (take filled falsified)
+pub parts-encode : (n m a : ℕ) (images points falsified : List ℕ) (filled : ℕ) → filled ≤ length points
+    → filled ≤ length falsified
+    → parts n m a images points falsified filled
+    ≡ encode n m (permutationsIn n a images) (take filled (pointsOf points)) (take filled falsified)
 unfolding encode
 parts-encode n m a images points falsified filled enough-points enough-numbers =
     let es : List Permutation = permutationsIn n a images in
     let xs : List ℕ = take filled (pointsOf points) in
     let ks : List ℕ = take filled falsified in
     let whole : FileContents → List ℕ → List ℕ =
-    λ c body. joined (bytesOf fieldWidth) (fieldsOf c) ++ body ++ joined (bytesOf pointWidth) xs ++ joined (bytesOf numberWidth) ks in
+    λ c body. joined (bytesOf fieldWidth) (fieldsOf c) ++ body ++ joined (bytesOf pointWidth) xs
+    ++ joined (bytesOf numberWidth) ks in
     ap₂ whole
     (ap (λ (j : ℕ). layout n m j filled filled) (sym (length-permutations n a images))
-    ∙ ap₂ (λ (i j : ℕ). layout n m (length es) i j) (sym (length-take-le filled points enough-points)) (sym (length-take-le filled falsified enough-numbers)))
+    ∙ ap₂ (λ (i j : ℕ). layout n m (length es) i j) (sym (length-take-le filled points enough-points))
+    (sym (length-take-le filled falsified enough-numbers)))
     (sym (joined-permutations n a images))

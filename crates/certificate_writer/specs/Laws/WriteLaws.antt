@@ -1,4 +1,5 @@
--- Laws of the writer's answer, one for each way out: refusals 10 to 17, refusal 19, and a certificate; and of what row 16 requires. Assumes nothing.
+-- Laws of the writer's answer, one for each way out: refusals 10 to 17, refusal 19, and a certificate; and of what row
+-- 16 requires. Assumes nothing.
 use mathlib.Core.List.{List, [], _∷_, _++_}
 use mathlib.Core.Path.{_≡_, sym, ap, ap₂, _∙_}
 use Prim.Native.Nat.{ℕ, _≤_, _<_}
@@ -25,20 +26,24 @@ use Rattle.certificate.specs.Laws.RowLaws.{too-short, long-enough}
 use Rattle.certificate.specs.Rows.{pointsFault, numbersFault, roomFault}
 use Rattle.certificate.specs.Writer.{lengthNeeded, writeFault, writeReply, certificateOf, writeOutput}
 use Rattle.certificate_writer.specs.Contract.{replyOfWritten, Wrote}
-use Rattle.certificate.specs.Laws.WriterLaws.{WriterPassed, write-rows, passed-writer, few-slots, certificate-length, output-written, reply-written}
+use Rattle.certificate.specs.Laws.WriterLaws.{WriterPassed, write-rows, passed-writer, few-slots, certificate-length}
+use Rattle.certificate.specs.Laws.WriterLaws.{output-written, reply-written}
 use Rattle.check_distinct.specs.Laws.Indexing.{Counted}
 use Rattle.certificate_writer.specs.Laws.Parts.{slotsFault, parts, Storable}
 use Rattle.certificate_writer.specs.Laws.PartsLaws.{parts-encode}
 
 -- what row 16 requires where nothing was found before: few variables, and a point for each slot lent
-pub slots-counted : (f : Formula) (positive negative : List ℕ) (earlier : Fault) → earlier ≡ problemFault f positive negative
-    → (points : List ℕ) (a b limit : ℕ) → limit ≡ capacity (length (pointsOf points)) a b → earlier ≡ no-fault → Counted maxSlots (f .variables) limit points
+pub slots-counted : (f : Formula) (positive negative : List ℕ) (earlier : Fault)
+    → earlier ≡ problemFault f positive negative
+    → (points : List ℕ) (a b limit : ℕ) → limit ≡ capacity (length (pointsOf points)) a b → earlier ≡ no-fault
+    → Counted maxSlots (f .variables) limit points
 unfolding problemFault problemOf capacity
 slots-counted f positive negative earlier is points a b limit lent passed =
     let es = permutationsIn (f .variables) (f .permutations) (f .images) in
     let rest = permutationFault (f .variables) es ∷ symmetryFault (numbered (clausesOf positive negative)) es ∷ [] in
     record {
-      few = formula-passes f positive negative (first-split (formulaFault f positive negative) rest (sym is ∙ passed) .0) .0 .few-variables;
+      few = formula-passes f positive negative (first-split (formulaFault f positive negative) rest
+          (sym is ∙ passed) .0) .0 .few-variables;
       enough = omega arith;
       most = omega arith;
     }
@@ -52,15 +57,18 @@ module _ (f : Formula) (positive negative points falsified depths : List ℕ) (f
 
   -- N5: rows 10 to 12, 16 and 17, and row 19
   abbrev problemTests : List Fault
-  problemTests = formulaFault f positive negative ∷ permutationFault (f .variables) perms ∷ symmetryFault (numbered (clausesOf positive negative)) perms ∷ []
+  problemTests = formulaFault f positive negative ∷ permutationFault (f .variables) perms
+      ∷ symmetryFault (numbered (clausesOf positive negative)) perms ∷ []
 
   abbrev slotTests : List Fault
-  slotTests = pointsFault lent (f .variables) filled (pointsOf points) ∷ numbersFault (numbered (clausesOf positive negative)) filled (pointsOf points) falsified ∷ []
+  slotTests = pointsFault lent (f .variables) filled (pointsOf points)
+      ∷ numbersFault (numbered (clausesOf positive negative)) filled (pointsOf points) falsified ∷ []
 
   abbrev roomTest : Fault
   roomTest = roomFault (certificateLength (f .variables) (length perms) filled) (length out)
 
-  rows : writeFault f positive negative points falsified depths filled out ≡ first ((problemTests ++ slotTests) ++ roomTest ∷ [])
+  rows : writeFault f positive negative points falsified depths filled out
+      ≡ first ((problemTests ++ slotTests) ++ roomTest ∷ [])
   unfolding problemOf lengthNeeded
   rows = write-rows f positive negative points falsified depths filled out
 
@@ -70,17 +78,22 @@ module _ (f : Formula) (positive negative points falsified depths : List ℕ) (f
   unfolding writeReply writeOutput replyOfWritten
   refused-by code place h = record { reply = rw h; output = rw h }
 
-  module _ (earlier : Fault) (problem-tested : earlier ≡ problemFault f positive negative) (limit : ℕ) (limit-is : limit ≡ lent) (told : Checked)
-      (slots-tested : faultOf told ≡ slotsFault earlier limit (f .variables) (numbered (clausesOf positive negative)) filled (pointsOf points) falsified) where
+  module _ (earlier : Fault) (problem-tested : earlier ≡ problemFault f positive negative) (limit : ℕ)
+      (limit-is : limit ≡ lent) (told : Checked)
+      (slots-tested : faultOf told ≡ slotsFault earlier limit (f .variables) (numbered (clausesOf positive negative))
+      filled (pointsOf points) falsified) where
     all-tested : first (problemTests ++ slotTests) ≡ faultOf told
     unfolding problemFault problemOf slotsFault
     all-tested =
-        sym (slots-tested ∙ ap₂ (λ (t : Fault) (k : ℕ). slotsFault t k (f .variables) (numbered (clausesOf positive negative)) filled (pointsOf points) falsified) problem-tested limit-is
+        sym (slots-tested ∙ ap₂ (λ (t : Fault) (k : ℕ). slotsFault t k (f .variables)
+        (numbered (clausesOf positive negative)) filled (pointsOf points) falsified) problem-tested limit-is
         ∙ first-nested problemTests slotTests)
 
     -- refusals 10 to 17
-    pub wrote-faulty : (code place : ℕ) → told ≡ Faulty code place → Wrote f positive negative points falsified depths filled out (Refused code place) out
-    wrote-faulty code place e = refused-by code place (rows ∙ first-before (problemTests ++ slotTests) (roomTest ∷ []) code place (all-tested ∙ ap faultOf e))
+    pub wrote-faulty : (code place : ℕ) → told ≡ Faulty code place
+        → Wrote f positive negative points falsified depths filled out (Refused code place) out
+    wrote-faulty code place e = refused-by code place (rows
+        ∙ first-before (problemTests ++ slotTests) (roomTest ∷ []) code place (all-tested ∙ ap faultOf e))
 
     module _ (fine : told ≡ Passed) where
       all-sound : first (problemTests ++ slotTests) ≡ no-fault
@@ -89,7 +102,8 @@ module _ (f : Formula) (positive negative points falsified depths : List ℕ) (f
       row10 : formulaFault f positive negative ≡ no-fault
       row10 = first-split _ _ all-sound .0
 
-      past-10 : first (permutationFault (f .variables) perms ∷ symmetryFault (numbered (clausesOf positive negative)) perms ∷ slotTests) ≡ no-fault
+      past-10 : first (permutationFault (f .variables) perms
+          ∷ symmetryFault (numbered (clausesOf positive negative)) perms ∷ slotTests) ≡ no-fault
       past-10 = first-split _ _ all-sound .1
 
       row11 : permutationFault (f .variables) perms ≡ no-fault
@@ -107,7 +121,8 @@ module _ (f : Formula) (positive negative points falsified depths : List ℕ) (f
       row16 : pointsFault lent (f .variables) filled (pointsOf points) ≡ no-fault
       row16 = first-split _ _ past-12 .0
 
-      past-16 : first (numbersFault (numbered (clausesOf positive negative)) filled (pointsOf points) falsified ∷ []) ≡ no-fault
+      past-16 : first (numbersFault (numbered (clausesOf positive negative)) filled (pointsOf points) falsified ∷ [])
+          ≡ no-fault
       past-16 = first-split _ _ past-12 .1
 
       row17 : numbersFault (numbered (clausesOf positive negative)) filled (pointsOf points) falsified ≡ no-fault
@@ -126,17 +141,21 @@ module _ (f : Formula) (positive negative points falsified depths : List ℕ) (f
 
       module _ (size : ℕ) (size-is : size ≡ certificateLength (f .variables) (f .permutations) filled) where
         size-needed : size ≡ certificateLength (f .variables) (length perms) filled
-        size-needed = size-is ∙ ap (λ (a : ℕ). certificateLength (f .variables) a filled) (sym (length-permutations (f .variables) (f .permutations) (f .images)))
+        size-needed = size-is ∙ ap (λ (a : ℕ). certificateLength (f .variables) a filled)
+            (sym (length-permutations (f .variables) (f .permutations) (f .images)))
 
         -- refusal 19
-        pub wrote-too-short : length out < size → Wrote f positive negative points falsified depths filled out (Refused 19 size) out
+        pub wrote-too-short : length out < size
+            → Wrote f positive negative points falsified depths filled out (Refused 19 size) out
         wrote-too-short h =
             refused-by 19 size (rows ∙ first-after (problemTests ++ slotTests) (roomTest ∷ []) all-sound
-            ∙ first-last roomTest ∙ ap (λ (k : ℕ). roomFault k (length out)) (sym size-needed) ∙ too-short size (length out) h)
+            ∙ first-last roomTest ∙ ap (λ (k : ℕ). roomFault k (length out)) (sym size-needed)
+            ∙ too-short size (length out) h)
 
         module _ (room : size ≤ length out) where
           -- what the stores require
-          pub storable-of : length (f .images) ≡ 1024 → Storable (f .variables) (f .permutations) (f .images) points falsified filled out
+          pub storable-of : length (f .images) ≡ 1024
+              → Storable (f .variables) (f .permutations) (f .images) points falsified filled out
           storable-of whole =
               record {
                 imagesHeld = images-room f positive negative (within-limits .0) whole few-permutations;
@@ -160,19 +179,26 @@ module _ (f : Formula) (positive negative points falsified depths : List ℕ) (f
           nothing-found : writeFault f positive negative points falsified depths filled out ≡ no-fault
           nothing-found = passed-writer f positive negative points falsified depths filled out all-passed
 
-          parts-are : parts (f .variables) (f .clauses) (f .permutations) (f .images) points falsified filled ≡ certificateOf (problemOf f positive negative) points falsified filled
+          parts-are : parts (f .variables) (f .clauses) (f .permutations) (f .images) points falsified filled
+              ≡ certificateOf (problemOf f positive negative) points falsified filled
           unfolding certificateOf problemOf
-          parts-are = parts-encode (f .variables) (f .clauses) (f .permutations) (f .images) points falsified filled (enough .1) (enough .2)
+          parts-are = parts-encode (f .variables) (f .clauses) (f .permutations) (f .images) points falsified filled
+              (enough .1) (enough .2)
 
           -- a certificate
-          pub wrote-all : (after : List ℕ) → after ≡ over (parts (f .variables) (f .clauses) (f .permutations) (f .images) points falsified filled) out
+          pub wrote-all : (after : List ℕ)
+              → after ≡ over (parts (f .variables) (f .clauses) (f .permutations) (f .images) points falsified filled)
+              out
               → Wrote f positive negative points falsified depths filled out (Bytes size) after
           unfolding over replyOfWritten lengthNeeded problemOf
           wrote-all after e =
               record {
-                reply = ap written size-needed ∙ sym (reply-written f positive negative points falsified depths filled out nothing-found);
+                reply = ap written size-needed ∙ sym (reply-written f positive negative points falsified depths filled
+                    out nothing-found);
                 output =
                     e ∙ ap (λ l. over l out) parts-are
-                    ∙ ap (λ (k : ℕ). certificateOf (problemOf f positive negative) points falsified filled ++ drop k out) (certificate-length f positive negative points falsified depths filled out all-passed)
+                    ∙ ap (λ (k : ℕ). certificateOf (problemOf f positive negative) points falsified filled
+                    ++ drop k out) (certificate-length f positive negative points falsified depths filled out
+                    all-passed)
                     ∙ sym (output-written f positive negative points falsified depths filled out nothing-found);
               }

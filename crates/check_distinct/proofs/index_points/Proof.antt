@@ -6,7 +6,8 @@ use lib.ListN.{length}
 use borrow.Author.Needs.{needs}
 use borrow.Author.Tests.{not-true, not-false}
 use Rattle.check_distinct.specs.Laws.Indexing.{Sifting}
-use Rattle.check_distinct.specs.Laws.IndexingLaws.{sifting-begins, sifting-growable, sifting-stops, sifting-goes-on, sifting-ends}
+use Rattle.check_distinct.specs.Laws.IndexingLaws.{sifting-begins, sifting-growable, sifting-stops}
+use Rattle.check_distinct.specs.Laws.IndexingLaws.{sifting-goes-on, sifting-ends}
 use Rattle.check_distinct.proofs.index_points.Statement.{statement}
 use Rattle.check_distinct.proofs.index_points.Tie as tie
 

@@ -1,4 +1,5 @@
--- `check_distinct::local_refusal` meets its contract: a count over the limit first, then with an array for the count. Assumes nothing.
+-- `check_distinct::local_refusal` meets its contract: a count over the limit first, then with an array for the count.
+-- Assumes nothing.
 use borrow.Author.Needs.{needs}
 use Rattle.certificate.specs.Laws.RowLaws.{over-limit}
 use Rattle.check_distinct.proofs.local_refusal.Statement.{statement}

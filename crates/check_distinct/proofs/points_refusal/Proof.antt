@@ -1,4 +1,5 @@
--- `check_distinct::points_refusal` meets its contract: a bad count first, then the first point that fails. Assumes nothing.
+-- `check_distinct::points_refusal` meets its contract: a bad count first, then the first point that fails. Assumes
+-- nothing.
 use mathlib.Core.Path.{refl}
 use native.Mathlib.Omega.{arith}
 use borrow.Author.Needs.{needs}

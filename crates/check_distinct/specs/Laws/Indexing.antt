@@ -40,7 +40,8 @@ pub record Sifting (heads n count : ℕ) (points links : List ℕ) (i : ℕ) : T
   pub indexed : Indexed heads n (take i points) links
   pub room : heads + 2 * count ≤ length links
   pub most : i ≤ count
-  pub decides : firstFailing (pointPasses n points) (below count) ≡ onFrom i (firstFailing (pointPasses n points) (drop i (below count)))
+  pub decides : firstFailing (pointPasses n points) (below count)
+      ≡ onFrom i (firstFailing (pointPasses n points) (drop i (below count)))
 
 -- k is the number of the first point that fails, 0 if none does; then the links are an index of all
 pub record Sifts (heads n count : ℕ) (points : List ℕ) (k : ℕ) (links′ : List ℕ) : Type 0 where

@@ -1,4 +1,5 @@
--- Laws of tests of points that index them: the test of one point, the loop over all, row 16, and arrays of links. Assumes nothing.
+-- Laws of tests of points that index them: the test of one point, the loop over all, row 16, and arrays of links.
+-- Assumes nothing.
 use mathlib.Core.Bool.{Bool, true, false, not, _&&_, true≢false}
 use mathlib.Core.List.{List, [], _∷_, _++_}
 use mathlib.Core.Path.{_≡_, sym, ap, _∙_, subst}
@@ -17,16 +18,19 @@ use Rattle.math.specs.Laws.ScanLaws.{failing-begins, below-ends, below-stops, b
 use Rattle.formula.specs.Limits.{maxSlots}
 use Rattle.formula.specs.Reply.{Fault, fault, faultAt}
 use Rattle.formula.specs.Laws.ReplyLaws.{fault-not-sound, faultAt-sound}
-use Rattle.certificate.specs.Laws.RowLaws.{no-point, over-limit, counted, passes-new, fails-bit, points-pass, point-passes-take}
+use Rattle.certificate.specs.Laws.RowLaws.{no-point, over-limit, counted, passes-new, fails-bit, points-pass}
+use Rattle.certificate.specs.Laws.RowLaws.{point-passes-take}
 use Rattle.certificate.specs.Rows.{pointPasses, pointsFault}
 use Rattle.point_index.specs.Laws.Index.{Indexed}
 use Rattle.point_index.specs.Laws.IndexLaws.{index-empty, zeros-replicate}
 use Rattle.point_index.specs.Laws.Looking.{Addable, Adds}
-use Rattle.check_distinct.specs.Laws.Indexing.{Growable, Grows, Indexable, Sifting, Sifts, Refuses, Counted, Links, suits}
+use Rattle.check_distinct.specs.Laws.Indexing.{Growable, Grows, Indexable, Sifting, Sifts, Refuses, Counted}
+use Rattle.check_distinct.specs.Laws.Indexing.{Links, suits}
 
 -- ---- the test of one point
 
-module _ {heads n i : ℕ} {points links : List ℕ} (g : Growable heads n i points links) (x : ℕ) (at : x ≡ getD points i 0) (small : Bool) (test : small ≡ ltb x (2 ^ n)) where
+module _ {heads n i : ℕ} {points links : List ℕ} (g : Growable heads n i points links) (x : ℕ)
+    (at : x ≡ getD points i 0) (small : Bool) (test : small ≡ ltb x (2 ^ n)) where
   pub grow-addable : small ≡ true → Addable heads n i points links x
   grow-addable inside =
       let lt = g .enough in
@@ -37,7 +41,8 @@ module _ {heads n i : ℕ} {points links : List ℕ} (g : Growable heads n i poi
         room = g .room;
       }
 
-  pub grow-tested : small ≡ true → (repeated : Bool) (links′ : List ℕ) → Adds heads n (take i points) links x repeated links′ → Grows heads n i points (not repeated) links′
+  pub grow-tested : small ≡ true → (repeated : Bool) (links′ : List ℕ)
+      → Adds heads n (take i points) links x repeated links′ → Grows heads n i points (not repeated) links′
   grow-tested inside repeated links′ a =
       record {
         tells = passes-new n points i x at small test inside repeated (a .tells);
@@ -45,7 +50,8 @@ module _ {heads n i : ℕ} {points links : List ℕ} (g : Growable heads n i poi
       }
     where
       more : take (i + 1) points ≡ take i points ++ x ∷ []
-      more = ap (λ (j : ℕ). take j points) (add-one i) ∙ take-suc points i 0 (g .enough) ∙ ap (λ (y : ℕ). take i points ++ y ∷ []) (sym at)
+      more = ap (λ (j : ℕ). take j points) (add-one i) ∙ take-suc points i 0 (g .enough)
+          ∙ ap (λ (y : ℕ). take i points ++ y ∷ []) (sym at)
 
   pub grow-fails : small ≡ false → Grows heads n i points false links
   grow-fails out = record { tells = fails-bit n points i x at small test out; grown = λ h. absurd (true≢false (sym h)) }
@@ -97,14 +103,17 @@ module _ {heads n count : ℕ} {points links₀ : List ℕ} (p : Indexable heads
         }
 
 -- different points of n digits are all indexed
-pub sifts-full : {heads n count : ℕ} {points : List ℕ} {k : ℕ} {links : List ℕ} → count ≤ length points → ((x : ℕ) → x ∈ take count points → x < 2 ^ n) → Distinct (take count points)
+pub sifts-full : {heads n count : ℕ} {points : List ℕ} {k : ℕ} {links : List ℕ} → count ≤ length points
+    → ((x : ℕ) → x ∈ take count points → x < 2 ^ n) → Distinct (take count points)
     → Sifts heads n count points k links → Indexed heads n (take count points) links
-sifts-full {n = n} {count = count} {points = points} enough narrow distinct s = s .full (s .tells ∙ all-passing-below (pointPasses n points) count each)
+sifts-full {n = n} {count = count} {points = points} enough narrow distinct s = s .full
+    (s .tells ∙ all-passing-below (pointPasses n points) count each)
   where
     each : (i : ℕ) → i < count → pointPasses n points i ≡ true
     each i lt =
         sym (point-passes-take n points count i lt)
-        ∙ points-pass n (take count points) narrow distinct i (subst (λ (j : ℕ). i < j) (sym (length-take-le count points enough)) lt)
+        ∙ points-pass n (take count points) narrow distinct i
+        (subst (λ (j : ℕ). i < j) (sym (length-take-le count points enough)) lt)
 
 -- ---- row 16
 
@@ -137,9 +146,18 @@ zeros-links size k h =
     }
 
 -- points for which there is room can be indexed
-pub links-indexable : {size n count : ℕ} {points links : List ℕ} → Links size links → Counted size n count points → Indexable size n count points links
+pub links-indexable : {size n count : ℕ} {points links : List ℕ} → Links size links → Counted size n count points
+    → Indexable size n count points links
 links-indexable l c =
     let room = l .room in
     let under = c .most in
     let most = l .most in
-    record { few = c .few; headed = l .headed; enough = c .enough; small = omega arith; room = omega arith; zeros = l .zeros }
+    record {
+      few = c .few;
+      headed = l .headed;
+      enough = c .enough;
+      small = omega arith;
+      room = omega arith;
+      zeros =
+          l .zeros;
+    }

@@ -1,4 +1,5 @@
--- `check_entries::copied_refusal` meets its contract: the first entries of the slices are those of the bodies. Assumes nothing.
+-- `check_entries::copied_refusal` meets its contract: the first entries of the slices are those of the bodies. Assumes
+-- nothing.
 use mathlib.Core.Path.{ap₂, _∙_}
 use borrow.Author.Needs.{needs}
 use Rattle.points.specs.Points.{numbered}

@@ -15,20 +15,24 @@ use Rattle.check_flips.specs.Laws.Loops.{Proper}
 
 -- the rows 16, 17 and 18, of a list of points and one of numbers
 abbrev pub listsFault : ℕ → List Numbered → List Permutation → List ℕ → List ℕ → Fault
-listsFault n cs es ps ns = first (pointsFault maxSlots n (length ps) ps ∷ numbersFault cs (length ps) ps ns ∷ flipsFault n cs es ps ns ∷ [])
+listsFault n cs es ps ns = first (pointsFault maxSlots n (length ps) ps ∷ numbersFault cs (length ps) ps ns
+    ∷ flipsFault n cs es ps ns ∷ [])
 
 -- the same, of `count` entries in two bodies, with permutations and clauses as they lie in their slices
 abbrev pub entriesFault : ℕ → ℕ → List ℕ → List ℕ → List ℕ → ℕ → List ℕ → List ℕ → Fault
 entriesFault n permutations images positive negative count points numbers =
-    listsFault n (numbered (clausesOf positive negative)) (permutationsIn n permutations images) (numbersIn pointWidth count points) (numbersIn numberWidth count numbers)
+    listsFault n (numbered (clausesOf positive negative)) (permutationsIn n permutations images)
+    (numbersIn pointWidth count points) (numbersIn numberWidth count numbers)
 
 -- there are `count` points, and links that are all 0 with room for them
-pub record Ready (n permutations : ℕ) (images positive negative : List ℕ) (count : ℕ) (points : List ℕ) (heads : ℕ) (links : List ℕ) : Type 0 where
+pub record Ready (n permutations : ℕ) (images positive negative : List ℕ) (count : ℕ) (points : List ℕ) (heads : ℕ)
+    (links : List ℕ) : Type 0 where
   pub given : Proper n permutations images positive negative
   pub indexable : Indexable heads n count points links
 
 -- the bodies hold `count` entries, and no more than fit the arrays
-pub record Decodable (n permutations : ℕ) (images positive negative : List ℕ) (count limit : ℕ) (points numbers : List ℕ) : Type 0 where
+pub record Decodable (n permutations : ℕ) (images positive negative : List ℕ) (count limit : ℕ)
+    (points numbers : List ℕ) : Type 0 where
   pub given : Proper n permutations images positive negative
   pub most : count ≤ limit
   pub points-long : count * pointWidth ≤ length points

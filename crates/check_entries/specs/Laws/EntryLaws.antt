@@ -1,4 +1,5 @@
--- Laws of the rows 16, 17 and 18 of the first entries of two slices, of entries copied to an array, and of arrays of zeros. Assumes nothing.
+-- Laws of the rows 16, 17 and 18 of the first entries of two slices, of entries copied to an array, and of arrays of
+-- zeros. Assumes nothing.
 use mathlib.Core.Bool.{true}
 use mathlib.Core.List.{List}
 use mathlib.Core.Path.{_≡_, sym, ap, _∙_}
@@ -27,7 +28,8 @@ use Rattle.check_entries.specs.Laws.Entries.{listsFault, Ready, Decodabl
 
 -- ---- the rows 16, 17 and 18, of the first entries of two slices
 
-module _ (n : ℕ) (cs : List Numbered) (es : List Permutation) (points numbers : List ℕ) (count : ℕ) (enough : count ≤ length points) where
+module _ (n : ℕ) (cs : List Numbered) (es : List Permutation) (points numbers : List ℕ) (count : ℕ)
+    (enough : count ≤ length points) where
   abbrev ps : List ℕ
   ps = take count points
 
@@ -49,40 +51,55 @@ module _ (n : ℕ) (cs : List Numbered) (es : List Permutation) (points numbers 
   pub stops-16 : (r : Fault) → r ≡ pointsFault maxSlots n count points → IsFault r → r ≡ listsFault n cs es ps ns
   stops-16 r e h = answers-first r _ _ (e ∙ row16) h
 
-  pub stops-17 : (r : Fault) → pointsFault maxSlots n count points ≡ no-fault → r ≡ numbersFault cs count points numbers → IsFault r → r ≡ listsFault n cs es ps ns
+  pub stops-17 : (r : Fault) → pointsFault maxSlots n count points ≡ no-fault → r ≡ numbersFault cs count points numbers
+      → IsFault r → r ≡ listsFault n cs es ps ns
   stops-17 r sixteen e h = answers-rest r _ _ (sym row16 ∙ sixteen) (answers-first r _ _ (e ∙ row17) h)
 
-  pub ends-18 : (r : Fault) → pointsFault maxSlots n count points ≡ no-fault → numbersFault cs count points numbers ≡ no-fault → r ≡ flipsFault n cs es ps numbers → r ≡ listsFault n cs es ps ns
+  pub ends-18 : (r : Fault) → pointsFault maxSlots n count points ≡ no-fault
+      → numbersFault cs count points numbers ≡ no-fault → r ≡ flipsFault n cs es ps numbers
+      → r ≡ listsFault n cs es ps ns
   ends-18 r sixteen seventeen e =
-      answers-rest r _ _ (sym row16 ∙ sixteen) (answers-rest r _ _ (sym row17 ∙ seventeen) (e ∙ row18 ∙ sym (first-last (flipsFault n cs es ps ns))))
+      answers-rest r _ _ (sym row16 ∙ sixteen) (answers-rest r _ _ (sym row17 ∙ seventeen)
+      (e ∙ row18 ∙ sym (first-last (flipsFault n cs es ps ns))))
 
 -- ---- entries copied to the front of an array
 
 -- they are its first
-pub copied : (w count : ℕ) (body old new : List ℕ) → new ≡ over (numbersIn w count body) old → take count new ≡ numbersIn w count body
-copied w count body old new e = ap (take count) e ∙ over-front count (numbersIn w count body) old (length-entries numberFrom w count body)
+pub copied : (w count : ℕ) (body old new : List ℕ) → new ≡ over (numbersIn w count body) old
+    → take count new ≡ numbersIn w count body
+copied w count body old new e = ap (take count) e
+    ∙ over-front count (numbersIn w count body) old (length-entries numberFrom w count body)
 
 -- ---- what rows 16 and 18 are handed
 
 -- the first entries, copied to a slice as long as the one lent, can be indexed
-pub lent-ready : {n permutations : ℕ} {images positive negative : List ℕ} {count limit : ℕ} {points numbers held named links : List ℕ}
-    → Decodable n permutations images positive negative count limit points numbers → Lent limit held named links → (filled : List ℕ) → length filled ≡ length held
+pub lent-ready : {n permutations : ℕ} {images positive negative : List ℕ} {count limit : ℕ}
+    {points numbers held named links : List ℕ}
+    → Decodable n permutations images positive negative count limit points numbers → Lent limit held named links
+    → (filled : List ℕ) → length filled ≡ length held
     → Ready n permutations images positive negative count filled limit links
 lent-ready d l filled same =
     let under = d .most in
     let long = l .held-long in
-    record { given = d .given; indexable = links-indexable (l .linked) (record { few = d .given .few; enough = omega arith; most = under }) }
+    record {
+      given = d .given;
+      indexable = links-indexable (l .linked)
+          (record { few = d .given .few; enough = omega arith; most = under });
+    }
 
 -- where row 16 finds nothing it has left an index of the points
-pub ready-testable : {n permutations : ℕ} {images positive negative : List ℕ} {count : ℕ} {points : List ℕ} {heads : ℕ} {links : List ℕ}
-    → Ready n permutations images positive negative count points heads links → {f : Fault} {links′ : List ℕ} → Refuses heads n count maxSlots points f links′ → f ≡ no-fault
+pub ready-testable : {n permutations : ℕ} {images positive negative : List ℕ} {count : ℕ} {points : List ℕ} {heads : ℕ}
+    {links : List ℕ}
+    → Ready n permutations images positive negative count points heads links → {f : Fault} {links′ : List ℕ}
+    → Refuses heads n count maxSlots points f links′ → f ≡ no-fault
     → Testable n permutations images positive negative count points heads links′
 ready-testable r w e =
     record { given = r .given; enough = r .indexable .enough; indexed = w .full e }
 
 -- ---- arrays of zeros
 
-pub zeros-lent : (limit k : ℕ) → suits limit k ≡ true → Lent limit (replicate limit 0) (replicate limit 0) (replicate k 0)
+pub zeros-lent : (limit k : ℕ) → suits limit k ≡ true
+    → Lent limit (replicate limit 0) (replicate limit 0) (replicate k 0)
 zeros-lent limit k h =
     let long : limit ≤ length (replicate {A = ℕ} limit 0) = le-of-eq (sym (length-replicate {A = ℕ} limit 0)) in
     record { held-long = long; named-long = long; linked = zeros-links limit k h }

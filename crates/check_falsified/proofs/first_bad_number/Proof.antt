@@ -1,4 +1,5 @@
--- `check_falsified::first_bad_number` meets its contract: the number over all is, at index i, that over the indices from i on. Assumes nothing.
+-- `check_falsified::first_bad_number` meets its contract: the number over all is, at index i, that over the indices
+-- from i on. Assumes nothing.
 use mathlib.Core.Path.{_≡_, sym, _∙_}
 use Prim.Native.Nat.{_-_}
 use lib.ListN.{drop}

@@ -26,7 +26,8 @@ numbered-at a (c ∷ cs) (suc i) =
 pub numbered-below : (a : ℕ) (cs : List Clause) (k : ℕ) → k < a → clauseNumbered (numberedFrom a cs) k ≡ none
 unfolding clauseNumbered numberedFrom
 numbered-below a [] k h = refl
-numbered-below a (c ∷ cs) k h = rw (ne-eqb a k (λ e. let z : ⊥ = omega arith in z)) (numbered-below (suc a) cs k (omega arith))
+numbered-below a (c ∷ cs) k h = rw (ne-eqb a k (λ e. let z : ⊥ = omega arith in z))
+    (numbered-below (suc a) cs k (omega arith))
 
 module _ (cs : List Clause) (x : ℕ) where
   pub falsifies-none : (k : ℕ) → k < 1 → false ≡ falsifies (clauseNumbered (numbered cs) k) x
@@ -35,8 +36,11 @@ module _ (cs : List Clause) (x : ℕ) where
 
   pub falsifies-past : (k i : ℕ) → k ≡ 1 + i → length cs ≤ i → false ≡ falsifies (clauseNumbered (numbered cs) k) x
   unfolding falsifies
-  falsifies-past k i e h = sym (ap (λ (j : ℕ). falsifies (clauseNumbered (numbered cs) j) x) e ∙ ap (λ o. falsifies o x) (numbered-at 1 cs i ∙ index-none cs i h))
+  falsifies-past k i e h = sym (ap (λ (j : ℕ). falsifies (clauseNumbered (numbered cs) j) x) e
+      ∙ ap (λ o. falsifies o x) (numbered-at 1 cs i ∙ index-none cs i h))
 
-  pub falsifies-at : (k i : ℕ) → k ≡ 1 + i → i < length cs → not (satisfies (getD cs i noLiterals) x) ≡ falsifies (clauseNumbered (numbered cs) k) x
+  pub falsifies-at : (k i : ℕ) → k ≡ 1 + i → i < length cs
+      → not (satisfies (getD cs i noLiterals) x) ≡ falsifies (clauseNumbered (numbered cs) k) x
   unfolding falsifies
-  falsifies-at k i e h = sym (ap (λ (j : ℕ). falsifies (clauseNumbered (numbered cs) j) x) e ∙ ap (λ o. falsifies o x) (numbered-at 1 cs i ∙ index-some cs i noLiterals h))
+  falsifies-at k i e h = sym (ap (λ (j : ℕ). falsifies (clauseNumbered (numbered cs) j) x) e
+      ∙ ap (λ o. falsifies o x) (numbered-at 1 cs i ∙ index-some cs i noLiterals h))

@@ -1,5 +1,5 @@
--- `check_flips::first_uncovered` meets its contract: the number over all is, at index i, that over the indices from i on; and the images are those of
--- the point before. Assumes nothing.
+-- `check_flips::first_uncovered` meets its contract: the number over all is, at index i, that over the indices from i
+-- on; and the images are those of the point before. Assumes nothing.
 use mathlib.Core.Path.{_≡_, sym, _∙_, subst}
 use Prim.Native.Nat.{ℕ, _-_, _^_, _<_}
 use lib.ListN.{length, take, drop, length-replicate}

@@ -6,7 +6,8 @@ use borrow.Author.Needs.{needs}
 use borrow.Author.Tests.{not-true, not-false}
 use Rattle.math.specs.Bits.{members}
 use Rattle.permutation_theory.specs.Permutations.{covered, permutationsIn}
-use Rattle.check_flips.specs.Laws.FlipLaws.{flipping-begins, flipping-less, flipping-stops, flipping-goes-on, flipping-ends}
+use Rattle.check_flips.specs.Laws.FlipLaws.{flipping-begins, flipping-less, flipping-stops, flipping-goes-on}
+use Rattle.check_flips.specs.Laws.FlipLaws.{flipping-ends}
 use Rattle.check_flips.specs.Laws.Loops.{Flipping}
 use Rattle.check_flips.proofs.flips_covered.Statement.{statement}
 use Rattle.check_flips.proofs.flips_covered.Tie as tie

@@ -1,5 +1,5 @@
--- `check_flips::flips_pass` meets its contract: the images are those of the point, and the set of the clause's variables lists none at n or above.
--- Assumes nothing.
+-- `check_flips::flips_pass` meets its contract: the images are those of the point, and the set of the clause's
+-- variables lists none at n or above. Assumes nothing.
 use mathlib.Core.Path.{sym, ap, _∙_, subst}
 use Prim.Native.Nat.{ℕ, _<_, _^_}
 use Rattle.points.specs.Points.{numbered}

@@ -1,4 +1,5 @@
--- Laws of row 18: the set of a numbered clause's variables, the loop over it, and which entries of the lists the row looks at. Assumes nothing.
+-- Laws of row 18: the set of a numbered clause's variables, the loop over it, and which entries of the lists the row
+-- looks at. Assumes nothing.
 use mathlib.Core.Bool.{Bool, true, false, _&&_}
 use mathlib.Core.List.{List, _∷_, map}
 use mathlib.Core.Option.{Option, some, none}
@@ -37,11 +38,14 @@ module _ (cs : List Clause) where
 
   pub listed-past : (k i : ℕ) → k ≡ 1 + i → length cs ≤ i → _≡_ {A = ℕ} 0 (listedBy (clauseNumbered (numbered cs) k))
   unfolding listedBy
-  listed-past k i e h = sym (ap (λ (j : ℕ). listedBy (clauseNumbered (numbered cs) j)) e ∙ ap listedBy (numbered-at 1 cs i ∙ index-none cs i h))
+  listed-past k i e h = sym (ap (λ (j : ℕ). listedBy (clauseNumbered (numbered cs) j)) e
+      ∙ ap listedBy (numbered-at 1 cs i ∙ index-none cs i h))
 
-  pub listed-at : (k i : ℕ) → k ≡ 1 + i → i < length cs → listed (getD cs i noLiterals) ≡ listedBy (clauseNumbered (numbered cs) k)
+  pub listed-at : (k i : ℕ) → k ≡ 1 + i → i < length cs
+      → listed (getD cs i noLiterals) ≡ listedBy (clauseNumbered (numbered cs) k)
   unfolding listedBy
-  listed-at k i e h = sym (ap (λ (j : ℕ). listedBy (clauseNumbered (numbered cs) j)) e ∙ ap listedBy (numbered-at 1 cs i ∙ index-some cs i noLiterals h))
+  listed-at k i e h = sym (ap (λ (j : ℕ). listedBy (clauseNumbered (numbered cs) j)) e
+      ∙ ap listedBy (numbered-at 1 cs i ∙ index-some cs i noLiterals h))
 
 -- a clause of a formula lists none but the variables below n
 pub listed-within : (n : ℕ) (cs : List Numbered) → ClausesBelow n cs → (k : ℕ) → listedBy (clauseNumbered cs k) < 2 ^ n
@@ -53,10 +57,12 @@ listed-within n cs b k = by (clauseNumbered cs k) refl
     by (some c) e =
         let w = clause-found cs k c e in
         let own = b (w .0) (w .1) in
-        subst (λ (d : Clause). listed d < 2 ^ n) (w .3) (or-lt n (w .0 .clause .positive) (w .0 .clause .negative) (own .positive-below) (own .negative-below))
+        subst (λ (d : Clause). listed d < 2 ^ n) (w .3)
+        (or-lt n (w .0 .clause .positive) (w .0 .clause .negative) (own .positive-below) (own .negative-below))
 
 -- the flips of a point by its clause are those by the set of its variables
-pub flips-listed : (t : ℕ → Bool) (n : ℕ) (o : Option Clause) (x : ℕ) → all t (flipsOf n o x) ≡ allFlips t n x (listedBy o)
+pub flips-listed : (t : ℕ → Bool) (n : ℕ) (o : Option Clause) (x : ℕ)
+    → all t (flipsOf n o x) ≡ allFlips t n x (listedBy o)
 unfolding flipsOf listedBy variables
 flips-listed t n none x = sym (ap (λ (vs : List ℕ). all t (map (flip x) vs)) (members-none n))
 flips-listed t n (some c) x = refl
@@ -82,7 +88,8 @@ module _ (t : ℕ → Bool) (n x s : ℕ) (few : n ≤ 64) where
     pub flipping-stops : v < n → t (flip x v) ≡ false → false ≡ allFlips t n x s
     flipping-stops lt e = sym (turn lt ∙ ap (λ (b : Bool). b && allFlips t n x (flip left v)) e)
 
-    pub flipping-goes-on : {v′ : ℕ} → v < n → t (flip x v) ≡ true → (left′ : ℕ) → left′ ≡ flip left v → NextVariable left′ v′ → Flipping t n x s left′ v′
+    pub flipping-goes-on : {v′ : ℕ} → v < n → t (flip x v) ≡ true → (left′ : ℕ) → left′ ≡ flip left v
+        → NextVariable left′ v′ → Flipping t n x s left′ v′
     flipping-goes-on {v′} lt e left′ q next =
         subst (λ (y : ℕ). Flipping t n x s y v′) (sym q)
         (record {
@@ -93,11 +100,13 @@ module _ (t : ℕ → Bool) (n x s : ℕ) (few : n ≤ 64) where
 
     pub flipping-ends : n ≤ v → true ≡ allFlips t n x s
     unfolding all
-    flipping-ends ge = sym (f .decides ∙ ap (λ (vs : List ℕ). all t (map (flip x) vs)) (next-none n left v few (f .next) (f .within) ge))
+    flipping-ends ge = sym (f .decides
+        ∙ ap (λ (vs : List ℕ). all t (map (flip x) vs)) (next-none n left v few (f .next) (f .within) ge))
 
 -- ---- what can be looked up
 
-module _ {n permutations : ℕ} {images positive negative : List ℕ} {count : ℕ} {points : List ℕ} {heads : ℕ} {links : List ℕ}
+module _ {n permutations : ℕ} {images positive negative : List ℕ} {count : ℕ} {points : List ℕ} {heads : ℕ}
+    {links : List ℕ}
     (t : Testable n permutations images positive negative count points heads links) where
   pub tested-permuting : Permuting n permutations images
   tested-permuting = record { few = t .given .few; listed = t .given .listed; proper = t .given .proper }
@@ -109,32 +118,44 @@ module _ {n permutations : ℕ} {images positive negative : List ℕ} {count : �
       (t .indexed .indexes .narrow i (subst (λ (m : ℕ). i < m) (sym (length-take-le count points (t .enough))) lt))
 
   -- the flips of a point that is indexed, where its images are known
-  pub tested-coverable : (i x : ℕ) → x ≡ getD points i 0 → (moved : List ℕ) → Imaged n permutations images (getD points i 0) moved
+  pub tested-coverable : (i x : ℕ) → x ≡ getD points i 0 → (moved : List ℕ)
+      → Imaged n permutations images (getD points i 0) moved
       → Coverable heads n count points links permutations images moved x
   tested-coverable i x at moved known =
       let own = subst (λ (y : ℕ). Imaged n permutations images y moved) (sym at) known in
-      record { askable = record { few = t .given .few; indexed = t .indexed; narrow = own .narrow }; permuting = tested-permuting; imaged = own .imaged }
+      record {
+        askable = record { few = t .given .few; indexed = t .indexed; narrow = own .narrow };
+        permuting =
+            tested-permuting;
+        imaged = own .imaged;
+      }
 
 -- ---- the test of one point, and the row
 
 module _ (n : ℕ) (cs : List Numbered) (es : List Permutation) where
   -- the test of the point of an index, from its point and its clause's variables
-  pub flips-passed : (points numbers : List ℕ) (count i x s : ℕ) → i < count → x ≡ getD points i 0 → s ≡ listedBy (clauseNumbered cs (getD numbers i 0))
+  pub flips-passed : (points numbers : List ℕ) (count i x s : ℕ) → i < count → x ≡ getD points i 0
+      → s ≡ listedBy (clauseNumbered cs (getD numbers i 0))
       → allFlips (covered es (take count points)) n x s ≡ flipsPass n cs es (take count points) numbers i
   unfolding flipsPass
   flips-passed points numbers count i x s lt at set =
       ap₂ (allFlips (covered es (take count points)) n) (at ∙ sym (getD-take count points i 0 lt)) set
-      ∙ sym (flips-listed (covered es (take count points)) n (clauseNumbered cs (getD numbers i 0)) (getD (take count points) i 0))
+      ∙ sym (flips-listed (covered es (take count points)) n (clauseNumbered cs (getD numbers i 0))
+      (getD (take count points) i 0))
 
   -- the row, of so many points
   pub flips-row : (points numbers : List ℕ) (count : ℕ) → length points ≡ count
       → faultAt 18 (firstFailing (flipsPass n cs es points numbers) (below count)) ≡ flipsFault n cs es points numbers
   unfolding flipsFault
-  flips-row points numbers count e = ap (λ (k : ℕ). faultAt 18 (firstFailing (flipsPass n cs es points numbers) (below k))) (sym e)
+  flips-row points numbers count e = ap (λ (k : ℕ). faultAt 18
+      (firstFailing (flipsPass n cs es points numbers) (below k))) (sym e)
 
   -- it looks at as many numbers as there are points
-  pub flips-fault-take : (points numbers : List ℕ) (count : ℕ) → length points ≡ count → flipsFault n cs es points (take count numbers) ≡ flipsFault n cs es points numbers
+  pub flips-fault-take : (points numbers : List ℕ) (count : ℕ) → length points ≡ count
+      → flipsFault n cs es points (take count numbers) ≡ flipsFault n cs es points numbers
   unfolding flipsFault flipsPass
   flips-fault-take points numbers count e =
-      ap (faultAt 18) (same-failing-below (flipsPass n cs es points (take count numbers)) (flipsPass n cs es points numbers) (length points) (λ i lt.
-      ap (λ (k : ℕ). all (covered es points) (flipsOf n (clauseNumbered cs k) (getD points i 0))) (getD-take count numbers i 0 (subst (λ (k : ℕ). i < k) e lt))))
+      ap (faultAt 18) (same-failing-below (flipsPass n cs es points (take count numbers))
+      (flipsPass n cs es points numbers) (length points) (λ i lt.
+      ap (λ (k : ℕ). all (covered es points) (flipsOf n (clauseNumbered cs k) (getD points i 0)))
+      (getD-take count numbers i 0 (subst (λ (k : ℕ). i < k) e lt))))

@@ -25,7 +25,8 @@ listedBy (some c) = listed c
 abbrev pub allFlips : (ℕ → Bool) → ℕ → ℕ → ℕ → Bool
 allFlips t n x s = all t (map (flip x) (members n s))
 
--- what row 18 looks at besides points and numbers: `count` permutations of n variables, and clauses that list no other variable
+-- what row 18 looks at besides points and numbers: `count` permutations of n variables, and clauses that list no other
+-- variable
 pub record Proper (n count : ℕ) (images positive negative : List ℕ) : Type 0 where
   pub few : n ≤ maxVariables
   pub group : count ≤ maxPermutations
@@ -34,12 +35,14 @@ pub record Proper (n count : ℕ) (images positive negative : List ℕ) : Type 0
   pub below : ClausesBelow n (numbered (clausesOf positive negative))
 
 -- what lets flips be looked up: there are as many points as are to be tested, and the links are an index of them
-pub record Testable (n count : ℕ) (images positive negative : List ℕ) (tested : ℕ) (points : List ℕ) (heads : ℕ) (links : List ℕ) : Type 0 where
+pub record Testable (n count : ℕ) (images positive negative : List ℕ) (tested : ℕ) (points : List ℕ) (heads : ℕ)
+    (links : List ℕ) : Type 0 where
   pub given : Proper n count images positive negative
   pub enough : tested ≤ length (pointsOf points)
   pub indexed : Indexed heads n (take tested (pointsOf points)) links
 
--- the loop over the variables of the set s: those of `left` are still to be tested, v the lowest of them, and they decide
+-- the loop over the variables of the set s: those of `left` are still to be tested, v the lowest of them, and they
+-- decide
 pub record Flipping (t : ℕ → Bool) (n x s left v : ℕ) : Type 0 where
   pub within : left < 2 ^ n
   pub next : NextVariable left v

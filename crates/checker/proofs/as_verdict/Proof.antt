@@ -1,4 +1,5 @@
--- `checker::as_verdict` meets its contract: accepted where nothing was found, else the refusal that was. Assumes nothing.
+-- `checker::as_verdict` meets its contract: accepted where nothing was found, else the refusal that was. Assumes
+-- nothing.
 use mathlib.Core.Path.{_≡_, sym, ap}
 use borrow.Author.Needs.{needs}
 use Rattle.formula.specs.declared.Checked.{Checked}

@@ -10,7 +10,8 @@ use Rattle.permutation_theory.specs.Permutations.{permutationsIn}
 use Rattle.formula.specs.Refusals.{permutationFault, symmetryFault, faultOf}
 use Rattle.formula.specs.Reply.{no-fault}
 use Rattle.formula.specs.Laws.ReplyLaws.{IsFault}
-use Rattle.checker.specs.Laws.PartLaws.{Laid, laid, images-listed, images-proper, stops-11, stops-12, too-many-points, ends-decoded}
+use Rattle.checker.specs.Laws.PartLaws.{Laid, laid, images-listed, images-proper, stops-11, stops-12}
+use Rattle.checker.specs.Laws.PartLaws.{too-many-points, ends-decoded}
 use Rattle.checker.proofs.bodies_refusal.Statement.{statement}
 use Rattle.checker.proofs.bodies_refusal.Tie as tie
 

@@ -5,7 +5,8 @@ use borrow.Author.Needs.{needs}
 use Rattle.formula.specs.Refusals.{faultOf}
 use Rattle.certificate.specs.Certificate.{contentsOf, wellFormed}
 use Rattle.certificate.specs.Contract.{replyOfOpened, contentsIn, handedOut}
-use Rattle.checker.specs.Laws.PartLaws.{stops-14, other-variables, other-clauses, ends-bodies, readable, opened-file}
+use Rattle.checker.specs.Laws.PartLaws.{stops-14, other-variables, other-clauses, ends-bodies, readable}
+use Rattle.checker.specs.Laws.PartLaws.{opened-file}
 use Rattle.checker.proofs.file_refusal.Statement.{statement}
 use Rattle.checker.proofs.file_refusal.Tie as tie
 

@@ -13,7 +13,8 @@ use Rattle.math.specs.Lists.{all, firstFailing, below}
 use Rattle.points.specs.Laws.PointLaws.{satisfies-sound, satisfies-complete}
 use Rattle.points.specs.Points.{satisfies, Numbered, variables}
 use Rattle.point_slices.specs.Slices.{clausesOf}
-use Rattle.permutation_theory.specs.Laws.PermutationLaws.{isPermutation-sound, isPermutation-complete, keeps-sound, keeps-complete, covered-sound, covered-complete}
+use Rattle.permutation_theory.specs.Laws.PermutationLaws.{isPermutation-sound, isPermutation-complete, keeps-sound}
+use Rattle.permutation_theory.specs.Laws.PermutationLaws.{keeps-complete, covered-sound, covered-complete}
 use Rattle.permutation_theory.specs.Permutations.{Permutation, isPermutation, keeps, Covered, covered}
 use Rattle.formula.specs.declared.Formula.{Formula}
 use Rattle.formula.specs.Limits.{maxPermutations, maxSlots}
@@ -22,10 +23,14 @@ use Rattle.formula.specs.Refusals.{clausesFault, permutationFault, symmetryFaul
 use Rattle.formula.specs.Reply.{accepted, no-fault, first, faultAt}
 use Rattle.certificate.specs.Bytes.{numberFrom, pointWidth, numberWidth}
 use Rattle.certificate.specs.Laws.BytesLaws.{length-entries}
-use Rattle.certificate.specs.Certificate.{contentsOf, WellFormed, wellFormed, pointsBody, numbersBody, filePermutations, filePoints, fileNumbers}
+use Rattle.certificate.specs.Certificate.{contentsOf, WellFormed, wellFormed, pointsBody, numbersBody, filePermutations}
+use Rattle.certificate.specs.Certificate.{filePoints, fileNumbers}
 use Rattle.certificate.specs.Laws.CertificateLaws.{wellFormed-sound, wellFormed-complete}
-use Rattle.formula.specs.Laws.ReplyLaws.{first-none, first-split, first-join, tested, test-passed, each-passed, passes-each, below-passed, passes-below, not-refused, accepted-not-refused, unless-sound}
-use Rattle.certificate.specs.Laws.RowLaws.{points-passed, points-pass, clause-found, OwnNumbers, clause-of, numbered-own, number-passed, number-passes}
+use Rattle.formula.specs.Laws.ReplyLaws.{first-none, first-split, first-join, tested, test-passed, each-passed}
+use Rattle.formula.specs.Laws.ReplyLaws.{passes-each, below-passed, passes-below, not-refused, accepted-not-refused}
+use Rattle.formula.specs.Laws.ReplyLaws.{unless-sound}
+use Rattle.certificate.specs.Laws.RowLaws.{points-passed, points-pass, clause-found, OwnNumbers, clause-of}
+use Rattle.certificate.specs.Laws.RowLaws.{numbered-own, number-passed, number-passes}
 use Rattle.certificate.specs.Rows.{fileFault, pointPasses, pointsFault, clauseNumbered, numberPasses, numbersFault}
 use Rattle.check_flips.specs.Flips.{flipsOf, flipsPass, flipsFault}
 use Rattle.checker.specs.Checker.{sameSizes, sizesFault, checkFault, checkReply, Accepts}
@@ -65,8 +70,10 @@ module _ (f : Formula) (positive negative file : List ℕ) where
 
   -- the checker's rows, in their order
   pub check-rows : checkFault f positive negative file
-      ≡ first (clausesFault f positive negative ∷ fileFault file ∷ sizesFault (pb .variables) (pb .total) file ∷ permutationFault (pb .variables) (filePermutations file)
-      ∷ symmetryFault (pb .clauses) (filePermutations file) ∷ pointsFault maxSlots (pb .variables) (length (filePoints file)) (filePoints file)
+      ≡ first (clausesFault f positive negative ∷ fileFault file ∷ sizesFault (pb .variables) (pb .total) file
+      ∷ permutationFault (pb .variables) (filePermutations file)
+      ∷ symmetryFault (pb .clauses) (filePermutations file)
+      ∷ pointsFault maxSlots (pb .variables) (length (filePoints file)) (filePoints file)
       ∷ numbersFault (pb .clauses) (length (filePoints file)) (filePoints file) (fileNumbers file)
       ∷ flipsFault (pb .variables) (pb .clauses) (filePermutations file) (filePoints file) (fileNumbers file) ∷ [])
   unfolding checkFault
@@ -82,13 +89,20 @@ module _ (f : Formula) (positive negative file : List ℕ) where
       let g = first-split _ _ (e .1) in
       let k = first-split _ _ (g .1) in
       let l = first-split _ _ (k .1) in
-      record { row10 = a .0; row14 = b .0; row15 = c .0; rows = record { row11 = d .0; row12 = e .0; row16 = g .0; row17 = k .0; row18 = l .0 } }
+      record {
+        row10 = a .0;
+        row14 = b .0;
+        row15 = c .0;
+        rows =
+            record { row11 = d .0; row12 = e .0; row16 = g .0; row17 = k .0; row18 = l .0 };
+      }
 
   pub passed-checker : CheckerPassed → checkFault f positive negative file ≡ no-fault
   passed-checker p =
       let r = p .rows in
       check-rows
-      ∙ first-join _ _ (p .row10) (first-join _ _ (p .row14) (first-join _ _ (p .row15) (first-join _ _ (r .row11) (first-join _ _ (r .row12)
+      ∙ first-join _ _ (p .row10) (first-join _ _ (p .row14)
+      (first-join _ _ (p .row15) (first-join _ _ (r .row11) (first-join _ _ (r .row12)
       (first-join _ _ (r .row16) (first-join _ _ (r .row17) (first-join _ _ (r .row18) first-none)))))))
 
   own-numbers : OwnNumbers (pb .clauses)
@@ -98,13 +112,15 @@ module _ (f : Formula) (positive negative file : List ℕ) where
 -- ---- the rows that look at lists alone say that the set is stable, and back
 
 module _ (n : ℕ) (cs : List Numbered) (es : List Permutation) (ps ns : List ℕ) where
-  transported-of : (i : ℕ) → numberPasses cs ps ns i ≡ true → flipsPass n cs es ps ns i ≡ true → Transported n cs es ps (getD ps i 0) (getD ns i 0)
+  transported-of : (i : ℕ) → numberPasses cs ps ns i ≡ true → flipsPass n cs es ps ns i ≡ true
+      → Transported n cs es ps (getD ps i 0) (getD ns i 0)
   unfolding flipsPass
   transported-of i p q =
       let found = number-passed cs ps ns i p in
       let w = clause-found cs (getD ns i 0) (found .0) (found .1) in
       let at : clauseNumbered cs (getD ns i 0) ≡ some (w .0 .clause) = found .1 ∙ ap some (sym (w .3)) in
-      let fails : satisfies (w .0 .clause) (getD ps i 0) ≡ false = ap (λ c. satisfies c (getD ps i 0)) (w .3) ∙ found .2 in
+      let fails : satisfies (w .0 .clause) (getD ps i 0) ≡ false = ap (λ c. satisfies c (getD ps i 0)) (w .3)
+      ∙ found .2 in
       let each : all (covered es ps) (map (flip (getD ps i 0)) (variables n (w .0 .clause))) ≡ true =
       sym (ap (λ o. all (covered es ps) (flipsOf n o (getD ps i 0))) at) ∙ q in
       record {
@@ -112,7 +128,8 @@ module _ (n : ℕ) (cs : List Numbered) (es : List Permutation) (ps ns : List �
         member = w .1;
         named = w .2;
         falsified = λ s. true≢false (sym (satisfies-complete (w .0 .clause) (getD ps i 0) s) ∙ fails);
-        flips = λ v m. covered-sound es ps (flip (getD ps i 0) v) (all-at (covered es ps) each (map-in (flip (getD ps i 0)) m));
+        flips = λ v m. covered-sound es ps (flip (getD ps i 0) v)
+            (all-at (covered es ps) each (map-in (flip (getD ps i 0)) m));
       }
 
   pub stable-of-rows : length ns ≡ length ps → ListsPassed n cs es ps ns → Stable n cs es ps ns
@@ -131,20 +148,23 @@ module _ (n : ℕ) (cs : List Numbered) (es : List Permutation) (ps ns : List �
         within = points .0;
         distinct = points .1;
         paired = pairs;
-        transported = λ i lt. transported-of i (below-passed 17 (numberPasses cs ps ns) (length ps) (r .row17) i lt) (below-passed 18 (flipsPass n cs es ps ns) (length ps) (r .row18) i lt);
+        transported = λ i lt. transported-of i (below-passed 17 (numberPasses cs ps ns) (length ps) (r .row17) i lt)
+            (below-passed 18 (flipsPass n cs es ps ns) (length ps) (r .row18) i lt);
       }
 
   module _ (unique : OwnNumbers cs) (s : Stable n cs es ps ns) where
     -- the clause of a point's number is the one that the point falsifies
     clause-at : (i : ℕ) (lt : i < length ps) → clauseNumbered cs (getD ns i 0) ≡ some (s .transported i lt .own .clause)
     clause-at i lt =
-        let t = s .transported i lt in subst (λ (k : ℕ). clauseNumbered cs k ≡ some (t .own .clause)) (t .named) (clause-of cs unique (t .own) (t .member))
+        let t = s .transported i lt in subst (λ (k : ℕ). clauseNumbered cs k ≡ some (t .own .clause)) (t .named)
+        (clause-of cs unique (t .own) (t .member))
 
     number-of-stable : (i : ℕ) → i < length ps → numberPasses cs ps ns i ≡ true
     number-of-stable i lt =
         let t = s .transported i lt in
         number-passes cs ps ns i (t .own .clause) (clause-at i lt)
-        (not-true-false (satisfies (t .own .clause) (getD ps i 0)) (λ e. t .falsified (satisfies-sound (t .own .clause) (getD ps i 0) e)))
+        (not-true-false (satisfies (t .own .clause) (getD ps i 0))
+        (λ e. t .falsified (satisfies-sound (t .own .clause) (getD ps i 0) e)))
 
     flips-of-stable : (i : ℕ) → i < length ps → flipsPass n cs es ps ns i ≡ true
     unfolding flipsPass
@@ -160,11 +180,14 @@ module _ (n : ℕ) (cs : List Numbered) (es : List Permutation) (ps ns : List �
     unfolding permutationFault symmetryFault pointsFault numbersFault flipsFault
     rows-of-stable =
         record {
-          row11 = test-passed (leb (length es) maxPermutations) (faultAt 11 (firstFailing (isPermutation n) es)) 11 17 (le-leb (length es) maxPermutations (s .fewPermutations))
+          row11 = test-passed (leb (length es) maxPermutations) (faultAt 11 (firstFailing (isPermutation n) es)) 11 17
+              (le-leb (length es) maxPermutations (s .fewPermutations))
               (passes-each 11 (isPermutation n) es (λ e m. isPermutation-complete n e (s .arePermutations e m)));
           row12 = passes-each 12 (keeps cs) es (λ e m. keeps-complete cs e (s .keepClauses e m));
-          row16 = test-passed (leb 1 (length ps) && leb (length ps) maxSlots) (faultAt 16 (firstFailing (pointPasses n ps) (below (length ps)))) 16 0
-              (and-join (leb 1 (length ps)) (leb (length ps) maxSlots) (le-leb 1 (length ps) (s .somePoint)) (le-leb (length ps) maxSlots (s .fewPoints)))
+          row16 = test-passed (leb 1 (length ps) && leb (length ps) maxSlots)
+              (faultAt 16 (firstFailing (pointPasses n ps) (below (length ps)))) 16 0
+              (and-join (leb 1 (length ps)) (leb (length ps) maxSlots) (le-leb 1 (length ps) (s .somePoint))
+              (le-leb (length ps) maxSlots (s .fewPoints)))
               (passes-below 16 (pointPasses n ps) (length ps) (points-pass n ps (s .within) (s .distinct)));
           row17 = passes-below 17 (numberPasses cs ps ns) (length ps) number-of-stable;
           row18 = passes-below 18 (flipsPass n cs es ps ns) (length ps) flips-of-stable;
@@ -178,15 +201,18 @@ module _ (f : Formula) (positive negative file : List ℕ) where
   pub accepts-sound : checkReply f positive negative file ≡ accepted → Accepts f positive negative file
   unfolding checkReply fileFault sizesFault sameSizes
   accepts-sound h =
-      let p = checker-passed f positive negative file (not-refused (checkFault f positive negative file) accepted accepted h accepted-not-refused) in
+      let p = checker-passed f positive negative file (not-refused (checkFault f positive negative file) accepted
+      accepted h accepted-not-refused) in
       let w = wellFormed-sound file (tested (wellFormed file) no-fault 14 (length file) (p .row14) .0) in
-      let sizes = and-split _ _ (tested (sameSizes (problem .variables) (problem .total) file) no-fault 15 0 (p .row15) .0) in
+      let sizes = and-split _ _ (tested (sameSizes (problem .variables) (problem .total) file) no-fault 15 0
+      (p .row15) .0) in
       record {
         clausesPass = p .row10;
         inOrder = w;
         sameVariables = eqb-true (contentsOf file .variables) (problem .variables) (sizes .0);
         sameTotal = eqb-true (contentsOf file .clauses) (problem .total) (sizes .1);
-        stable = stable-of-rows (problem .variables) (problem .clauses) (filePermutations file) (filePoints file) (fileNumbers file) (same-lengths file w) (p .rows);
+        stable = stable-of-rows (problem .variables) (problem .clauses) (filePermutations file) (filePoints file)
+            (fileNumbers file) (same-lengths file w) (p .rows);
       }
 
   pub accepts-complete : Accepts f positive negative file → checkReply f positive negative file ≡ accepted
@@ -197,6 +223,8 @@ module _ (f : Formula) (positive negative file : List ℕ) where
       (record {
         row10 = a .clausesPass;
         row14 = test-passed (wellFormed file) no-fault 14 (length file) (wellFormed-complete file (a .inOrder)) refl;
-        row15 = test-passed (sameSizes (problem .variables) (problem .total) file) no-fault 15 0 (and-join _ _ (eq-eqb _ _ (a .sameVariables)) (eq-eqb _ _ (a .sameTotal))) refl;
-        rows = rows-of-stable (problem .variables) (problem .clauses) (filePermutations file) (filePoints file) (fileNumbers file) (own-numbers f positive negative file) (a .stable);
+        row15 = test-passed (sameSizes (problem .variables) (problem .total) file) no-fault 15 0
+            (and-join _ _ (eq-eqb _ _ (a .sameVariables)) (eq-eqb _ _ (a .sameTotal))) refl;
+        rows = rows-of-stable (problem .variables) (problem .clauses) (filePermutations file) (filePoints file)
+            (fileNumbers file) (own-numbers f positive negative file) (a .stable);
       })) accepted

@@ -1,4 +1,5 @@
--- Document 01, 'Sheets to try' and 'Traps': the checker's replies for case A with exchange 2 1, by computation. Assumes nothing.
+-- Document 01, 'Sheets to try' and 'Traps': the checker's replies for case A with exchange 2 1, by computation. Assumes
+-- nothing.
 use mathlib.Core.List.{[], _∷_}
 use mathlib.Core.Path.{_≡_, refl}
 use Rattle.formula.specs.Reply.{accepted, refused}

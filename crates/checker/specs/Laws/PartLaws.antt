@@ -19,11 +19,13 @@ use Rattle.formula.specs.Problem.{problemOf}
 use Rattle.formula.specs.Laws.RefusalLaws.{passes-few, passes-listed, permutation-passes, fits-sound, fits-below}
 use Rattle.formula.specs.Refusals.{Fits, fits, clausesFault, permutationFault, symmetryFault}
 use Rattle.formula.specs.Reply.{Fault, no-fault, fault, first, refused, opened, accepted, unless}
-use Rattle.formula.specs.Laws.ReplyLaws.{IsFault, answers-first, answers-rest, tested, opened-not-refused, refused-fault}
+use Rattle.formula.specs.Laws.ReplyLaws.{IsFault, answers-first, answers-rest, tested, opened-not-refused}
+use Rattle.formula.specs.Laws.ReplyLaws.{refused-fault}
 use Rattle.certificate.specs.declared.Contents.{Contents}
 use Rattle.certificate.specs.Bytes.{numberFrom, numbersIn, pointWidth, numberWidth}
 use Rattle.certificate.specs.Laws.BytesLaws.{length-entries}
-use Rattle.certificate.specs.Certificate.{FileContents, contentsOf, wellFormed, filePermutations, filePoints, fileNumbers}
+use Rattle.certificate.specs.Certificate.{FileContents, contentsOf, wellFormed, filePermutations, filePoints}
+use Rattle.certificate.specs.Certificate.{fileNumbers}
 use Rattle.certificate.specs.Laws.CertificateLaws.{wellFormed-sound}
 use Rattle.certificate.specs.Reader.{openedReply, openedContents}
 use Rattle.certificate.specs.Contract.{contentsIn}
@@ -57,19 +59,25 @@ module _ (c : Contents) (positive negative file : List ℕ) (ok : Readable c pos
   pub listed-part : permutationsIn (c .variables) (c .permutations) images ≡ es
   unfolding contentsIn filePermutations
   listed-part =
-      ap (λ (k : FileContents). permutationsIn (k .variables) (k .permutations) (take (k .pointsAt - k .permutationsAt) (drop (k .permutationsAt) file))) (ok .same)
-      ∙ ap (permutationsIn (contentsOf file .variables) (contentsOf file .permutations)) (permutations-part file (ok .formed))
+      ap (λ (k : FileContents). permutationsIn (k .variables) (k .permutations)
+      (take (k .pointsAt - k .permutationsAt) (drop (k .permutationsAt) file))) (ok .same)
+      ∙ ap (permutationsIn (contentsOf file .variables) (contentsOf file .permutations))
+      (permutations-part file (ok .formed))
 
-  pub point-part : numbersIn pointWidth (c .points) (take (c .«numbers_at» - c .«points_at») (drop (c .«points_at») file)) ≡ filePoints file
+  pub point-part : numbersIn pointWidth (c .points) (take (c .«numbers_at» - c .«points_at»)
+      (drop (c .«points_at») file)) ≡ filePoints file
   unfolding contentsIn filePoints
   point-part =
-      ap (λ (k : FileContents). numbersIn pointWidth (k .points) (take (k .numbersAt - k .pointsAt) (drop (k .pointsAt) file))) (ok .same)
+      ap (λ (k : FileContents). numbersIn pointWidth (k .points)
+      (take (k .numbersAt - k .pointsAt) (drop (k .pointsAt) file))) (ok .same)
       ∙ ap (numbersIn pointWidth (contentsOf file .points)) (points-part file (ok .formed))
 
-  pub number-part : numbersIn numberWidth (c .points) (take (length file - c .«numbers_at») (drop (c .«numbers_at») file)) ≡ fileNumbers file
+  pub number-part : numbersIn numberWidth (c .points) (take (length file - c .«numbers_at»)
+      (drop (c .«numbers_at») file)) ≡ fileNumbers file
   unfolding contentsIn fileNumbers
   number-part =
-      ap (λ (k : FileContents). numbersIn numberWidth (k .points) (take (length file - k .numbersAt) (drop (k .numbersAt) file))) (ok .same)
+      ap (λ (k : FileContents). numbersIn numberWidth (k .points)
+      (take (length file - k .numbersAt) (drop (k .numbersAt) file))) (ok .same)
       ∙ ap₂ (numbersIn numberWidth) (ok .formed .countsAgree) (numbers-part file (ok .formed))
 
   -- where the parts begin and end, and how long they are
@@ -78,39 +86,50 @@ module _ (c : Contents) (positive negative file : List ℕ) (ok : Readable c pos
     pub second-third : c .«points_at» ≤ c .«numbers_at»
     pub third-end : c .«numbers_at» ≤ length file
     pub images-long : c .permutations * c .variables ≤ length images
-    pub points-long : c .points * pointWidth ≤ length (take (c .«numbers_at» - c .«points_at») (drop (c .«points_at») file))
-    pub numbers-long : c .points * numberWidth ≤ length (take (length file - c .«numbers_at») (drop (c .«numbers_at») file))
+    pub points-long : c .points * pointWidth ≤ length (take (c .«numbers_at» - c .«points_at»)
+        (drop (c .«points_at») file))
+    pub numbers-long : c .points * numberWidth
+        ≤ length (take (length file - c .«numbers_at») (drop (c .«numbers_at») file))
 
   pub laid : Laid
   unfolding contentsIn
   laid =
-      let a : c .«permutations_at» ≡ contentsOf file .permutationsAt = ap (λ (k : FileContents). k .permutationsAt) (ok .same) in
+      let a : c .«permutations_at» ≡ contentsOf file .permutationsAt = ap (λ (k : FileContents). k .permutationsAt)
+      (ok .same) in
       let b : c .«points_at» ≡ contentsOf file .pointsAt = ap (λ (k : FileContents). k .pointsAt) (ok .same) in
       let d : c .«numbers_at» ≡ contentsOf file .numbersAt = ap (λ (k : FileContents). k .numbersAt) (ok .same) in
       let e : c .points ≡ contentsOf file .points = ap (λ (k : FileContents). k .points) (ok .same) in
-      let g : c .permutations * c .variables ≡ contentsOf file .permutations * contentsOf file .variables = ap (λ (k : FileContents). k .permutations * k .variables) (ok .same) in
+      let g : c .permutations * c .variables
+      ≡ contentsOf file .permutations * contentsOf file .variables = ap
+      (λ (k : FileContents). k .permutations * k .variables) (ok .same) in
       let w = ok .formed in
       record {
         first-second = omega (arith, a, b, w .permutationsFirst, w .pointsNext);
         second-third = omega (arith, b, d, w .numbersLast);
         third-end = omega (arith, d, w .lengthExact);
-        images-long = part-long (c .«permutations_at») (c .«points_at») (c .permutations * c .variables) file (omega (arith, a, b, g, w .permutationsFirst, w .pointsNext))
+        images-long = part-long (c .«permutations_at») (c .«points_at») (c .permutations * c .variables) file
+            (omega (arith, a, b, g, w .permutationsFirst, w .pointsNext))
             (omega (arith, b, w .numbersLast, w .lengthExact));
-        points-long = part-long (c .«points_at») (c .«numbers_at») (c .points * pointWidth) file (omega (arith, b, d, e, w .numbersLast)) (omega (arith, d, w .lengthExact));
-        numbers-long = part-long (c .«numbers_at») (length file) (c .points * numberWidth) file (omega (arith, d, e, w .countsAgree, w .lengthExact)) (le-refl (length file));
+        points-long = part-long (c .«points_at») (c .«numbers_at») (c .points * pointWidth) file
+            (omega (arith, b, d, e, w .numbersLast)) (omega (arith, d, w .lengthExact));
+        numbers-long = part-long (c .«numbers_at») (length file) (c .points * numberWidth) file
+            (omega (arith, d, e, w .countsAgree, w .lengthExact)) (le-refl (length file));
       }
 
   -- the rows in order
-  pub stops-11 : (r : Fault) → r ≡ permutationFault (c .variables) (permutationsIn (c .variables) (c .permutations) images) → IsFault r
+  pub stops-11 : (r : Fault) → r ≡ permutationFault (c .variables)
+      (permutationsIn (c .variables) (c .permutations) images) → IsFault r
       → r ≡ bodiesFault (c .variables) cs es (filePoints file) (fileNumbers file)
   stops-11 r e h = answers-first r _ _ (e ∙ ap (permutationFault (c .variables)) listed-part) h
 
-  module _ (eleven : permutationFault (c .variables) (permutationsIn (c .variables) (c .permutations) images) ≡ no-fault) where
+  module _ (eleven : permutationFault (c .variables) (permutationsIn (c .variables) (c .permutations) images)
+      ≡ no-fault) where
     row11 : permutationFault (c .variables) es ≡ no-fault
     row11 = ap (permutationFault (c .variables)) (sym listed-part) ∙ eleven
 
     pub images-listed : Listed (c .variables) (c .permutations) images
-    images-listed = passes-listed (c .variables) (c .permutations) images (ok .fitting .few-variables) (laid .images-long) eleven
+    images-listed = passes-listed (c .variables) (c .permutations) images (ok .fitting .few-variables)
+        (laid .images-long) eleven
 
     -- what the tests of the entries take for granted
     pub images-proper : Proper (c .variables) (c .permutations) images positive negative
@@ -123,7 +142,8 @@ module _ (c : Contents) (positive negative file : List ℕ) (ok : Readable c pos
           below = fits-below (c .variables) (c .clauses) positive negative (ok .fitting);
         }
 
-    pub stops-12 : (r : Fault) → r ≡ symmetryFault cs (permutationsIn (c .variables) (c .permutations) images) → IsFault r
+    pub stops-12 : (r : Fault) → r ≡ symmetryFault cs (permutationsIn (c .variables) (c .permutations) images)
+        → IsFault r
         → r ≡ bodiesFault (c .variables) cs es (filePoints file) (fileNumbers file)
     stops-12 r e h = answers-rest r _ _ row11 (answers-first r _ _ (e ∙ ap (symmetryFault cs) listed-part) h)
 
@@ -131,12 +151,16 @@ module _ (c : Contents) (positive negative file : List ℕ) (ok : Readable c pos
       -- the rows 16 to 18 of the lists are the rest
       pub ends-lists : (r : Fault) → r ≡ listsFault (c .variables) cs es (filePoints file) (fileNumbers file)
           → r ≡ bodiesFault (c .variables) cs es (filePoints file) (fileNumbers file)
-      ends-lists r e = answers-rest r _ _ row11 (answers-rest r _ _ (ap (symmetryFault cs) (sym listed-part) ∙ twelve) e)
+      ends-lists r e = answers-rest r _ _ row11 (answers-rest r _ _ (ap (symmetryFault cs) (sym listed-part) ∙ twelve)
+          e)
 
-      pub too-many-points : maxSlots < c .points → fault 16 0 ≡ bodiesFault (c .variables) cs es (filePoints file) (fileNumbers file)
+      pub too-many-points : maxSlots < c .points
+          → fault 16 0 ≡ bodiesFault (c .variables) cs es (filePoints file) (fileNumbers file)
       too-many-points h =
-          ends-lists (fault 16 0) (answers-first (fault 16 0) _ _ (over-limit maxSlots (c .variables) (length (filePoints file)) (filePoints file)
-          (lt-of-lt-of-le h (le-of-eq (sym (ap length (sym point-part) ∙ length-entries numberFrom pointWidth (c .points) _))))) tt)
+          ends-lists (fault 16 0) (answers-first (fault 16 0) _ _
+          (over-limit maxSlots (c .variables) (length (filePoints file)) (filePoints file)
+          (lt-of-lt-of-le h (le-of-eq (sym (ap length (sym point-part)
+          ∙ length-entries numberFrom pointWidth (c .points) _))))) tt)
 
       pub ends-decoded : (r : Fault)
           → r ≡ listsFault (c .variables) cs (permutationsIn (c .variables) (c .permutations) images)
@@ -154,27 +178,32 @@ module _ (n m : ℕ) (positive negative file : List ℕ) where
       let es = filePermutations file in
       let ps = filePoints file in
       let ns = fileNumbers file in
-      permutationFault n es ∷ symmetryFault cs es ∷ pointsFault maxSlots n (length ps) ps ∷ numbersFault cs (length ps) ps ns ∷ flipsFault n cs es ps ns ∷ []
+      permutationFault n es ∷ symmetryFault cs es ∷ pointsFault maxSlots n (length ps) ps
+      ∷ numbersFault cs (length ps) ps ns ∷ flipsFault n cs es ps ns ∷ []
 
   -- a file that the plain reader refuses
-  pub stops-14 : (code place : ℕ) → refused code place ≡ openedReply file → fault code place ≡ fileRows n m positive negative file
+  pub stops-14 : (code place : ℕ) → refused code place ≡ openedReply file
+      → fault code place ≡ fileRows n m positive negative file
   unfolding openedReply
   stops-14 code place e =
-      answers-first (fault code place) (fileFault file) (sizesFault n m file ∷ rows) (refused-fault (fileFault file) opened opened-not-refused code place e) tt
+      answers-first (fault code place) (fileFault file) (sizesFault n m file ∷ rows)
+      (refused-fault (fileFault file) opened opened-not-refused code place e) tt
 
   module _ (c : Contents) (formed : wellFormed file ≡ true) (same : contentsIn c ≡ contentsOf file) where
     row14 : fileFault file ≡ no-fault
     unfolding fileFault
     row14 = ap (λ (b : Bool). cond b no-fault (fault 14 (length file))) formed
 
-    sizes : (a b : Bool) → eqb (c .variables) n ≡ a → eqb (c .clauses) m ≡ b → sizesFault n m file ≡ cond (a && b) no-fault (fault 15 0)
+    sizes : (a b : Bool) → eqb (c .variables) n ≡ a → eqb (c .clauses) m ≡ b
+        → sizesFault n m file ≡ cond (a && b) no-fault (fault 15 0)
     unfolding sizesFault sameSizes contentsIn
     sizes a b p q =
         ap (λ (k : FileContents). cond (eqb (k .variables) n && eqb (k .clauses) m) no-fault (fault 15 0)) (sym same)
         ∙ ap₂ (λ (x y : Bool). cond (x && y) no-fault (fault 15 0)) p q
 
     pub stops-15 : sizesFault n m file ≡ fault 15 0 → fault 15 0 ≡ fileRows n m positive negative file
-    stops-15 e = answers-rest (fault 15 0) (fileFault file) (sizesFault n m file ∷ rows) row14 (answers-first (fault 15 0) (sizesFault n m file) rows (sym e) tt)
+    stops-15 e = answers-rest (fault 15 0) (fileFault file) (sizesFault n m file ∷ rows) row14
+        (answers-first (fault 15 0) (sizesFault n m file) rows (sym e) tt)
 
     pub other-variables : (c .variables ≡ n → ⊥) → fault 15 0 ≡ fileRows n m positive negative file
     other-variables ne = stops-15 (sizes false (eqb (c .clauses) m) (ne-eqb (c .variables) n ne) refl)
@@ -183,26 +212,32 @@ module _ (n m : ℕ) (positive negative file : List ℕ) where
     other-clauses e ne = stops-15 (sizes true false (eq-eqb (c .variables) n e) (ne-eqb (c .clauses) m ne))
 
     pub ends-bodies : c .variables ≡ n → c .clauses ≡ m → (r : Fault)
-        → r ≡ bodiesFault (c .variables) (numbered (clausesOf positive negative)) (filePermutations file) (filePoints file) (fileNumbers file) → r ≡ fileRows n m positive negative file
+        → r ≡ bodiesFault (c .variables) (numbered (clausesOf positive negative)) (filePermutations file)
+        (filePoints file) (fileNumbers file) → r ≡ fileRows n m positive negative file
     ends-bodies e g r h =
         answers-rest r (fileFault file) (sizesFault n m file ∷ rows) row14
-        (answers-rest r (sizesFault n m file) rows (sizes true true (eq-eqb (c .variables) n e) (eq-eqb (c .clauses) m g))
-        (h ∙ ap (λ (k : ℕ). bodiesFault k (numbered (clausesOf positive negative)) (filePermutations file) (filePoints file) (fileNumbers file)) e))
+        (answers-rest r (sizesFault n m file) rows (sizes true true (eq-eqb (c .variables) n e)
+        (eq-eqb (c .clauses) m g))
+        (h ∙ ap (λ (k : ℕ). bodiesFault k (numbered (clausesOf positive negative)) (filePermutations file)
+        (filePoints file) (fileNumbers file)) e))
 
     pub readable : c .variables ≡ n → c .clauses ≡ m → Fits n m positive negative → Readable c positive negative file
     readable e g f =
         record {
           formed = wellFormed-sound file formed;
           same = same;
-          fitting = subst (λ (k : ℕ). Fits k (c .clauses) positive negative) (sym e) (subst (λ (k : ℕ). Fits n k positive negative) (sym g) f);
+          fitting = subst (λ (k : ℕ). Fits k (c .clauses) positive negative) (sym e)
+              (subst (λ (k : ℕ). Fits n k positive negative) (sym g) f);
         }
 
 -- what the plain reader's contents tell
-pub opened-file : (file : List ℕ) (c : Contents) → some (contentsIn c) ≡ openedContents file → (wellFormed file ≡ true) × (contentsIn c ≡ contentsOf file)
+pub opened-file : (file : List ℕ) (c : Contents) → some (contentsIn c) ≡ openedContents file
+    → (wellFormed file ≡ true) × (contentsIn c ≡ contentsOf file)
 unfolding openedContents
 opened-file file c h = by (wellFormed file) refl h
   where
-    by : (b : Bool) → wellFormed file ≡ b → some (contentsIn c) ≡ cond b (some (contentsOf file)) none → (wellFormed file ≡ true) × (contentsIn c ≡ contentsOf file)
+    by : (b : Bool) → wellFormed file ≡ b → some (contentsIn c) ≡ cond b (some (contentsOf file)) none
+        → (wellFormed file ≡ true) × (contentsIn c ≡ contentsOf file)
     by true e h = let same : contentsIn c ≡ contentsOf file = cc in (e, same)
     by false e h = absurd (Option·some-ne-none (contentsIn c) h)
 
@@ -210,22 +245,28 @@ opened-file file c h = by (wellFormed file) refl h
 
 module _ (f : Formula) (positive negative file : List ℕ) where
   -- its rows are refusal 10 and the file's
-  all-rows : checkFault f positive negative file ≡ first (clausesFault f positive negative ∷ fileFault file ∷ sizesFault (f .variables) (f .clauses) file ∷ rows (f .variables) (f .clauses) positive negative file)
+  all-rows : checkFault f positive negative file
+      ≡ first (clausesFault f positive negative ∷ fileFault file ∷ sizesFault (f .variables) (f .clauses) file
+      ∷ rows (f .variables) (f .clauses) positive negative file)
   unfolding problemOf
   all-rows = check-rows f positive negative file
 
-  answered : (r : Fault) → r ≡ checkFault f positive negative file → unless r accepted ≡ checkReply f positive negative file
+  answered : (r : Fault) → r ≡ checkFault f positive negative file
+      → unless r accepted ≡ checkReply f positive negative file
   unfolding checkReply
   answered r e = ap (λ (t : Fault). unless t accepted) e
 
-  pub stops-10 : (r : Fault) → r ≡ clausesFault f positive negative → IsFault r → unless r accepted ≡ checkReply f positive negative file
+  pub stops-10 : (r : Fault) → r ≡ clausesFault f positive negative → IsFault r
+      → unless r accepted ≡ checkReply f positive negative file
   stops-10 r e h = answered r (answers-first r _ _ e h ∙ sym all-rows)
 
-  pub ends-file : (r : Fault) → clausesFault f positive negative ≡ no-fault → r ≡ fileRows (f .variables) (f .clauses) positive negative file
+  pub ends-file : (r : Fault) → clausesFault f positive negative ≡ no-fault
+      → r ≡ fileRows (f .variables) (f .clauses) positive negative file
       → unless r accepted ≡ checkReply f positive negative file
   ends-file r ten e = answered r (answers-rest r _ _ ten e ∙ sym all-rows)
 
   -- what refusal 10 leaves certain
   pub clauses-fit : clausesFault f positive negative ≡ no-fault → Fits (f .variables) (f .clauses) positive negative
   unfolding clausesFault
-  clauses-fit h = fits-sound (f .variables) (f .clauses) positive negative (tested (fits (f .variables) (f .clauses) positive negative) no-fault 10 0 h .0)
+  clauses-fit h = fits-sound (f .variables) (f .clauses) positive negative
+      (tested (fits (f .variables) (f .clauses) positive negative) no-fault 10 0 h .0)

@@ -19,7 +19,8 @@ use Rattle.checker.specs.Checker.{sizesFault}
 -- the rows 11 and 12 of the permutations, then those of the entries
 abbrev pub bodiesFault : ℕ → List Numbered → List Permutation → List ℕ → List ℕ → Fault
 bodiesFault n cs es ps ns =
-    first (permutationFault n es ∷ symmetryFault cs es ∷ pointsFault maxSlots n (length ps) ps ∷ numbersFault cs (length ps) ps ns ∷ flipsFault n cs es ps ns ∷ [])
+    first (permutationFault n es ∷ symmetryFault cs es ∷ pointsFault maxSlots n (length ps) ps
+    ∷ numbersFault cs (length ps) ps ns ∷ flipsFault n cs es ps ns ∷ [])
 
 -- before them the rows 14 and 15, of a file
 abbrev pub fileRows : ℕ → ℕ → List ℕ → List ℕ → List ℕ → Fault
@@ -28,7 +29,8 @@ fileRows n m positive negative file =
     let es = filePermutations file in
     let ps = filePoints file in
     let ns = fileNumbers file in
-    first (fileFault file ∷ sizesFault n m file ∷ permutationFault n es ∷ symmetryFault cs es ∷ pointsFault maxSlots n (length ps) ps ∷ numbersFault cs (length ps) ps ns
+    first (fileFault file ∷ sizesFault n m file ∷ permutationFault n es ∷ symmetryFault cs es
+    ∷ pointsFault maxSlots n (length ps) ps ∷ numbersFault cs (length ps) ps ns
     ∷ flipsFault n cs es ps ns ∷ [])
 
 -- c is what the well-formed file's first bytes say, and the clauses fit its n: rows 10, 14 and 15 see to it

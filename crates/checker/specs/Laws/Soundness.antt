@@ -20,13 +20,16 @@ sound-below : (f : Formula) (positive negative : List ℕ) → clausesFault f po
 unfolding clausesFault problemOf
 sound-below f positive negative h =
     fits-below (f .variables) (f .clauses) positive negative
-    (fits-sound (f .variables) (f .clauses) positive negative (tested (fits (f .variables) (f .clauses) positive negative) no-fault 10 0 h .0))
+    (fits-sound (f .variables) (f .clauses) positive negative
+    (tested (fits (f .variables) (f .clauses) positive negative) no-fault 10 0 h .0))
 
--- ---- D3.6: "An accepted certificate, whoever made it and whether its sheet is an accepted one or not, means that none of the 2^n choices meets
--- the rules it was checked against."
+-- ---- D3.6: "An accepted certificate, whoever made it and whether its sheet is an accepted one or not, means that none
+-- of the 2^n choices meets the rules it was checked against."
 
-pub accepted-refutes : (f : Formula) (positive negative file : List ℕ) → checkReply f positive negative file ≡ accepted → Unsatisfiable (problemOf f positive negative)
+pub accepted-refutes : (f : Formula) (positive negative file : List ℕ) → checkReply f positive negative file ≡ accepted
+    → Unsatisfiable (problemOf f positive negative)
 accepted-refutes f positive negative file h =
     let a = accepts-sound f positive negative file h in
-    stable-refutes (problemOf f positive negative .variables) (problemOf f positive negative .clauses) (filePermutations file) (filePoints file) (fileNumbers file)
+    stable-refutes (problemOf f positive negative .variables) (problemOf f positive negative .clauses)
+    (filePermutations file) (filePoints file) (fileNumbers file)
     (a .stable) (sound-below f positive negative (a .clausesPass))

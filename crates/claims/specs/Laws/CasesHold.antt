@@ -8,7 +8,8 @@ use Rattle.certificate.specs.Writer.{certificateOf}
 use Rattle.checker.specs.Checker.{checkReply}
 use Rattle.dimacs_format.specs.Laws.Example.{satisfiable-text}
 use Rattle.dimacs_format.specs.Reader.{readReply, readFormula, readPositive, readNegative}
-use Rattle.claims.specs.Cases.{certificateIn, Holds, AllHold, positiveA, negativeA, caseA, caseA-swap, caseA-3, caseA-4, caseB, caseB-3, case-none, case-empty, case-both, cases, Yields}
+use Rattle.claims.specs.Cases.{certificateIn, Holds, AllHold, positiveA, negativeA, caseA, caseA-swap, caseA-3}
+use Rattle.claims.specs.Cases.{caseA-4, caseB, caseB-3, case-none, case-empty, case-both, cases, Yields}
 
 hold-A-swap : Holds caseA-swap
 unfolding searchReply searchSlots certificateOf contentsOf bit flip
@@ -48,7 +49,19 @@ hold-both = record { answered = refl; filled = tt; certified = tt }
 
 -- G.d: all nine
 pub cases-hold : AllHold cases
-cases-hold = (hold-A, (hold-A-swap, (hold-A-3, (hold-A-4, (hold-B, (hold-B-3, (hold-none, (hold-empty, (hold-both, tt)))))))))
+cases-hold = (
+  hold-A,
+  (
+    hold-A-swap,
+    (
+      hold-A-3,
+      (
+        hold-A-4,
+        (hold-B, (hold-B-3, (hold-none, (hold-empty, (hold-both, tt))))),
+      ),
+    ),
+  ),
+)
 
 -- ---- the certificate of A with exchange 2 1 is accepted, and the program's example is B
 

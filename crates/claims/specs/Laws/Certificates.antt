@@ -1,5 +1,5 @@
--- The certificate of an unsatisfiable formula: the slots that the search leaves pass the writer's tests, and what the writer then puts out is
--- a stable set, so the checker accepts it. Assumes nothing.
+-- The certificate of an unsatisfiable formula: the slots that the search leaves pass the writer's tests, and what the
+-- writer then puts out is a stable set, so the checker accepts it. Assumes nothing.
 use mathlib.Core.Bool.{true, _&&_}
 use mathlib.Core.List.{List, [], _++_, map, Memᴰ·append-right}
 use mathlib.Core.Path.{_≡_, refl, sym, ap, _∙_, subst}
@@ -23,7 +23,8 @@ use Rattle.formula.specs.Limits.{maxSlots, capacity}
 use Rattle.formula.specs.Problem.{Problem, problemOf}
 use Rattle.formula.specs.Laws.RefusalLaws.{formula-passes, permutation-passes, symmetry-passes, fits-complete}
 use Rattle.formula.specs.Refusals.{clausesFault, formulaFault, permutationFault, symmetryFault}
-use Rattle.formula.specs.Reply.{Reply, refused, unsatisfiable, written, accepted, no-fault, fault, first, faultAt, unless, unlessKept, Fault}
+use Rattle.formula.specs.Reply.{Reply, refused, unsatisfiable, written, accepted, no-fault, fault, first, faultAt}
+use Rattle.formula.specs.Reply.{unless, unlessKept, Fault}
 use Rattle.formula.specs.Laws.ReplyLaws.{first-skips, first-stops, test-passed, passes-below, not-refused}
 use Rattle.search.specs.Laws.Accepted.{rows, answered}
 use Rattle.search_theory.specs.Laws.Promised.{ClosedSlots}
@@ -32,7 +33,8 @@ use Rattle.search.specs.Search.{lentBy, searchFault, searchReply, searchSlots, 
 use Rattle.search.specs.Laws.Theorems.{search-closed, slots-filled}
 use Rattle.search_theory.specs.Walk.{Slot, slot, walked}
 use Rattle.certificate.specs.Certificate.{filePoints, fileNumbers}
-use Rattle.certificate.specs.Laws.RowLaws.{points-pass, point-passes-take, clause-of, numbered-own, number-passes, OwnNumbers}
+use Rattle.certificate.specs.Laws.RowLaws.{points-pass, point-passes-take, clause-of, numbered-own, number-passes}
+use Rattle.certificate.specs.Laws.RowLaws.{OwnNumbers}
 use Rattle.certificate.specs.Rows.{pointPasses, pointsFault, clauseNumbered, numberPasses, numbersFault, roomFault}
 use Rattle.certificate.specs.Writer.{lengthNeeded, certificateOf, writeFault, writeReply, writeOutput}
 use Rattle.certificate.specs.Laws.WriterLaws.{write-rows, passed-writer, reply-written, reads-back, past-unchanged}
@@ -46,7 +48,8 @@ slotD : Slot
 slotD = slot 0 0 0
 
 -- the part of the slot of index i
-part-at : (part : Slot → ℕ) → part (slot 0 0 0) ≡ 0 → (l : List Slot) (i : ℕ) → getD (map part l) i 0 ≡ part (getD l i (slot 0 0 0))
+part-at : (part : Slot → ℕ) → part (slot 0 0 0) ≡ 0 → (l : List Slot) (i : ℕ)
+    → getD (map part l) i 0 ≡ part (getD l i (slot 0 0 0))
 part-at part e l i = ap (getD (map part l) i) (sym e) ∙ List·getD-map part l i (slot 0 0 0)
 
 -- a clause that is the first falsified one is among the clauses
@@ -72,7 +75,8 @@ module _ (f : Formula) (positive negative points falsified depths : List ℕ) wh
 
     passed : searchFault f positive negative lent ≡ no-fault
     unfolding searchReply
-    passed = not-refused (searchFault f positive negative lent) (walked pb lent .reply) (unsatisfiable k) reply unsatisfiable-not-refused
+    passed = not-refused (searchFault f positive negative lent) (walked pb lent .reply) (unsatisfiable k) reply
+        unsatisfiable-not-refused
 
     closed : ClosedSlots pb l
     closed = search-closed f positive negative lent k reply .0
@@ -93,10 +97,12 @@ module _ (f : Formula) (positive negative points falsified depths : List ℕ) wh
     after-is part old = ap (λ t. unlessKept t (over (map part l) old) old) passed
 
     after-length : (part : Slot → ℕ) (old : List ℕ) → lent ≤ length old → length (after part old) ≡ length old
-    after-length part old h = ap length (after-is part old) ∙ over-length (map part l) old (le-trans (le-of-eq (length-map l part)) (le-trans few h))
+    after-length part old h = ap length (after-is part old)
+        ∙ over-length (map part l) old (le-trans (le-of-eq (length-map l part)) (le-trans few h))
 
     after-front : (part : Slot → ℕ) (old : List ℕ) → take k (after part old) ≡ map part l
-    after-front part old = ap (take k) (after-is part old) ∙ over-front k (map part l) old (length-map l part ∙ sym counted)
+    after-front part old = ap (take k) (after-is part old)
+        ∙ over-front k (map part l) old (length-map l part ∙ sym counted)
 
     abbrev points′ : List ℕ
     points′ = after (λ (s : Slot). s .point) points
@@ -116,12 +122,15 @@ module _ (f : Formula) (positive negative points falsified depths : List ℕ) wh
         let e = after-length (λ (s : Slot). s .point) points (lent-parts .0) in
         let g = after-length (λ (s : Slot). s .falsified) falsified (lent-parts .1) in
         let h = after-length (λ (s : Slot). s .depth) depths (lent-parts .2) in
-        ap (λ a. capacity a (length falsified′) (length depths′)) e ∙ ap (λ b. capacity (length points) b (length depths′)) g ∙ ap (capacity (length points) (length falsified)) h
+        ap (λ a. capacity a (length falsified′) (length depths′)) e
+        ∙ ap (λ b. capacity (length points) b (length depths′)) g ∙ ap (capacity (length points) (length falsified)) h
 
     -- ---- the writer's tests
 
     -- the rows 10, 11 and 12 are the search's
-    sheet-passed : (formulaFault f positive negative ≡ no-fault) × (permutationFault (pb .variables) (pb .permutations) ≡ no-fault) × (symmetryFault (pb .clauses) (pb .permutations) ≡ no-fault)
+    sheet-passed : (formulaFault f positive negative ≡ no-fault)
+        × (permutationFault (pb .variables) (pb .permutations) ≡ no-fault)
+        × (symmetryFault (pb .clauses) (pb .permutations) ≡ no-fault)
     unfolding problemOf
     sheet-passed = let r = rows f positive negative lent passed in (r .0, r .1, r .2)
 
@@ -135,15 +144,18 @@ module _ (f : Formula) (positive negative points falsified depths : List ℕ) wh
     ks = map (λ (s : Slot). s .falsified) l
 
     points-below : (x : ℕ) → x ∈ xs → x < 2 ^ pb .variables
-    points-below x m = let w = map-out (λ (s : Slot). s .point) l m in subst (λ y. y < 2 ^ pb .variables) (sym (w .2)) (closed .below (w .0) (w .1))
+    points-below x m = let w = map-out (λ (s : Slot). s .point) l m in subst (λ y. y < 2 ^ pb .variables) (sym (w .2))
+        (closed .below (w .0) (w .1))
 
     own-numbers : OwnNumbers cs
     unfolding problemOf
     own-numbers = numbered-own 1 (clausesOf positive negative)
 
     -- an entry of a slice among the first k is that of the slots
-    front-at : (part : Slot → ℕ) → part (slot 0 0 0) ≡ 0 → (old : List ℕ) (i : ℕ) → i < k → getD (after part old) i 0 ≡ part (getD l i (slot 0 0 0))
-    front-at part e old i lt = sym (getD-take k (after part old) i 0 lt) ∙ ap (λ q. getD q i 0) (after-front part old) ∙ part-at part e l i
+    front-at : (part : Slot → ℕ) → part (slot 0 0 0) ≡ 0 → (old : List ℕ) (i : ℕ) → i < k
+        → getD (after part old) i 0 ≡ part (getD l i (slot 0 0 0))
+    front-at part e old i lt = sym (getD-take k (after part old) i 0 lt) ∙ ap (λ q. getD q i 0) (after-front part old)
+        ∙ part-at part e l i
 
     within : (i : ℕ) → i < k → i < length l
     within i lt = subst (λ m. i < m) counted lt
@@ -152,16 +164,20 @@ module _ (f : Formula) (positive negative points falsified depths : List ℕ) wh
     unfolding pointsFault
     row16 =
         let some : 1 ≤ k = subst (λ m. 1 ≤ m) (sym counted) (closed .nonempty) in
-        let most : k ≤ lentBy points′ falsified′ depths′ = subst (λ m. m ≤ lentBy points′ falsified′ depths′) (sym counted) (le-trans few (le-of-eq (sym same-lent))) in
-        test-passed (leb 1 k && leb k (lentBy points′ falsified′ depths′)) (faultAt 16 (firstFailing (pointPasses (pb .variables) points′) (below k))) 16 0
-        (and-join (leb 1 k) (leb k (lentBy points′ falsified′ depths′)) (le-leb 1 k some) (le-leb k (lentBy points′ falsified′ depths′) most))
+        let most : k ≤ lentBy points′ falsified′ depths′ = subst (λ m. m ≤ lentBy points′ falsified′ depths′)
+        (sym counted) (le-trans few (le-of-eq (sym same-lent))) in
+        test-passed (leb 1 k && leb k (lentBy points′ falsified′ depths′))
+        (faultAt 16 (firstFailing (pointPasses (pb .variables) points′) (below k))) 16 0
+        (and-join (leb 1 k) (leb k (lentBy points′ falsified′ depths′)) (le-leb 1 k some)
+        (le-leb k (lentBy points′ falsified′ depths′) most))
         (passes-below 16 (pointPasses (pb .variables) points′) k each)
       where
         each : (i : ℕ) → i < k → pointPasses (pb .variables) points′ i ≡ true
         each i lt =
             sym (point-passes-take (pb .variables) points′ k i lt)
             ∙ ap (λ q. pointPasses (pb .variables) q i) (after-front (λ (s : Slot). s .point) points)
-            ∙ points-pass (pb .variables) xs points-below (closed .distinct) i (lt-of-lt-of-le (within i lt) (le-of-eq (sym (length-map l (λ (s : Slot). s .point)))))
+            ∙ points-pass (pb .variables) xs points-below (closed .distinct) i
+            (lt-of-lt-of-le (within i lt) (le-of-eq (sym (length-map l (λ (s : Slot). s .point)))))
 
     row17 : numbersFault cs k (pointsOf points′) falsified′ ≡ no-fault
     unfolding numbersFault
@@ -171,11 +187,14 @@ module _ (f : Formula) (positive negative points falsified depths : List ℕ) wh
         each i lt =
             let t = getD l i (slot 0 0 0) in
             let m = closed .settled t (getD-in l i (slot 0 0 0) (within i lt)) .moved in
-            let number : getD falsified′ i 0 ≡ m .clause .number = front-at (λ (s : Slot). s .falsified) refl falsified i lt ∙ m .number in
+            let number : getD falsified′ i 0
+            ≡ m .clause .number = front-at (λ (s : Slot). s .falsified) refl falsified i lt ∙ m .number in
             let point : getD points′ i 0 ≡ t .point = front-at (λ (s : Slot). s .point) refl points i lt in
             number-passes cs points′ falsified′ i (m .clause .clause)
-            (ap (clauseNumbered cs) number ∙ clause-of cs own-numbers (m .clause) (first-member cs (t .point) (m .clause) (m .first)))
-            (ap (satisfies (m .clause .clause)) point ∙ unsatisfied (m .clause .clause) (t .point) (m .first .falsified))
+            (ap (clauseNumbered cs) number
+            ∙ clause-of cs own-numbers (m .clause) (first-member cs (t .point) (m .clause) (m .first)))
+            (ap (satisfies (m .clause .clause)) point
+            ∙ unsatisfied (m .clause .clause) (t .point) (m .first .falsified))
 
     -- ---- what the writer answers and puts out
 
@@ -198,7 +217,8 @@ module _ (f : Formula) (positive negative points falsified depths : List ℕ) wh
       short-fault lt =
           let r = sheet-passed in
           write-rows f positive negative points′ falsified′ depths′ k out
-          ∙ first-skips _ _ (r .0) ∙ first-skips _ _ (r .1) ∙ first-skips _ _ (r .2) ∙ first-skips _ _ row16 ∙ first-skips _ _ row17
+          ∙ first-skips _ _ (r .0) ∙ first-skips _ _ (r .1) ∙ first-skips _ _ (r .2) ∙ first-skips _ _ row16
+          ∙ first-skips _ _ row17
           ∙ first-stops (roomFault size (length out)) [] 19 size (rw (lt-leb size (length out) lt))
 
       pub short-reply : length out < size → reply-of ≡ refused 19 size
@@ -207,14 +227,23 @@ module _ (f : Formula) (positive negative points falsified depths : List ℕ) wh
 
       pub short-output : length out < size → output ≡ out
       unfolding writeOutput
-      short-output lt = ap (λ t. unlessKept t (certificateOf pb points′ falsified′ k ++ drop size out) out) (short-fault lt)
+      short-output lt = ap (λ t. unlessKept t (certificateOf pb points′ falsified′ k ++ drop size out) out)
+          (short-fault lt)
 
       long-passes : size ≤ length out → faults ≡ no-fault
       unfolding roomFault
       long-passes le =
           let r = sheet-passed in
           passed-writer f positive negative points′ falsified′ depths′ k out
-          (record { row10 = r .0; row11 = r .1; row12 = r .2; row16 = row16; row17 = row17; row19 = rw (le-leb size (length out) le) })
+          (record {
+            row10 = r .0;
+            row11 = r .1;
+            row12 = r .2;
+            row16 = row16;
+            row17 = row17;
+            row19 = rw
+                (le-leb size (length out) le);
+          })
 
       pub long-reply : size ≤ length out → reply-of ≡ written size
       long-reply le = reply-written f positive negative points′ falsified′ depths′ k out (long-passes le)
@@ -224,7 +253,8 @@ module _ (f : Formula) (positive negative points falsified depths : List ℕ) wh
 
     -- ---- the slots are a stable set, in the checker's form
 
-    transported : (i : ℕ) → i < length xs → Transported (pb .variables) cs (pb .permutations) xs (getD xs i 0) (getD ks i 0)
+    transported : (i : ℕ) → i < length xs
+        → Transported (pb .variables) cs (pb .permutations) xs (getD xs i 0) (getD ks i 0)
     transported i lt =
         let at : i < length l = subst (λ m. i < m) (length-map l (λ (s : Slot). s .point)) lt in
         let t = getD l i (slot 0 0 0) in
@@ -257,14 +287,18 @@ module _ (f : Formula) (positive negative points falsified depths : List ℕ) wh
 
     clauses-sound : clausesFault f positive negative ≡ no-fault
     unfolding clausesFault
-    clauses-sound = rw (fits-complete (f .variables) (f .clauses) positive negative (formula-passes f positive negative (sheet-passed .0) .0))
+    clauses-sound = rw (fits-complete (f .variables) (f .clauses) positive negative
+        (formula-passes f positive negative (sheet-passed .0) .0))
 
     -- D3.4: "Its certificate is then accepted."
-    pub long-accepted : (out : List ℕ) → size ≤ length out → checkReply f positive negative (take size (output out)) ≡ accepted
+    pub long-accepted : (out : List ℕ) → size ≤ length out
+        → checkReply f positive negative (take size (output out)) ≡ accepted
     long-accepted out le =
         let w = reads-back f positive negative points′ falsified′ depths′ k out size (long-reply out le) in
-        let same-points : filePoints (take size (output out)) ≡ xs = w .readsPoints ∙ after-front (λ (s : Slot). s .point) points in
-        let same-numbers : fileNumbers (take size (output out)) ≡ ks = w .readsNumbers ∙ after-front (λ (s : Slot). s .falsified) falsified in
+        let same-points : filePoints (take size (output out)) ≡ xs = w .readsPoints
+        ∙ after-front (λ (s : Slot). s .point) points in
+        let same-numbers : fileNumbers (take size (output out)) ≡ ks = w .readsNumbers
+        ∙ after-front (λ (s : Slot). s .falsified) falsified in
         accepts-complete f positive negative (take size (output out))
         (record {
           clausesPass = clauses-sound;

@@ -1,4 +1,5 @@
--- Nothing in the claim is vacuous: for each of its fields a worked case is an instance, and what the field then says of it. Assumes nothing.
+-- Nothing in the claim is vacuous: for each of its fields a worked case is an instance, and what the field then says of
+-- it. Assumes nothing.
 use mathlib.Core.List.{[], _∷_}
 use mathlib.Core.Path.{_≡_, refl}
 use Prim.Native.Nat.{ℕ}
@@ -15,7 +16,8 @@ use Rattle.search.specs.Search.{searchReply}
 use Rattle.certificate.specs.Writer.{lengthNeeded}
 use Rattle.claims.specs.Cases.{Case, caseA-swap, caseA-3, caseA-4, caseB, certificateIn}
 use Rattle.claims.specs.Laws.CasesHold.{swap-accepted}
-use Rattle.claims.specs.Claim.{Sheet, from-text, by-value, problemIn, Slots, SearchAnswers, Meets, AtLeast, Certified}
+use Rattle.claims.specs.Claim.{Sheet, from-text, by-value, problemIn, Slots, SearchAnswers, Meets, AtLeast}
+use Rattle.claims.specs.Claim.{Certified}
 use Rattle.claims.specs.Laws.Theorem.{claim}
 
 -- the sheet of a case, by value, and three slices of p places
@@ -67,7 +69,8 @@ nearest-text = claim .nearest sheetText (places 5) 2 1 4 answered-text .2
 
 -- 2: A cannot be met, with exchange 2 1
 pub refuted-A : Unsatisfiable (problemIn (sheetOf caseA-swap))
-refuted-A = claim .exactly (sheetOf caseA-swap) (places 4) (unsatisfiable 3) answered-A (λ b k e. let z : _≡_ {A = ℕ} 0 1 = cc in omega arith) .0 (3, refl)
+refuted-A = claim .exactly (sheetOf caseA-swap) (places 4) (unsatisfiable 3) answered-A
+    (λ b k e. let z : _≡_ {A = ℕ} 0 1 = cc in omega arith) .0 (3, refl)
 
 -- 3: its certificate is 70 bytes long; an output of 71 takes it, and the checker accepts it; one of 69 is refused
 pub certified-A : Certified (sheetOf caseA-swap) (places 4) 3 70 (replicate 71 9)
@@ -76,9 +79,11 @@ certified-A = claim .certified (sheetOf caseA-swap) (places 4) 3 answered-A (rep
 
 -- 4: a certificate that is accepted, from wherever it comes
 pub refuted-again : Unsatisfiable (problemOf (caseA-swap .formula) (caseA-swap .positive) (caseA-swap .negative))
-refuted-again = claim .refutes (caseA-swap .formula) (caseA-swap .positive) (caseA-swap .negative) (certificateIn caseA-swap) swap-accepted
+refuted-again = claim .refutes (caseA-swap .formula) (caseA-swap .positive) (caseA-swap .negative)
+    (certificateIn caseA-swap) swap-accepted
 
--- 5: with three slots A without exchange is left open, and every choice that meets the rules would differ from 00 in a name
+-- 5: with three slots A without exchange is left open, and every choice that meets the rules would differ from 00 in a
+-- name
 pub bound-A : AtLeast (problemIn (sheetOf caseA-3)) 1
 bound-A = claim .bound (sheetOf caseA-3) (places 3) 1 3 answered-A-3
 

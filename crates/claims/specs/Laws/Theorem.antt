@@ -10,10 +10,12 @@ use Rattle.search.specs.Laws.Theorems.{search-nearest, search-exactly, search-b
 use Rattle.certificate.specs.Writer.{lengthNeeded}
 use Rattle.checker.specs.Laws.Soundness.{accepted-refutes}
 use Rattle.claims.specs.Laws.Certificates.{short-reply, short-output, long-reply, long-rest, long-accepted}
-use Rattle.claims.specs.Claim.{Sheet, formulaIn, positiveIn, negativeIn, problemIn, Slots, lent, SearchAnswers, Certified, Claim}
+use Rattle.claims.specs.Claim.{Sheet, formulaIn, positiveIn, negativeIn, problemIn, Slots, lent, SearchAnswers}
+use Rattle.claims.specs.Claim.{Certified, Claim}
 
 -- the certificate of an unsatisfiable sheet, whatever the slots held and whatever the output is
-certified : (s : Sheet) (l : Slots) (k : ℕ) → SearchAnswers s l (unsatisfiable k) → (out : List ℕ) → Certified s l k (lengthNeeded (problemIn s) k) out
+certified : (s : Sheet) (l : Slots) (k : ℕ) → SearchAnswers s l (unsatisfiable k) → (out : List ℕ)
+    → Certified s l k (lengthNeeded (problemIn s) k) out
 certified s l k a out =
     let f = formulaIn s in
     let p = positiveIn s in
@@ -29,7 +31,8 @@ certified s l k a out =
     }
 
 -- as many slots as three slices of that length give
-enough : (l : Slots) (m : ℕ) → m ≤ maxSlots → m ≤ length (l .points) → m ≤ length (l .falsified) → m ≤ length (l .depths) → m ≤ lent l
+enough : (l : Slots) (m : ℕ) → m ≤ maxSlots → m ≤ length (l .points) → m ≤ length (l .falsified)
+    → m ≤ length (l .depths) → m ≤ lent l
 unfolding capacity
 enough l m a b c d = le-min a (le-min b (le-min c d))
 
@@ -37,14 +40,26 @@ pub claim : Claim
 claim =
     record {
       nearest = λ s l x d k a.
-          let n = search-nearest (formulaIn s) (positiveIn s) (negativeIn s) (lent l) x d k (a .reply) in
-          (record { within = n .within; satisfying = n .satisfying }, n .changes, λ y m. n .nearest y (m .within) (m .satisfying));
+          let n = search-nearest (formulaIn s) (positiveIn s) (negativeIn s) (lent l) x d k (a .reply) in (
+            record { within = n .within; satisfying = n .satisfying },
+            n .changes,
+            λ y m. n .nearest y (m .within)
+                (m .satisfying),
+          );
       exactly = λ s l r a known.
-          let e = search-exactly (formulaIn s) (positiveIn s) (negativeIn s) (lent l) r (a .reply) (a .accepted) known in
-          (λ w. e .0 (w .0) (w .1), λ none. (length (searchSlots (formulaIn s) (positiveIn s) (negativeIn s) (lent l)), e .1 none));
+          let e = search-exactly (formulaIn s) (positiveIn s) (negativeIn s) (lent l) r (a .reply) (a .accepted) known
+          in (
+            λ w. e .0 (w .0) (w .1),
+            λ none. (
+              length (searchSlots (formulaIn s) (positiveIn s) (negativeIn s) (lent l)),
+              e .1 none,
+            ),
+          );
       certified = certified;
       refutes = accepted-refutes;
-      bound = λ s l b k a y m. search-bound (formulaIn s) (positiveIn s) (negativeIn s) (lent l) b k (a .reply) y (m .within) (m .satisfying);
+      bound = λ s l b k a y m. search-bound (formulaIn s) (positiveIn s) (negativeIn s) (lent l) b k (a .reply) y
+          (m .within) (m .satisfying);
       enough-room = λ s l b k few p q r a.
-          search-room (formulaIn s) (positiveIn s) (negativeIn s) (lent l) (enough l (2 ^ problemIn s .variables) few p q r) b k (a .reply);
+          search-room (formulaIn s) (positiveIn s) (negativeIn s) (lent l)
+          (enough l (2 ^ problemIn s .variables) few p q r) b k (a .reply);
     }

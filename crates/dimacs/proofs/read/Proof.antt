@@ -1,9 +1,11 @@
--- `dimacs::read` meets its contract: the size of the text, the problem line, its sizes, then the lines. Assumes nothing.
+-- `dimacs::read` meets its contract: the size of the text, the problem line, its sizes, then the lines. Assumes
+-- nothing.
 use mathlib.Core.Path.{sym, ap, _∙_}
 use native.Mathlib.Omega.{arith}
 use borrow.Author.Needs.{needs}
 use Rattle.dimacs_lines.specs.Laws.ParsedLaws.{answers-refused, answers-same}
-use Rattle.dimacs.specs.Laws.ReadLaws.{answers-read, text-long, text-absent, text-malformed, text-sized, problem-place}
+use Rattle.dimacs.specs.Laws.ReadLaws.{answers-read, text-long, text-absent, text-malformed, text-sized}
+use Rattle.dimacs.specs.Laws.ReadLaws.{problem-place}
 use Rattle.dimacs_words.specs.declared.Class.the-variants.{Line}
 use Rattle.dimacs_words.specs.Laws.Scans.{belongs, Stretch}
 use Rattle.dimacs.specs.Laws.ProblemScans.{sizingOf}

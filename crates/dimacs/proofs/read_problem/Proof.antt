@@ -3,7 +3,8 @@ use mathlib.Core.Path.{_≡_, sym, _∙_, subst}
 use mathlib.Core.Bool.{true}
 use borrow.Author.Tests.{not-true, not-false}
 use borrow.Author.Needs.{needs}
-use Rattle.dimacs.specs.Laws.ProblemScanLaws.{problem-other, problem-first, problem-second, problem-third, problem-fourth, problem-fifth, problem-read}
+use Rattle.dimacs.specs.Laws.ProblemScanLaws.{problem-other, problem-first, problem-second, problem-third}
+use Rattle.dimacs.specs.Laws.ProblemScanLaws.{problem-fourth, problem-fifth, problem-read}
 use Rattle.dimacs.specs.Laws.ProblemScans.{WordMatched, NumberMatched}
 use Rattle.dimacs.specs.declared.Sized.the-variants.{Number}
 use Rattle.dimacs.specs.declared.Matched.the-variants.{Behind}

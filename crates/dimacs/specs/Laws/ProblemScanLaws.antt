@@ -19,12 +19,15 @@ use Rattle.dimacs_words.specs.declared.Class.the-variants.{Blank, Word as WordB
 use Rattle.dimacs_words.specs.declared.Cursor.{Cursor}
 use Rattle.dimacs.specs.declared.Matched.the-variants.{Behind, Other}
 use Rattle.dimacs.specs.declared.Sized.the-variants.{Number, Other as NoNumber}
-use Rattle.dimacs_format.specs.Text.{isBlank, allBlank, Piece, Word, piece, joined, pieces, lines, holdsBytes, words, spelled, sameBytes, begins, isComment, problemWord, formatWord, numberIn, tokenIn, isNumber}
+use Rattle.dimacs_format.specs.Text.{isBlank, allBlank, Piece, Word, piece, joined, pieces, lines, holdsBytes, words}
+use Rattle.dimacs_format.specs.Text.{spelled, sameBytes, begins, isComment, problemWord, formatWord, numberIn, tokenIn}
+use Rattle.dimacs_format.specs.Text.{isNumber}
 use Rattle.dimacs_format.specs.Reader.{Sizes, sizesIn, problemWords, problemIn, isSkipped, fromProblem}
 use Rattle.dimacs_format.specs.Laws.StepLaws.{not-some}
 use Rattle.dimacs_format.specs.Laws.TextLaws.{same-bytes}
 use Rattle.dimacs_words.specs.Laws.Scans.{belongs, Stretch, linesBehind}
-use Rattle.dimacs_words.specs.Laws.ScanLaws.{here-on, run-all, words-skip, words-end, word-at, same-lengths, blanks-stop, behind-none, behind-some, lines-from}
+use Rattle.dimacs_words.specs.Laws.ScanLaws.{here-on, run-all, words-skip, words-end, word-at, same-lengths}
+use Rattle.dimacs_words.specs.Laws.ScanLaws.{blanks-stop, behind-none, behind-some, lines-from}
 use Rattle.dimacs.specs.Laws.ProblemScans.{spelledFrom, WordMatched, NumberMatched}
 
 -- ---- equal runs of bytes
@@ -33,7 +36,8 @@ pub bytes-apart : (xs ys : List ℕ) → (length xs ≡ length ys → ⊥) → f
 bytes-apart xs ys ne = sym (not-true-false (sameBytes xs ys) (λ e. ne (same-lengths xs ys e)))
 
 eqb-comm : (a b : ℕ) → eqb a b ≡ eqb b a
-eqb-comm a b = same-tests (eqb a b) (eqb b a) (λ e. eq-eqb b a (sym (eqb-true a b e))) (λ e. eq-eqb a b (sym (eqb-true b a e)))
+eqb-comm a b = same-tests (eqb a b) (eqb b a) (λ e. eq-eqb b a (sym (eqb-true a b e)))
+    (λ e. eq-eqb a b (sym (eqb-true b a e)))
 
 bytes-turned : (xs ys : List ℕ) → sameBytes xs ys ≡ sameBytes ys xs
 unfolding sameBytes
@@ -55,14 +59,18 @@ none-empty = refl
 
 -- ---- the next word: the part from the end of the blanks to the end of the word
 
-module _ (line : List ℕ) (at from to : ℕ) (blanks : Stretch (belongs Blank) line at from) (bytes : Stretch (belongs WordBytes) line from to) where
+module _ (line : List ℕ) (at from to : ℕ) (blanks : Stretch (belongs Blank) line at from)
+    (bytes : Stretch (belongs WordBytes) line from to) where
   -- a word there, or none
-  next-word : (spelledFrom line at ≡ take (to - from) (drop from line) ∷ spelledFrom line to) ⊎ ((take (to - from) (drop from line) ≡ []) × (spelledFrom line at ≡ []))
+  next-word : (spelledFrom line at ≡ take (to - from) (drop from line) ∷ spelledFrom line to) ⊎
+      ((take (to - from) (drop from line) ≡ []) × (spelledFrom line at ≡ []))
   next-word = by (decLt from (length line))
     where
-      by : Dec (from < length line) → (spelledFrom line at ≡ take (to - from) (drop from line) ∷ spelledFrom line to) ⊎ ((take (to - from) (drop from line) ≡ []) × (spelledFrom line at ≡ []))
+      by : Dec (from < length line) → (spelledFrom line at ≡ take (to - from) (drop from line) ∷ spelledFrom line to) ⊎
+          ((take (to - from) (drop from line) ≡ []) × (spelledFrom line at ≡ []))
       by (yes lt) =
-          let w = word-at line (tokenIn (take (to - from) (drop from line))) bytes lt (blanks-stop line blanks lt) refl in
+          let w = word-at line (tokenIn (take (to - from) (drop from line))) bytes lt (blanks-stop line blanks lt) refl
+          in
           inl (ap spelled (words-skip line 0 blanks ∙ w .parts 0))
       by (no ge) =
           let a = blanks .within in
@@ -70,20 +78,34 @@ module _ (line : List ℕ) (at from to : ℕ) (blanks : Stretch (belongs Blank) 
           let c = bytes .ordered in
           let end : from ≡ length line = omega arith in
           let empty : to - from ≡ 0 = omega arith in
-          inr (ap (λ j. take j (drop from line)) empty, ap spelled (words-skip line 0 blanks ∙ words-end line 0 from end))
+          inr (
+            ap (λ j. take j (drop from line)) empty,
+            ap spelled
+                (words-skip line 0 blanks ∙ words-end line 0 from end),
+          )
 
-  pub word-behind : (word : List ℕ) → 1 ≤ length word → sameBytes (take (to - from) (drop from line)) word ≡ true → WordMatched line at word (Behind (record { at = to }))
+  pub word-behind : (word : List ℕ) → 1 ≤ length word → sameBytes (take (to - from) (drop from line)) word ≡ true
+      → WordMatched line at word (Behind (record { at = to }))
   word-behind word low e =
-      ⊎-elim (λ s. (bytes .within, s ∙ ap (λ w. w ∷ spelledFrom line to) (same-bytes (take (to - from) (drop from line)) word e)))
-      (λ s. absurd (let l = same-lengths (take (to - from) (drop from line)) word e in let k = ap length (s .0) in let z : ⊥ = omega arith in z)) next-word
+      ⊎-elim (λ s. (
+        bytes .within,
+        s ∙ ap (λ w. w ∷ spelledFrom line to)
+            (same-bytes (take (to - from) (drop from line)) word e),
+      ))
+      (λ s. absurd (let l = same-lengths (take (to - from) (drop from line)) word e in let k = ap length (s .0) in
+      let z : ⊥ = omega arith in z)) next-word
 
-  pub word-other : (word : List ℕ) → sameBytes (take (to - from) (drop from line)) word ≡ false → WordMatched line at word Other
+  pub word-other : (word : List ℕ) → sameBytes (take (to - from) (drop from line)) word ≡ false
+      → WordMatched line at word Other
   word-other word e w ws f =
-      ⊎-elim (λ s. ap (λ v. sameBytes v word) (first-same (sym f ∙ s)) ∙ e) (λ s. absurd (nil≢cons (sym (s .1) ∙ f))) next-word
+      ⊎-elim (λ s. ap (λ v. sameBytes v word) (first-same (sym f ∙ s)) ∙ e) (λ s. absurd (nil≢cons (sym (s .1) ∙ f)))
+      next-word
 
-  pub number-behind : (v : ℕ) → numberIn (take (to - from) (drop from line)) ≡ some v → NumberMatched line at (Number v (record { at = to }))
+  pub number-behind : (v : ℕ) → numberIn (take (to - from) (drop from line)) ≡ some v
+      → NumberMatched line at (Number v (record { at = to }))
   number-behind v e =
-      ⊎-elim (λ s. (bytes .within, (take (to - from) (drop from line), s, e))) (λ s. absurd (not-some (empty-number (s .0) e))) next-word
+      ⊎-elim (λ s. (bytes .within, (take (to - from) (drop from line), s, e)))
+      (λ s. absurd (not-some (empty-number (s .0) e))) next-word
     where
       empty-number : {w : List ℕ} → w ≡ [] → numberIn w ≡ some v → none ≡ some v
       empty-number {w} p q = sym none-empty ∙ ap numberIn (sym p) ∙ q
@@ -95,7 +117,8 @@ module _ (line : List ℕ) (at from to : ℕ) (blanks : Stretch (belongs Blank) 
 -- a byte that is no blank begins a word
 words-some : (at b : ℕ) (bs : List ℕ) → isBlank b ≡ false → words at (b ∷ bs) ≡ [] → ⊥
 unfolding words pieces joined select holdsBytes
-words-some at b bs e h = by (pieces isBlank (suc at) bs) (ap (λ t. select holdsBytes (joined t at b (pieces isBlank (suc at) bs))) (sym e) ∙ h)
+words-some at b bs e h = by (pieces isBlank (suc at) bs)
+    (ap (λ t. select holdsBytes (joined t at b (pieces isBlank (suc at) bs))) (sym e) ∙ h)
   where
     holds : (xs : List ℕ) → holdsBytes (piece at (b ∷ xs)) ≡ true
     holds xs = le-leb 1 (suc (length xs)) (omega arith)
@@ -105,15 +128,18 @@ words-some at b bs e h = by (pieces isBlank (suc at) bs) (ap (λ t. select holds
     by (p ∷ ps) h = nil≢cons (sym h ∙ select-cons holdsBytes {x = piece at (b ∷ p .bytes)} ps (holds (p .bytes)))
 
 -- where blanks stop before the end, a word is left
-word-left : (line : List ℕ) (at from : ℕ) → Stretch (belongs Blank) line at from → from < length line → spelledFrom line at ≡ [] → ⊥
+word-left : (line : List ℕ) (at from : ℕ) → Stretch (belongs Blank) line at from → from < length line
+    → spelledFrom line at ≡ [] → ⊥
 word-left line at from s inside e =
     words-some (0 + from) (getD line from 0) (drop (from + 1) line) (blanks-stop line s inside)
-    (ap (words (0 + from)) (sym (here-on line from inside)) ∙ sym (words-skip line 0 s) ∙ map-nil (λ (w : Word). w .bytes) (words (0 + at) (drop at line)) e)
+    (ap (words (0 + from)) (sym (here-on line from inside)) ∙ sym (words-skip line 0 s)
+    ∙ map-nil (λ (w : Word). w .bytes) (words (0 + at) (drop at line)) e)
 
 -- ---- the words of a problem line
 
 -- what the words must be, one behind the other
-others-first : (ws : List (List ℕ)) → ((w : List ℕ) (vs : List (List ℕ)) → ws ≡ w ∷ vs → sameBytes w problemWord ≡ false) → problemWords ws ≡ none
+others-first : (ws : List (List ℕ)) → ((w : List ℕ) (vs : List (List ℕ)) → ws ≡ w ∷ vs
+    → sameBytes w problemWord ≡ false) → problemWords ws ≡ none
 unfolding problemWords
 others-first [] h = refl
 others-first (p ∷ []) h = refl
@@ -126,7 +152,8 @@ and-false : (a : Bool) {b : Bool} → b ≡ false → a && b ≡ false
 and-false true e = e
 and-false false e = refl
 
-others-second : (p : List ℕ) (ws : List (List ℕ)) → ((w : List ℕ) (vs : List (List ℕ)) → ws ≡ w ∷ vs → sameBytes w formatWord ≡ false) → problemWords (p ∷ ws) ≡ none
+others-second : (p : List ℕ) (ws : List (List ℕ)) → ((w : List ℕ) (vs : List (List ℕ)) → ws ≡ w ∷ vs
+    → sameBytes w formatWord ≡ false) → problemWords (p ∷ ws) ≡ none
 unfolding problemWords
 others-second p [] h = refl
 others-second p (f ∷ []) h = refl
@@ -143,18 +170,22 @@ unfolding sizesIn
 sizes-none none = refl
 sizes-none (some v) = refl
 
-others-third : (p f : List ℕ) (ws : List (List ℕ)) → ((w : List ℕ) (vs : List (List ℕ)) → ws ≡ w ∷ vs → numberIn w ≡ none) → problemWords (p ∷ f ∷ ws) ≡ none
+others-third : (p f : List ℕ) (ws : List (List ℕ)) → ((w : List ℕ) (vs : List (List ℕ)) → ws ≡ w ∷ vs
+    → numberIn w ≡ none) → problemWords (p ∷ f ∷ ws) ≡ none
 unfolding problemWords sizesIn
 others-third p f [] h = refl
 others-third p f (v ∷ []) h = refl
-others-third p f (v ∷ c ∷ []) h = cond-none (sameBytes p problemWord && sameBytes f formatWord) (ap (λ o. sizesIn o (numberIn c)) (h v (c ∷ []) refl))
+others-third p f (v ∷ c ∷ []) h = cond-none (sameBytes p problemWord && sameBytes f formatWord)
+    (ap (λ o. sizesIn o (numberIn c)) (h v (c ∷ []) refl))
 others-third p f (v ∷ c ∷ w ∷ ws) h = refl
 
-others-fourth : (p f v : List ℕ) (ws : List (List ℕ)) → ((w : List ℕ) (vs : List (List ℕ)) → ws ≡ w ∷ vs → numberIn w ≡ none) → problemWords (p ∷ f ∷ v ∷ ws) ≡ none
+others-fourth : (p f v : List ℕ) (ws : List (List ℕ))
+    → ((w : List ℕ) (vs : List (List ℕ)) → ws ≡ w ∷ vs → numberIn w ≡ none) → problemWords (p ∷ f ∷ v ∷ ws) ≡ none
 unfolding problemWords
 others-fourth p f v [] h = refl
 others-fourth p f v (c ∷ []) h =
-    cond-none (sameBytes p problemWord && sameBytes f formatWord) (ap (sizesIn (numberIn v)) (h c [] refl) ∙ sizes-none (numberIn v))
+    cond-none (sameBytes p problemWord && sameBytes f formatWord)
+    (ap (sizesIn (numberIn v)) (h c [] refl) ∙ sizes-none (numberIn v))
 others-fourth p f v (c ∷ w ∷ ws) h = refl
 
 others-fifth : (p f v c : List ℕ) (ws : List (List ℕ)) → (ws ≡ [] → ⊥) → problemWords (p ∷ f ∷ v ∷ c ∷ ws) ≡ none
@@ -184,14 +215,16 @@ module _ (line : List ℕ) where
 
     module _ (one : Cursor) (a : WordMatched line 0 problemWord (Behind one)) where
       pub problem-second : WordMatched line (one .at) formatWord Other → none ≡ problemIn (piece 0 line)
-      problem-second w = sym (by-words ∙ ap problemWords (a .1) ∙ others-second problemWord (spelledFrom line (one .at)) w)
+      problem-second w = sym (by-words ∙ ap problemWords (a .1)
+          ∙ others-second problemWord (spelledFrom line (one .at)) w)
 
       module _ (two : Cursor) (b : WordMatched line (one .at) formatWord (Behind two)) where
         two-words : spelledFrom line 0 ≡ problemWord ∷ formatWord ∷ spelledFrom line (two .at)
         two-words = a .1 ∙ ap (λ l. problemWord ∷ l) (b .1)
 
         pub problem-third : NumberMatched line (two .at) NoNumber → none ≡ problemIn (piece 0 line)
-        problem-third w = sym (by-words ∙ ap problemWords two-words ∙ others-third problemWord formatWord (spelledFrom line (two .at)) w)
+        problem-third w = sym (by-words ∙ ap problemWords two-words
+            ∙ others-third problemWord formatWord (spelledFrom line (two .at)) w)
 
         module _ (v : ℕ) (three : Cursor) (c : NumberMatched line (two .at) (Number v three)) where
           three-words : spelledFrom line 0 ≡ problemWord ∷ formatWord ∷ c .1 .0 ∷ spelledFrom line (three .at)
@@ -199,21 +232,26 @@ module _ (line : List ℕ) where
 
           pub problem-fourth : NumberMatched line (three .at) NoNumber → none ≡ problemIn (piece 0 line)
           problem-fourth w =
-              sym (by-words ∙ ap problemWords three-words ∙ others-fourth problemWord formatWord (c .1 .0) (spelledFrom line (three .at)) w)
+              sym (by-words ∙ ap problemWords three-words
+              ∙ others-fourth problemWord formatWord (c .1 .0) (spelledFrom line (three .at)) w)
 
-          module _ (m : ℕ) (four : Cursor) (d : NumberMatched line (three .at) (Number m four)) (end : ℕ) (s : Stretch (belongs Blank) line (four .at) end) where
+          module _ (m : ℕ) (four : Cursor) (d : NumberMatched line (three .at) (Number m four)) (end : ℕ)
+              (s : Stretch (belongs Blank) line (four .at) end) where
             four-words : spelledFrom line 0 ≡ problemWord ∷ formatWord ∷ c .1 .0 ∷ d .1 .0 ∷ spelledFrom line (four .at)
             four-words = three-words ∙ ap (λ l. problemWord ∷ formatWord ∷ c .1 .0 ∷ l) (d .1 .1)
 
             pub problem-fifth : end < length line → none ≡ problemIn (piece 0 line)
             problem-fifth inside =
                 sym (by-words ∙ ap problemWords four-words
-                ∙ others-fifth problemWord formatWord (c .1 .0) (d .1 .0) (spelledFrom line (four .at)) (word-left line (four .at) end s inside))
+                ∙ others-fifth problemWord formatWord (c .1 .0) (d .1 .0) (spelledFrom line (four .at))
+                (word-left line (four .at) end s inside))
 
             pub problem-read : length line ≤ end → some (record { variables = v; total = m }) ≡ problemIn (piece 0 line)
             problem-read past =
-                let last : spelledFrom line (four .at) ≡ [] = ap spelled (words-skip line 0 s ∙ words-end line 0 end (let w = s .within in omega arith)) in
-                sym (by-words ∙ ap problemWords (four-words ∙ ap (λ l. problemWord ∷ formatWord ∷ c .1 .0 ∷ d .1 .0 ∷ l) last)
+                let last : spelledFrom line (four .at)
+                ≡ [] = ap spelled (words-skip line 0 s ∙ words-end line 0 end (let w = s .within in omega arith)) in
+                sym (by-words ∙ ap problemWords (four-words
+                ∙ ap (λ l. problemWord ∷ formatWord ∷ c .1 .0 ∷ d .1 .0 ∷ l) last)
                 ∙ just-four (c .1 .0) (d .1 .0) v m (c .1 .2) (d .1 .2))
 
 -- ---- lines that are skipped
@@ -222,7 +260,8 @@ pub skipped-comment : (line : List ℕ) → isComment (piece 0 line) ≡ true �
 unfolding isSkipped
 skipped-comment line e = rw e
 
-pub skipped-blank : (line : List ℕ) (end : ℕ) → isComment (piece 0 line) ≡ false → Stretch (belongs Blank) line 0 end → eqb end (length line) ≡ isSkipped (piece 0 line)
+pub skipped-blank : (line : List ℕ) (end : ℕ) → isComment (piece 0 line) ≡ false → Stretch (belongs Blank) line 0 end
+    → eqb end (length line) ≡ isSkipped (piece 0 line)
 unfolding isSkipped belongs allBlank
 skipped-blank line end e s = rw e (by (decLt end (length line)))
   where
@@ -240,19 +279,26 @@ skipped-blank line end e s = rw e (by (decLt end (length line)))
 
 module _ (text : List ℕ) where
   -- a line that is skipped, and one that is not
-  pub preamble-skips : (at e : ℕ) → Stretch (belongs LineBytes) text at e → isSkipped (piece 0 (take (e - at) (drop at text))) ≡ true
+  pub preamble-skips : (at e : ℕ) → Stretch (belongs LineBytes) text at e
+      → isSkipped (piece 0 (take (e - at) (drop at text))) ≡ true
       → fromProblem (lines at (drop at text)) ≡ fromProblem (linesBehind text e)
   unfolding fromProblem isSkipped isComment
-  preamble-skips at e s h = ap fromProblem (lines-from text at e s) ∙ ap (λ t. cond t (fromProblem (linesBehind text e)) (piece at (take (e - at) (drop at text)) ∷ linesBehind text e)) h
+  preamble-skips at e s h = ap fromProblem (lines-from text at e s)
+      ∙ ap (λ t. cond t (fromProblem (linesBehind text e))
+      (piece at (take (e - at) (drop at text)) ∷ linesBehind text e)) h
 
-  pub preamble-stops : (at e : ℕ) → Stretch (belongs LineBytes) text at e → isSkipped (piece 0 (take (e - at) (drop at text))) ≡ false
+  pub preamble-stops : (at e : ℕ) → Stretch (belongs LineBytes) text at e
+      → isSkipped (piece 0 (take (e - at) (drop at text))) ≡ false
       → fromProblem (lines at (drop at text)) ≡ piece at (take (e - at) (drop at text)) ∷ linesBehind text e
   unfolding fromProblem isSkipped isComment
-  preamble-stops at e s h = ap fromProblem (lines-from text at e s) ∙ ap (λ t. cond t (fromProblem (linesBehind text e)) (piece at (take (e - at) (drop at text)) ∷ linesBehind text e)) h
+  preamble-stops at e s h = ap fromProblem (lines-from text at e s)
+      ∙ ap (λ t. cond t (fromProblem (linesBehind text e))
+      (piece at (take (e - at) (drop at text)) ∷ linesBehind text e)) h
 
   pub preamble-ends : (e : ℕ) → length text ≤ e → fromProblem (linesBehind text e) ≡ []
   unfolding fromProblem
   preamble-ends e h = ap fromProblem (behind-none text e h)
 
-  pub preamble-goes-on : (e : ℕ) → e < length text → fromProblem (linesBehind text e) ≡ fromProblem (lines (e + 1) (drop (e + 1) text))
+  pub preamble-goes-on : (e : ℕ) → e < length text
+      → fromProblem (linesBehind text e) ≡ fromProblem (lines (e + 1) (drop (e + 1) text))
   preamble-goes-on e h = ap fromProblem (behind-some text e h)

@@ -30,15 +30,18 @@ spelledFrom line at = spelled (words (0 + at) (drop at line))
 -- the first word from a place on is the given one, or it is another or there is none
 abbrev pub WordMatched : List ℕ → ℕ → List ℕ → Matched → Type 0
 WordMatched line at word (Behind c) = (c .at ≤ length line) × (spelledFrom line at ≡ word ∷ spelledFrom line (c .at))
-WordMatched line at word Other = (w : List ℕ) (ws : List (List ℕ)) → spelledFrom line at ≡ w ∷ ws → sameBytes w word ≡ false
+WordMatched line at word Other = (w : List ℕ) (ws : List (List ℕ)) → spelledFrom line at ≡ w ∷ ws
+    → sameBytes w word ≡ false
 
 -- the first word from a place on is a number, or it is none or there is none
 abbrev pub NumberMatched : List ℕ → ℕ → Sized → Type 0
-NumberMatched line at (Number v c) = (c .at ≤ length line) × ((w : List ℕ) × (spelledFrom line at ≡ w ∷ spelledFrom line (c .at)) × (numberIn w ≡ some v))
+NumberMatched line at (Number v c) = (c .at ≤ length line)
+    × ((w : List ℕ) × (spelledFrom line at ≡ w ∷ spelledFrom line (c .at)) × (numberIn w ≡ some v))
 NumberMatched line at NoNumber = (w : List ℕ) (ws : List (List ℕ)) → spelledFrom line at ≡ w ∷ ws → numberIn w ≡ none
 
 -- the lines from the problem line on
 abbrev pub ProblemFound : List ℕ → Found → Type 0
 ProblemFound text (FoundLine start stop) =
-    Stretch (belongs LineBytes) text start stop × (fromProblem (lines 0 text) ≡ piece start (take (stop - start) (drop start text)) ∷ linesBehind text stop)
+    Stretch (belongs LineBytes) text start stop × (fromProblem (lines 0 text)
+    ≡ piece start (take (stop - start) (drop start text)) ∷ linesBehind text stop)
 ProblemFound text Absent = fromProblem (lines 0 text) ≡ []

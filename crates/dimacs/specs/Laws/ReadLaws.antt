@@ -11,7 +11,9 @@ use Rattle.dimacs_lines.specs.declared.Parsed.{Parsed}
 use Rattle.dimacs.specs.declared.Found.{Found}
 use Rattle.dimacs.specs.declared.Found.the-variants.{Line as FoundLine, Absent}
 use Rattle.dimacs_words.specs.declared.Class.the-variants.{Line as LineBytes}
-use Rattle.dimacs_format.specs.Reader.{refuses, andThen, walk, Sizes, problemWords, problemIn, withinLimits, lineStep, begin, atEnd, withRoom, withSizes, withProblem, fromProblem, withLines, reading, readReply, readFormula, readPositive, readNegative}
+use Rattle.dimacs_format.specs.Reader.{refuses, andThen, walk, Sizes, problemWords, problemIn, withinLimits, lineStep}
+use Rattle.dimacs_format.specs.Reader.{begin, atEnd, withRoom, withSizes, withProblem, fromProblem, withLines, reading}
+use Rattle.dimacs_format.specs.Reader.{readReply, readFormula, readPositive, readNegative}
 use Rattle.dimacs.specs.Contract.{Read}
 use Rattle.dimacs_lines.specs.Laws.ParsedAs.{ParsedAs}
 use Rattle.dimacs.specs.Laws.ProblemScans.{ProblemFound}
@@ -30,7 +32,8 @@ module _ (size a b : ℕ) (l : Line) (after : List Line) (z : Sizes) where
   unfolding withSizes withinLimits
   sizes-high lo h = rw (le-leb 1 (z .variables) lo, lt-leb (z .variables) 64 h)
 
-  pub sizes-many : 1 ≤ z .variables → z .variables ≤ 64 → 4096 < z .total → withSizes size a b l after z ≡ refuses 3 (l .start)
+  pub sizes-many : 1 ≤ z .variables → z .variables ≤ 64 → 4096 < z .total
+      → withSizes size a b l after z ≡ refuses 3 (l .start)
   unfolding withSizes withinLimits
   sizes-many lo hi h = rw (le-leb 1 (z .variables) lo, le-leb (z .variables) 64 hi, lt-leb (z .total) 4096 h)
 
@@ -47,7 +50,8 @@ module _ (size a b : ℕ) (l : Line) (after : List Line) (z : Sizes) where
     unfolding withRoom
     room-second g h = sizes-fit ∙ rw (le-leb (z .total) a g, lt-leb (z .total) b h)
 
-    pub room-both : z .total ≤ a → z .total ≤ b → withSizes size a b l after z ≡ andThen (walk (lineStep z) begin after) (atEnd size z)
+    pub room-both : z .total ≤ a → z .total ≤ b
+        → withSizes size a b l after z ≡ andThen (walk (lineStep z) begin after) (atEnd size z)
     unfolding withRoom
     room-both g h = sizes-fit ∙ rw (le-leb (z .total) a g, le-leb (z .total) b h)
 
@@ -59,9 +63,11 @@ unfolding problemIn
 problem-anywhere start line = ap (λ l. cond (begins problemWord line) (problemWords l) none) (words-bytes start 0 line)
 
 pub answers-read : (text positive₀ negative₀ : List ℕ) (r : Parsed) (positive₁ negative₁ : List ℕ)
-    → ParsedAs (reading text (length positive₀) (length negative₀)) positive₀ negative₀ r positive₁ negative₁ → Read text positive₀ negative₀ r positive₁ negative₁
+    → ParsedAs (reading text (length positive₀) (length negative₀)) positive₀ negative₀ r positive₁ negative₁
+    → Read text positive₀ negative₀ r positive₁ negative₁
 unfolding readReply readFormula readPositive readNegative
-answers-read text positive₀ negative₀ r positive₁ negative₁ a = record { reply = a .reply; formula = a .formula; positive = a .positive; negative = a .negative }
+answers-read text positive₀ negative₀ r positive₁ negative₁ a =
+    record { reply = a .reply; formula = a .formula; positive = a .positive; negative = a .negative }
 
 module _ (text : List ℕ) (a b : ℕ) where
   pub text-long : maxText < length text → reading text a b ≡ refuses 1 maxText
@@ -83,18 +89,22 @@ module _ (text : List ℕ) (a b : ℕ) where
       problem-place = subst (ProblemFound text) e found .0
 
       by-problem : (o : Option Sizes) → o ≡ problemIn (piece 0 (take (stop - start) (drop start text)))
-          → reading text a b ≡ withProblem (length text) a b (piece start (take (stop - start) (drop start text))) (linesBehind text stop) o
+          → reading text a b ≡ withProblem (length text) a b (piece start (take (stop - start) (drop start text)))
+          (linesBehind text stop) o
       unfolding withLines
       by-problem o f =
           by-lines ∙ ap (withLines (length text) a b) (subst (ProblemFound text) e found .1)
-          ∙ ap (withProblem (length text) a b (piece start (take (stop - start) (drop start text))) (linesBehind text stop))
+          ∙ ap (withProblem (length text) a b (piece start (take (stop - start) (drop start text)))
+          (linesBehind text stop))
           (problem-anywhere start (take (stop - start) (drop start text)) ∙ sym f)
 
-      pub text-malformed : none ≡ problemIn (piece 0 (take (stop - start) (drop start text))) → reading text a b ≡ refuses 2 start
+      pub text-malformed : none ≡ problemIn (piece 0 (take (stop - start) (drop start text)))
+          → reading text a b ≡ refuses 2 start
       unfolding withProblem
       text-malformed f = by-problem none f
 
       pub text-sized : (z : Sizes) → some z ≡ problemIn (piece 0 (take (stop - start) (drop start text)))
-          → reading text a b ≡ withSizes (length text) a b (piece start (take (stop - start) (drop start text))) (linesBehind text stop) z
+          → reading text a b ≡ withSizes (length text) a b (piece start (take (stop - start) (drop start text)))
+          (linesBehind text stop) z
       unfolding withProblem
       text-sized z f = by-problem (some z) f

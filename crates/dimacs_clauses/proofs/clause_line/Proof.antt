@@ -1,4 +1,5 @@
--- `dimacs_clauses::clause_line` meets its contract: what is left of the walk over the words is the whole walk. Assumes nothing.
+-- `dimacs_clauses::clause_line` meets its contract: what is left of the walk over the words is the whole walk. Assumes
+-- nothing.
 use mathlib.Core.Path.{_∙_}
 use Prim.Native.Nat.{_-_, _<_}
 use native.Mathlib.Omega.{arith}

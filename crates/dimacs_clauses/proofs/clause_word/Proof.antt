@@ -1,7 +1,8 @@
 -- `dimacs_clauses::clause_word` meets its contract: one law for each way out. Assumes nothing.
 use native.Mathlib.Omega.{arith}
 use borrow.Author.Needs.{needs}
-use Rattle.dimacs_clauses.specs.Laws.ClauseScanLaws.{line-ends, line-over, line-malformed, line-refused, line-goes-on}
+use Rattle.dimacs_clauses.specs.Laws.ClauseScanLaws.{line-ends, line-over, line-malformed, line-refused}
+use Rattle.dimacs_clauses.specs.Laws.ClauseScanLaws.{line-goes-on}
 use Rattle.dimacs_words.specs.Laws.ScanLaws.{blanks-stop}
 use Rattle.dimacs_clauses.proofs.clause_word.Statement.{statement}
 use Rattle.dimacs_clauses.proofs.clause_word.Tie as tie

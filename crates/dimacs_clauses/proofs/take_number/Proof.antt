@@ -1,7 +1,8 @@
--- `dimacs_clauses::take_number` meets its contract: a zero closes the clause, a variable above n is refused, another one joins its set.
--- Assumes nothing.
+-- `dimacs_clauses::take_number` meets its contract: a zero closes the clause, a variable above n is refused, another
+-- one joins its set. Assumes nothing.
 use borrow.Author.Needs.{needs}
-use Rattle.dimacs_clauses.specs.Laws.ClauseScanLaws.{number-closes, number-above, number-positive, number-negative}
+use Rattle.dimacs_clauses.specs.Laws.ClauseScanLaws.{number-closes, number-above, number-positive}
+use Rattle.dimacs_clauses.specs.Laws.ClauseScanLaws.{number-negative}
 use Rattle.dimacs_clauses.proofs.take_number.Statement.{statement}
 use Rattle.dimacs_clauses.proofs.take_number.Tie as tie
 

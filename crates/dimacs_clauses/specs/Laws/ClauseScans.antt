@@ -1,4 +1,5 @@
--- How clauses being read lie in the code's numbers and slices, and what the functions on clause words promise. Assumes nothing.
+-- How clauses being read lie in the code's numbers and slices, and what the functions on clause words promise. Assumes
+-- nothing.
 use mathlib.Core.List.{List}
 use mathlib.Core.Path.{_≡_}
 use Prim.Native.Nat.{ℕ, _+_, _≤_, _<_}
@@ -14,7 +15,11 @@ use Rattle.dimacs_format.specs.Reader.{Step, goes, refuses, walk, Sizes, Clause
 
 -- the clauses closed lie at the front of the two slices
 abbrev pub clausesFrom : List ℕ → List ℕ → Begun → Clauses
-clausesFrom p q b = record { closed = clausesOf (take (b .closed) p) (take (b .closed) q); begun = record { positive = b .positive; negative = b .negative } }
+clausesFrom p q b = record {
+  closed = clausesOf (take (b .closed) p) (take (b .closed) q);
+  begun =
+      record { positive = b .positive; negative = b .negative };
+}
 
 -- the step that an answer of the code is, with the slices as it left them
 abbrev pub takenOf : List ℕ → List ℕ → Taken → Step Clauses
@@ -52,22 +57,28 @@ Inside start line = start + length line ≤ maxText
 
 -- what one word leads to, from a place of the line on: the walk ends there, goes on behind the word, or is refused
 abbrev pub Stepping : Sizes → ℕ → List ℕ → ℕ → List ℕ → List ℕ → Begun → List ℕ → List ℕ → Stepped → Type 0
-Stepping z start line at p q b p₁ q₁ End = walk (wordStep z) (clausesFrom p q b) (words (start + at) (drop at line)) ≡ goes (clausesFrom p₁ q₁ b)
+Stepping z start line at p q b p₁ q₁ End = walk (wordStep z) (clausesFrom p q b) (words (start + at) (drop at line))
+    ≡ goes (clausesFrom p₁ q₁ b)
 Stepping z start line at p q b p₁ q₁ (Further more c) =
     (at < c .at) × (c .at ≤ length line) × Ready z (more .closed) p₁ q₁
-    × (walk (wordStep z) (clausesFrom p q b) (words (start + at) (drop at line)) ≡ walk (wordStep z) (clausesFrom p₁ q₁ more) (words (start + c .at) (drop (c .at) line)))
-Stepping z start line at p q b p₁ q₁ (Stopped code place) = walk (wordStep z) (clausesFrom p q b) (words (start + at) (drop at line)) ≡ refuses code place
+    × (walk (wordStep z) (clausesFrom p q b) (words (start + at) (drop at line))
+    ≡ walk (wordStep z) (clausesFrom p₁ q₁ more) (words (start + c .at) (drop (c .at) line)))
+Stepping z start line at p q b p₁ q₁ (Stopped code place) = walk (wordStep z) (clausesFrom p q b)
+    (words (start + at) (drop at line)) ≡ refuses code place
 
 -- what a line of words leads to
 pub record Scanning (z : Sizes) (start : ℕ) (line : List ℕ) (s : Clauses) (r : Taken) (p q : List ℕ) : Type 0 where
   pub step : takenOf p q r ≡ walk (wordStep z) s (words start line)
   pub few : Few (z .total) r
 
--- the loop over the words of a line: what is left of the walk, with the slices and the clause begun as they are, is the whole walk
-pub record Along (z : Sizes) (start : ℕ) (line : List ℕ) (s : Clauses) (p₀ q₀ p q : List ℕ) (b : Begun) (at : ℕ) : Type 0 where
+-- the loop over the words of a line: what is left of the walk, with the slices and the clause begun as they are, is the
+-- whole walk
+pub record Along (z : Sizes) (start : ℕ) (line : List ℕ) (s : Clauses) (p₀ q₀ p q : List ℕ) (b : Begun) (at : ℕ) : Type
+    0 where
   pub ready : Ready z (b .closed) p q
   pub inside : Inside start line
   pub within : at ≤ length line
-  pub left : walk (wordStep z) s (words start line) ≡ walk (wordStep z) (clausesFrom p q b) (words (start + at) (drop at line))
+  pub left : walk (wordStep z) s (words start line)
+      ≡ walk (wordStep z) (clausesFrom p q b) (words (start + at) (drop at line))
   pub size-positive : length p ≡ length p₀
   pub size-negative : length q ≡ length q₀

@@ -1,7 +1,8 @@
 -- `dimacs_comments::next_image` meets its contract: one law for each way out. Assumes nothing.
 use borrow.Author.Needs.{needs}
 use Rattle.dimacs_words.specs.Laws.ScanLaws.{blanks-stop}
-use Rattle.dimacs_comments.specs.Laws.CommentScanLaws.{images-end, image-bad, image-negated, image-above, image-next}
+use Rattle.dimacs_comments.specs.Laws.CommentScanLaws.{images-end, image-bad, image-negated, image-above}
+use Rattle.dimacs_comments.specs.Laws.CommentScanLaws.{image-next}
 use Rattle.dimacs_comments.proofs.next_image.Statement.{statement}
 use Rattle.dimacs_comments.proofs.next_image.Tie as tie
 

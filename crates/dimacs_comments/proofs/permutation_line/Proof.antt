@@ -1,11 +1,13 @@
--- `dimacs_comments::permutation_line` meets its contract: a seventeenth line, a malformed one, a permutation behind those before. Assumes nothing.
+-- `dimacs_comments::permutation_line` meets its contract: a seventeenth line, a malformed one, a permutation behind
+-- those before. Assumes nothing.
 use mathlib.Core.Path.{refl, sym}
 use Prim.Native.Nat.{_+_, _*_, _≤_}
 use native.Mathlib.Nat.{le-trans, le-of-eq}
 use native.Mathlib.Omega.{arith}
 use borrow.Author.Tests.{not-true, not-false}
 use borrow.Author.Needs.{needs}
-use Rattle.dimacs_comments.specs.Laws.HandlerLaws.{table-room, permutation-over, permutation-bad, permutation-good}
+use Rattle.dimacs_comments.specs.Laws.HandlerLaws.{table-room, permutation-over, permutation-bad}
+use Rattle.dimacs_comments.specs.Laws.HandlerLaws.{permutation-good}
 use Rattle.dimacs_comments.proofs.permutation_line.Statement.{statement}
 use Rattle.dimacs_comments.proofs.permutation_line.Tie as tie
 

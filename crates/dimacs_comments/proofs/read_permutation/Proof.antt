@@ -1,11 +1,12 @@
--- `dimacs_comments::read_permutation` meets its contract: a number right behind the head, the numbers stored, the permutation test over them.
--- Assumes nothing.
+-- `dimacs_comments::read_permutation` meets its contract: a number right behind the head, the numbers stored, the
+-- permutation test over them. Assumes nothing.
 use mathlib.Core.Path.{_≡_, sym, _∙_}
 use native.Mathlib.Nat.{add-sub-cancel-left}
 use lib.ListN.{length}
 use borrow.Author.Needs.{needs}
 use borrow.Author.Tests.{not-true, not-false}
-use Rattle.dimacs_comments.specs.Laws.CommentScanLaws.{permutation-empty, permutation-blank, permutation-unstored, permutation-stored, part-size}
+use Rattle.dimacs_comments.specs.Laws.CommentScanLaws.{permutation-empty, permutation-blank, permutation-unstored}
+use Rattle.dimacs_comments.specs.Laws.CommentScanLaws.{permutation-stored, part-size}
 use Rattle.dimacs_comments.proofs.read_permutation.Statement.{statement}
 use Rattle.dimacs_comments.proofs.read_permutation.Tie as tie
 

@@ -1,4 +1,5 @@
--- `dimacs_comments::read_target` meets its contract: long enough, then blanks behind the digits, then the digits. Assumes nothing.
+-- `dimacs_comments::read_target` meets its contract: long enough, then blanks behind the digits, then the digits.
+-- Assumes nothing.
 use mathlib.Core.Path.{_∙_}
 use borrow.Author.Needs.{needs}
 use Rattle.dimacs_comments.specs.Laws.CommentScanLaws.{target-short, target-unblank, target-blank}

@@ -1,11 +1,13 @@
--- `dimacs_comments::store_numbers` meets its contract: the numbers stored in front of those left are all of them. Assumes nothing.
+-- `dimacs_comments::store_numbers` meets its contract: the numbers stored in front of those left are all of them.
+-- Assumes nothing.
 use mathlib.Core.Path.{refl}
 use Prim.Native.Nat.{_-_}
 use native.Mathlib.Omega.{arith}
 use lib.ListN.{length}
 use borrow.Author.Needs.{needs}
 use Rattle.dimacs_comments.specs.Laws.CommentScans.{Collecting}
-use Rattle.dimacs_comments.specs.Laws.CommentScanLaws.{collect-begins, collect-ends, collect-stops, collect-full, collect-goes-on, image-small, image-later}
+use Rattle.dimacs_comments.specs.Laws.CommentScanLaws.{collect-begins, collect-ends, collect-stops, collect-full}
+use Rattle.dimacs_comments.specs.Laws.CommentScanLaws.{collect-goes-on, image-small, image-later}
 use Rattle.dimacs_comments.proofs.store_numbers.Statement.{statement}
 use Rattle.dimacs_comments.proofs.store_numbers.Tie as tie
 

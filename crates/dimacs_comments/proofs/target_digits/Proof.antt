@@ -1,11 +1,14 @@
--- `dimacs_comments::target_digits` meets its contract: at digit i what is left is read behind those passed. Assumes nothing.
+-- `dimacs_comments::target_digits` meets its contract: at digit i what is left is read behind those passed. Assumes
+-- nothing.
 use mathlib.Core.Path.{_≡_, sym, ap, _∙_, subst}
 use Prim.Native.Nat.{_≤_, _<_, _-_, _+_, _^_}
 use native.Mathlib.Omega.{arith}
 use lib.ListN.{length, getD, take, drop}
 use borrow.Author.Needs.{needs}
 use Rattle.dimacs_comments.specs.Laws.CommentScans.{binaryIn}
-use Rattle.dimacs_comments.specs.Laws.CommentScanLaws.{binaryFrom, binary-begins, digit-joins, digit-below, binary-ends, binary-stops, binary-goes-on, binary-low, binary-high, binary-digit}
+use Rattle.dimacs_comments.specs.Laws.CommentScanLaws.{binaryFrom, binary-begins, digit-joins, digit-below}
+use Rattle.dimacs_comments.specs.Laws.CommentScanLaws.{binary-ends, binary-stops, binary-goes-on, binary-low}
+use Rattle.dimacs_comments.specs.Laws.CommentScanLaws.{binary-high, binary-digit}
 use Rattle.dimacs_comments.proofs.target_digits.Statement.{statement}
 use Rattle.dimacs_comments.proofs.target_digits.Tie as tie
 

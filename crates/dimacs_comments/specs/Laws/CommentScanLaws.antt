@@ -5,7 +5,8 @@ use mathlib.Core.Logic.{_⊎_, inl, inr, ⊎-elim}
 use mathlib.Core.Option.{Option, some, none}
 use mathlib.Core.Path.{_≡_, refl, sym, ap, ap₂, _∙_, subst}
 use Prim.Native.Nat.{ℕ, zero, suc, _+_, _-_, _*_, _/_, _%_, _^_, _≤_, _<_, zero-le}
-use native.Mathlib.Nat.{add-sub-cancel-left, le-of-eq, le-trans, zero-add, add-zero, one-mul, mul-zero, mul-add, mul-comm, mul-assoc, pow-suc}
+use native.Mathlib.Nat.{add-sub-cancel-left, le-of-eq, le-trans, zero-add, add-zero, one-mul, mul-zero, mul-add}
+use native.Mathlib.Nat.{mul-comm, mul-assoc, pow-suc}
 use native.Mathlib.Numerals.{add-one}
 use native.Mathlib.Decide.{ℕ-discrete}
 use native.Mathlib.Omega.{arith}
@@ -24,11 +25,14 @@ use Rattle.dimacs_words.specs.declared.Word.{Word as WordAnswer}
 use Rattle.dimacs_words.specs.declared.Word.the-variants.{Read, Malformed as no-word}
 use Rattle.dimacs_comments.specs.declared.Image.{Image}
 use Rattle.dimacs_comments.specs.declared.Image.the-variants.{End, Variable, Malformed as Other}
-use Rattle.dimacs_format.specs.Text.{isBlank, isDigit, allBlank, words, spelled, decimal, isNumber, numberIn, tokenIn, unsigned, negated, literal, malformed, neg, Token}
-use Rattle.dimacs_format.specs.Reader.{isBinary, binary, targetIn, beginsWord, bothNumbers, numbersIn, permuting, permutationIn}
+use Rattle.dimacs_format.specs.Text.{isBlank, isDigit, allBlank, words, spelled, decimal, isNumber, numberIn, tokenIn}
+use Rattle.dimacs_format.specs.Text.{unsigned, negated, literal, malformed, neg, Token}
+use Rattle.dimacs_format.specs.Reader.{isBinary, binary, targetIn, beginsWord, bothNumbers, numbersIn, permuting}
+use Rattle.dimacs_format.specs.Reader.{permutationIn}
 use Rattle.dimacs_words.specs.Laws.Scans.{belongs, Stretch, signed, WordAt, WordRead}
 use Rattle.dimacs_words.specs.Laws.ScanLaws.{here-on, part-end, run-all, words-skip, words-end}
-use Rattle.dimacs_comments.specs.Laws.CommentScans.{binaryIn, prepended, numbersFrom, Spoiled, Imaging, Storing, Collecting, Permuting}
+use Rattle.dimacs_comments.specs.Laws.CommentScans.{binaryIn, prepended, numbersFrom, Spoiled, Imaging, Storing}
+use Rattle.dimacs_comments.specs.Laws.CommentScans.{Collecting, Permuting}
 
 -- ---- the target line
 
@@ -40,7 +44,8 @@ binaryFrom x i bs = cond (all isBinary bs) (some (x + 2 ^ i * binary bs)) none
 pub binary-begins : (n : ℕ) (bytes : List ℕ) → binaryIn n bytes ≡ binaryFrom 0 0 (drop 0 (take n bytes))
 unfolding binaryIn binaryFrom
 binary-begins n bytes =
-    ap (λ v. cond (all isBinary (take n bytes)) (some v) none) (sym (zero-add (1 * binary (take n bytes)) ∙ one-mul (binary (take n bytes))))
+    ap (λ v. cond (all isBinary (take n bytes)) (some v) none)
+    (sym (zero-add (1 * binary (take n bytes)) ∙ one-mul (binary (take n bytes))))
 
 -- a digit moved to bit i joins what stands below it
 pub digit-joins : (x i d : ℕ) → x < 2 ^ i → d < 2 → bitOr (d / 2 ^ 0 % 2 * 2 ^ i) x ≡ d * 2 ^ i + x
@@ -59,31 +64,37 @@ module _ (n : ℕ) (bytes : List ℕ) (room : n ≤ length bytes) (x i : ℕ) wh
   size = length-take-le n bytes room
 
   here : i < n → drop i (take n bytes) ≡ getD bytes i 0 ∷ drop (i + 1) (take n bytes)
-  here h = here-on (take n bytes) i (omega (arith, size)) ∙ ap (λ b. b ∷ drop (i + 1) (take n bytes)) (getD-take n bytes i 0 h)
+  here h = here-on (take n bytes) i (omega (arith, size))
+      ∙ ap (λ b. b ∷ drop (i + 1) (take n bytes)) (getD-take n bytes i 0 h)
 
   pub binary-ends : n ≤ i → binaryFrom x i (drop i (take n bytes)) ≡ some x
   unfolding binaryFrom
   binary-ends h =
       let past : length (take n bytes) ≤ i = omega (arith, size) in
-      ap (binaryFrom x i) (drop-of-length-le (take n bytes) past) ∙ ap some (ap (λ j. x + j) (mul-zero (2 ^ i)) ∙ add-zero x)
+      ap (binaryFrom x i) (drop-of-length-le (take n bytes) past)
+      ∙ ap some (ap (λ j. x + j) (mul-zero (2 ^ i)) ∙ add-zero x)
 
   pub binary-stops : i < n → isBinary (getD bytes i 0) ≡ false → binaryFrom x i (drop i (take n bytes)) ≡ none
   unfolding binaryFrom
   binary-stops h e = ap (binaryFrom x i) (here h) ∙ rw e
 
   pub binary-goes-on : i < n → isBinary (getD bytes i 0) ≡ true
-      → binaryFrom x i (drop i (take n bytes)) ≡ binaryFrom ((getD bytes i 0 - 48) * 2 ^ i + x) (i + 1) (drop (i + 1) (take n bytes))
+      → binaryFrom x i (drop i (take n bytes))
+      ≡ binaryFrom ((getD bytes i 0 - 48) * 2 ^ i + x) (i + 1) (drop (i + 1) (take n bytes))
   unfolding binaryFrom
   binary-goes-on h e =
       ap (binaryFrom x i) (here h)
-      ∙ ap (λ t. cond (t && all isBinary (drop (i + 1) (take n bytes))) (some (x + 2 ^ i * ((getD bytes i 0 - 48) + 2 * binary (drop (i + 1) (take n bytes))))) none) e
-      ∙ ap (λ v. cond (all isBinary (drop (i + 1) (take n bytes))) (some v) none) (sums (getD bytes i 0 - 48) (binary (drop (i + 1) (take n bytes))))
+      ∙ ap (λ t. cond (t && all isBinary (drop (i + 1) (take n bytes)))
+      (some (x + 2 ^ i * ((getD bytes i 0 - 48) + 2 * binary (drop (i + 1) (take n bytes))))) none) e
+      ∙ ap (λ v. cond (all isBinary (drop (i + 1) (take n bytes))) (some v) none)
+      (sums (getD bytes i 0 - 48) (binary (drop (i + 1) (take n bytes))))
     where
       sums : (d rest : ℕ) → x + 2 ^ i * (d + 2 * rest) ≡ (d * 2 ^ i + x) + 2 ^ (i + 1) * rest
       sums d rest =
           let a = mul-add (2 ^ i) d (2 * rest) in
           let b = mul-comm (2 ^ i) d in
-          let c : 2 ^ (i + 1) * rest ≡ 2 ^ i * (2 * rest) = ap (λ j. 2 ^ j * rest) (add-one i) ∙ ap (λ j. j * rest) (pow-suc 2 i) ∙ mul-assoc (2 ^ i) 2 rest in
+          let c : 2 ^ (i + 1) * rest ≡ 2 ^ i * (2 * rest) = ap (λ j. 2 ^ j * rest) (add-one i)
+          ∙ ap (λ j. j * rest) (pow-suc 2 i) ∙ mul-assoc (2 ^ i) 2 rest in
           omega arith
 
 -- which bytes are digits 0 and 1
@@ -130,15 +141,19 @@ module _ (n : ℕ) (bytes : List ℕ) where
       by true = rw unblank
       by false = refl
 
-  pub target-blank : {e : ℕ} → n ≤ length bytes → Stretch (belongs Blank) bytes n e → length bytes ≤ e → binaryIn n bytes ≡ targetIn n bytes
+  pub target-blank : {e : ℕ} → n ≤ length bytes → Stretch (belongs Blank) bytes n e → length bytes ≤ e
+      → binaryIn n bytes ≡ targetIn n bytes
   unfolding targetIn binaryIn belongs allBlank
   target-blank {e} room s past =
       let end : e ≡ length bytes = let w = s .within in omega arith in
-      let whole : take (e - n) (drop n bytes) ≡ drop n bytes = ap (λ j. take (j - n) (drop n bytes)) end ∙ part-end bytes n in
-      let blank : all isBlank (drop n bytes) ≡ true = ap (all isBlank) (sym whole) ∙ run-all (belongs Blank) bytes n e s in
+      let whole : take (e - n) (drop n bytes) ≡ drop n bytes = ap (λ j. take (j - n) (drop n bytes)) end
+      ∙ part-end bytes n in
+      let blank : all isBlank (drop n bytes) ≡ true = ap (all isBlank) (sym whole)
+      ∙ run-all (belongs Blank) bytes n e s in
       by (all isBinary (take n bytes)) (le-leb n (length bytes) room) blank
     where
-      by : (t : Bool) {u v : Bool} → u ≡ true → v ≡ true → cond t (some (binary (take n bytes))) none ≡ cond (u && t && v) (some (binary (take n bytes))) none
+      by : (t : Bool) {u v : Bool} → u ≡ true → v ≡ true
+          → cond t (some (binary (take n bytes))) none ≡ cond (u && t && v) (some (binary (take n bytes))) none
       by true a b = rw (a, b)
       by false a b = rw a
 
@@ -170,16 +185,19 @@ plain-word (b ∷ bs) v e = by (eqb b 45) refl e
     plain (some (suc u)) zero e = cc
     plain (some (suc u)) (suc v) e = cc
 
-    by : (t : Bool) → eqb b 45 ≡ t → cond t (negated (numberIn bs)) (unsigned (numberIn (b ∷ bs))) ≡ signed false v → numberIn (b ∷ bs) ≡ some v
+    by : (t : Bool) → eqb b 45 ≡ t → cond t (negated (numberIn bs)) (unsigned (numberIn (b ∷ bs))) ≡ signed false v
+        → numberIn (b ∷ bs) ≡ some v
     by true m e = absurd (minus (numberIn bs) v e)
     by false m e = plain (numberIn (b ∷ bs)) v e
 
 -- a minus in front: no number without sign
 minus-first : (b : ℕ) (bs : List ℕ) → eqb b 45 ≡ true → numberIn (b ∷ bs) ≡ none
 unfolding numberIn isNumber all isDigit
-minus-first b bs e = by (leb 1 (length (b ∷ bs)) && leb (length (b ∷ bs)) 4) (leb 48 b) (lt-leb 48 b (let z = eqb-true b 45 e in omega arith))
+minus-first b bs e = by (leb 1 (length (b ∷ bs)) && leb (length (b ∷ bs)) 4) (leb 48 b)
+    (lt-leb 48 b (let z = eqb-true b 45 e in omega arith))
   where
-    by : (t u : Bool) → u ≡ false → cond (t && (u && leb b 57 && all isDigit bs)) (some (decimal 0 (b ∷ bs))) none ≡ none
+    by : (t u : Bool) → u ≡ false → cond (t && (u && leb b 57 && all isDigit bs)) (some (decimal 0 (b ∷ bs))) none
+        ≡ none
     by true u f = rw f
     by false u f = refl
 
@@ -194,7 +212,8 @@ bad-word (b ∷ bs) e = by (eqb b 45) refl e
     plain (some zero) e = cc
     plain (some (suc u)) e = cc
 
-    by : (t : Bool) → eqb b 45 ≡ t → cond t (negated (numberIn bs)) (unsigned (numberIn (b ∷ bs))) ≡ malformed → numberIn (b ∷ bs) ≡ none
+    by : (t : Bool) → eqb b 45 ≡ t → cond t (negated (numberIn bs)) (unsigned (numberIn (b ∷ bs))) ≡ malformed
+        → numberIn (b ∷ bs) ≡ none
     by true m e = minus-first b bs m
     by false m e = plain (numberIn (b ∷ bs)) e
 
@@ -210,7 +229,8 @@ minus-word (b ∷ bs) (suc v) e = by (eqb b 45) refl e
     plain (some zero) e = let z : _≡_ {A = ℕ} 0 1 = cc in omega arith
     plain (some (suc u)) e = let z : _≡_ {A = ℕ} 0 1 = cc in omega arith
 
-    by : (t : Bool) → eqb b 45 ≡ t → cond t (negated (numberIn bs)) (unsigned (numberIn (b ∷ bs))) ≡ literal (neg (suc v))
+    by : (t : Bool) → eqb b 45 ≡ t → cond t (negated (numberIn bs)) (unsigned (numberIn (b ∷ bs)))
+        ≡ literal (neg (suc v))
         → (numberIn (b ∷ bs) ≡ none) ⊎ (numberIn (b ∷ bs) ≡ some 0)
     by true m e = inl (minus-first b bs m)
     by false m e = absurd (plain (numberIn (b ∷ bs)) e)
@@ -227,7 +247,8 @@ spoiled-value n v none ne xs = refl
 spoiled-value n v (some ys) ne xs =
     let fails : isPermutation n (record { images = xs ++ v ∷ ys }) ≡ false =
     not-true-false (isPermutation n (record { images = xs ++ v ∷ ys }))
-    (λ t. ne (permutation-within n (record { images = xs ++ v ∷ ys }) (isPermutation-sound n (record { images = xs ++ v ∷ ys }) t) v (among v xs ys))) in
+    (λ t. ne (permutation-within n (record { images = xs ++ v ∷ ys })
+    (isPermutation-sound n (record { images = xs ++ v ∷ ys }) t) v (among v xs ys))) in
     rw fails
   where
     among : (v : ℕ) (xs ys : List ℕ) → v ∈ (xs ++ v ∷ ys)
@@ -250,31 +271,39 @@ module _ (n : ℕ) (bytes : List ℕ) (at from : ℕ) (run : Stretch (belongs Bl
   images-end h = skipped ∙ ap (λ l. numbersIn (spelled l)) (words-end bytes 0 from (let w = run .within in omega arith))
 
   -- the word there, and the numbers behind it
-  first : {next : ℕ} {t : Token} → WordAt bytes from next t → numbersFrom bytes at ≡ bothNumbers (numberIn (take (next - from) (drop from bytes))) (numbersFrom bytes next)
+  first : {next : ℕ} {t : Token} → WordAt bytes from next t
+      → numbersFrom bytes at ≡ bothNumbers (numberIn (take (next - from) (drop from bytes))) (numbersFrom bytes next)
   unfolding numbersIn
   first w = skipped ∙ ap (λ l. numbersIn (spelled l)) (w .parts 0)
 
   pub image-bad : (r : WordAnswer) → WordRead bytes from r → r ≡ no-word → Spoiled n (numbersFrom bytes at)
   image-bad (Read negated v c) w e = absurd (let x : _≡_ {A = ℕ} 0 1 = cc in omega arith)
   image-bad no-word (next, w) e =
-      subst (Spoiled n) (sym (first w ∙ ap (λ o. bothNumbers o (numbersFrom bytes next)) (bad-word (take (next - from) (drop from bytes)) (w .token)))) (spoiled-none n (numbersFrom bytes next))
+      subst (Spoiled n) (sym (first w
+      ∙ ap (λ o. bothNumbers o (numbersFrom bytes next)) (bad-word (take (next - from) (drop from bytes)) (w .token))))
+      (spoiled-none n (numbersFrom bytes next))
 
-  module _ (r : WordAnswer) (w : WordRead bytes from r) (negated : Bool) (v next : ℕ) (e : r ≡ Read negated v (record { at = next })) where
+  module _ (r : WordAnswer) (w : WordRead bytes from r) (negated : Bool) (v next : ℕ)
+      (e : r ≡ Read negated v (record { at = next })) where
     word : WordAt bytes from next (signed negated v)
     word = subst (WordRead bytes from) e w
 
     pub image-negated : negated ≡ true → Spoiled n (numbersFrom bytes at)
     image-negated m =
         ⊎-elim
-        (λ f. subst (Spoiled n) (sym (first word ∙ ap (λ o. bothNumbers o (numbersFrom bytes next)) f)) (spoiled-none n (numbersFrom bytes next)))
-        (λ f. subst (Spoiled n) (sym (first word ∙ ap (λ o. bothNumbers o (numbersFrom bytes next)) f)) (spoiled-value n 0 (numbersFrom bytes next) (λ h. let low = h .0 in let z : ⊥ = omega arith in z)))
+        (λ f. subst (Spoiled n) (sym (first word ∙ ap (λ o. bothNumbers o (numbersFrom bytes next)) f))
+        (spoiled-none n (numbersFrom bytes next)))
+        (λ f. subst (Spoiled n) (sym (first word ∙ ap (λ o. bothNumbers o (numbersFrom bytes next)) f))
+        (spoiled-value n 0 (numbersFrom bytes next) (λ h. let low = h .0 in let z : ⊥ = omega arith in z)))
         (minus-word (take (next - from) (drop from bytes)) v (word .token ∙ ap (λ b. signed b v) m))
 
     value : negated ≡ false → numbersFrom bytes at ≡ bothNumbers (some v) (numbersFrom bytes next)
-    value m = first word ∙ ap (λ o. bothNumbers o (numbersFrom bytes next)) (plain-word (take (next - from) (drop from bytes)) v (word .token ∙ ap (λ b. signed b v) m))
+    value m = first word ∙ ap (λ o. bothNumbers o (numbersFrom bytes next))
+        (plain-word (take (next - from) (drop from bytes)) v (word .token ∙ ap (λ b. signed b v) m))
 
     pub image-above : negated ≡ false → n < v → Spoiled n (numbersFrom bytes at)
-    image-above m above = subst (Spoiled n) (sym (value m)) (spoiled-value n v (numbersFrom bytes next) (λ h. let high = h .1 in let z : ⊥ = omega arith in z))
+    image-above m above = subst (Spoiled n) (sym (value m))
+        (spoiled-value n v (numbersFrom bytes next) (λ h. let high = h .1 in let z : ⊥ = omega arith in z))
 
     pub image-next : negated ≡ false → v ≤ n → Imaging n bytes at (Variable v (record { at = next }))
     image-next m le =
@@ -294,68 +323,75 @@ module _ (n : ℕ) (bytes part₀ : List ℕ) where
         kept = refl;
         front = zero-le;
         within = zero-le;
-        left = whole (numbersIn (spelled (words 0 bytes))) ∙ ap (λ j. prepended [] (numbersIn (spelled (words j bytes)))) (sym (zero-add 0));
+        left = whole (numbersIn (spelled (words 0 bytes)))
+            ∙ ap (λ j. prepended [] (numbersIn (spelled (words j bytes)))) (sym (zero-add 0));
       }
     where
       whole : (o : Option (List ℕ)) → o ≡ prepended [] o
       whole none = refl
       whole (some vs) = refl
 
-  module _ (part : List ℕ) (j at : ℕ) (c : Collecting n bytes part₀ part j at) (r : Image) (k : Imaging n bytes at r) where
-    filled : length (take j part) ≡ j
-    filled = length-take-le j part (let a = c .front in let b = c .size in omega arith)
+  module _ (part : List ℕ) (j at : ℕ) (c : Collecting n bytes part₀ part j at) (r : Image) (k : Imaging n bytes at r)
+    where
+      filled : length (take j part) ≡ j
+      filled = length-take-le j part (let a = c .front in let b = c .size in omega arith)
 
-    pub collect-ends : r ≡ End → (b : Bool) → eqb j (length part) ≡ b → Storing n bytes part b
-    unfolding prepended
-    collect-ends e true t =
-        let past : length part ≤ j = le-of-eq (sym (eqb-true j (length part) t)) in
-        c .left ∙ ap (prepended (take j part)) (subst (Imaging n bytes at) e k) ∙ ap some (append-nil (take j part) ∙ take-all j part past)
-    collect-ends e false t =
-        ap (permuting n) (c .left ∙ ap (prepended (take j part)) (subst (Imaging n bytes at) e k))
-        ∙ spoiled-size n (take j part ++ [])
-        (λ s. eqb-false j (length part) t (sym filled ∙ ap length (sym (append-nil (take j part))) ∙ s ∙ sym (c .size)))
+      pub collect-ends : r ≡ End → (b : Bool) → eqb j (length part) ≡ b → Storing n bytes part b
+      unfolding prepended
+      collect-ends e true t =
+          let past : length part ≤ j = le-of-eq (sym (eqb-true j (length part) t)) in
+          c .left ∙ ap (prepended (take j part)) (subst (Imaging n bytes at) e k)
+          ∙ ap some (append-nil (take j part) ∙ take-all j part past)
+      collect-ends e false t =
+          ap (permuting n) (c .left ∙ ap (prepended (take j part)) (subst (Imaging n bytes at) e k))
+          ∙ spoiled-size n (take j part ++ [])
+          (λ s. eqb-false j (length part) t (sym filled ∙ ap length (sym (append-nil (take j part))) ∙ s
+          ∙ sym (c .size)))
 
-    pub collect-stops : r ≡ Other → Storing n bytes part false
-    collect-stops e = ap (permuting n) (c .left) ∙ subst (Imaging n bytes at) e k (take j part)
+      pub collect-stops : r ≡ Other → Storing n bytes part false
+      collect-stops e = ap (permuting n) (c .left) ∙ subst (Imaging n bytes at) e k (take j part)
 
-    module _ (v : ℕ) (cursor : Cursor) (e : r ≡ Variable v cursor) where
-      found : Imaging n bytes at (Variable v cursor)
-      found = subst (Imaging n bytes at) e k
+      module _ (v : ℕ) (cursor : Cursor) (e : r ≡ Variable v cursor) where
+        found : Imaging n bytes at (Variable v cursor)
+        found = subst (Imaging n bytes at) e k
 
-      pub image-small : v ≤ 64
-      image-small = le-trans (found .2) (c .few)
+        pub image-small : v ≤ 64
+        image-small = le-trans (found .2) (c .few)
 
-      pub image-later : (at < cursor .at) × (cursor .at ≤ length bytes)
-      image-later = (found .0, found .1)
+        pub image-later : (at < cursor .at) × (cursor .at ≤ length bytes)
+        image-later = (found .0, found .1)
 
-      pub collect-full : length part ≤ j → Storing n bytes part false
-      unfolding prepended bothNumbers permuting
-      collect-full full =
-          ap (permuting n) (c .left ∙ ap (prepended (take j part)) (found .3)) ∙ by (numbersFrom bytes (cursor .at))
-        where
-          by : (o : Option (List ℕ)) → permuting n (prepended (take j part) (bothNumbers (some v) o)) ≡ none
-          by none = refl
-          by (some vs) =
-              spoiled-size n (take j part ++ v ∷ vs)
-              (λ s. let a = c .size in let b : ⊥ = omega (arith, filled, s, length-append (take j part) (v ∷ vs)) in b)
+        pub collect-full : length part ≤ j → Storing n bytes part false
+        unfolding prepended bothNumbers permuting
+        collect-full full =
+            ap (permuting n) (c .left ∙ ap (prepended (take j part)) (found .3)) ∙ by (numbersFrom bytes (cursor .at))
+          where
+            by : (o : Option (List ℕ)) → permuting n (prepended (take j part) (bothNumbers (some v) o)) ≡ none
+            by none = refl
+            by (some vs) =
+                spoiled-size n (take j part ++ v ∷ vs)
+                (λ s. let a = c .size in let b : ⊥ = omega (arith, filled, s, length-append (take j part) (v ∷ vs)) in
+                b)
 
-      pub collect-goes-on : j < length part → Collecting n bytes part₀ (set part j v) (j + 1) (cursor .at)
-      unfolding prepended bothNumbers
-      collect-goes-on room =
-          record {
-            few = c .few;
-            size = length-set part j v ∙ c .size;
-            kept = length-set part j v ∙ c .kept;
-            front = let a = c .size in omega arith;
-            within = found .1;
-            left = c .left ∙ ap (prepended (take j part)) (found .3) ∙ by (numbersFrom bytes (cursor .at));
-          }
-        where
-          by : (o : Option (List ℕ)) → prepended (take j part) (bothNumbers (some v) o) ≡ prepended (take (j + 1) (set part j v)) o
-          by none = refl
-          by (some vs) =
-              ap some (sym (append-snoc (take j part) v vs)
-              ∙ ap (λ l. l ++ vs) (sym (take-suc-set part j v room) ∙ ap (λ i. take i (set part j v)) (sym (add-one j))))
+        pub collect-goes-on : j < length part → Collecting n bytes part₀ (set part j v) (j + 1) (cursor .at)
+        unfolding prepended bothNumbers
+        collect-goes-on room =
+            record {
+              few = c .few;
+              size = length-set part j v ∙ c .size;
+              kept = length-set part j v ∙ c .kept;
+              front = let a = c .size in omega arith;
+              within = found .1;
+              left = c .left ∙ ap (prepended (take j part)) (found .3) ∙ by (numbersFrom bytes (cursor .at));
+            }
+          where
+            by : (o : Option (List ℕ)) → prepended (take j part) (bothNumbers (some v) o)
+                ≡ prepended (take (j + 1) (set part j v)) o
+            by none = refl
+            by (some vs) =
+                ap some (sym (append-snoc (take j part) v vs)
+                ∙ ap (λ l. l ++ vs) (sym (take-suc-set part j v room)
+                ∙ ap (λ i. take i (set part j v)) (sym (add-one j))))
 
 -- ---- the whole permutation line, behind its head
 
@@ -387,7 +423,8 @@ unfolding permutationIn beginsWord
 permutation-numbers n [] e low = absurd (let z : ⊥ = omega arith in z)
 permutation-numbers n (b ∷ bs) e low = rw e
 
-module _ (n : ℕ) (bytes : List ℕ) (at : ℕ) (old part : List ℕ) (k : ℕ) (same : k ≡ n) (room : at + n ≤ length old) (size : length part ≡ n)
+module _ (n : ℕ) (bytes : List ℕ) (at : ℕ) (old part : List ℕ) (k : ℕ) (same : k ≡ n) (room : at + n ≤ length old)
+    (size : length part ≡ n)
     (unblank : isBlank (getD bytes 0 0) ≡ false) (low : 1 ≤ length bytes) where
   -- the part in its place
   new : List ℕ
@@ -398,7 +435,8 @@ module _ (n : ℕ) (bytes : List ℕ) (at : ℕ) (old part : List ℕ) (k : ℕ)
 
   middle : take n (drop at new) ≡ part
   unfolding new
-  middle = ap (take n) (drop-at (take at old) (part ++ drop k (drop at old)) at head) ∙ take-at part (drop k (drop at old)) n size
+  middle = ap (take n) (drop-at (take at old) (part ++ drop k (drop at old)) at head)
+      ∙ take-at part (drop k (drop at old)) n size
 
   kept-front : take at new ≡ take at old
   unfolding new
@@ -410,26 +448,39 @@ module _ (n : ℕ) (bytes : List ℕ) (at : ℕ) (old part : List ℕ) (k : ℕ)
       sym (drop-drop n at new) ∙ ap (drop n) (drop-at (take at old) (part ++ drop k (drop at old)) at head)
       ∙ drop-at part (drop k (drop at old)) n size ∙ ap (λ j. drop j (drop at old)) same ∙ drop-drop n at old
 
-  pub permutation-unstored : (b : Bool) → Storing n bytes part b → b ≡ false → Permuting n bytes at old (take at old ++ (part ++ drop k (drop at old))) false
+  pub permutation-unstored : (b : Bool) → Storing n bytes part b → b ≡ false
+      → Permuting n bytes at old (take at old ++ (part ++ drop k (drop at old))) false
   unfolding new
   permutation-unstored true s e = absurd (true≢false e)
-  permutation-unstored false s e = record { result = permutation-numbers n bytes unblank low ∙ s; front = kept-front; rest = kept-rest }
+  permutation-unstored false s e = record {
+    result = permutation-numbers n bytes unblank low
+        ∙ s;
+    front = kept-front;
+    rest = kept-rest;
+  }
 
   pub permutation-stored : (b : Bool) → Storing n bytes part b → b ≡ true
-      → (r : Bool) → r ≡ isPermutation n (record { images = take k (drop at (take at old ++ (part ++ drop k (drop at old)))) })
+      → (r : Bool) → r ≡ isPermutation n (record {
+        images = take k
+            (drop at (take at old ++ (part ++ drop k (drop at old))));
+      })
       → Permuting n bytes at old (take at old ++ (part ++ drop k (drop at old))) r
   unfolding new permuting
   permutation-stored false s e r t = absurd (true≢false (sym e))
   permutation-stored true s e r t =
-      let found : r ≡ isPermutation n (record { images = part }) = t ∙ ap (λ j. isPermutation n (record { images = take j (drop at new) })) same ∙ ap (λ l. isPermutation n (record { images = l })) middle in
+      let found : r ≡ isPermutation n (record { images = part }) = t
+      ∙ ap (λ j. isPermutation n (record { images = take j (drop at new) })) same
+      ∙ ap (λ l. isPermutation n (record { images = l })) middle in
       record {
         result =
             permutation-numbers n bytes unblank low ∙ ap (permuting n) s
-            ∙ ap₂ (λ (t : Bool) (l : List ℕ). cond {A = Option Permutation} t (some (record { images = l })) none) (sym found) (sym middle);
+            ∙ ap₂ (λ (t : Bool) (l : List ℕ). cond {A = Option Permutation} t (some (record { images = l })) none)
+            (sym found) (sym middle);
         front = kept-front;
         rest = kept-rest;
       }
 
 -- the part that is lent has n bytes
 pub part-size : (n at : ℕ) (old : List ℕ) → at + n ≤ length old → length (take (at + n - at) (drop at old)) ≡ n
-part-size n at old room = length-take-le (at + n - at) (drop at old) (omega (arith, length-drop at old)) ∙ add-sub-cancel-left at n
+part-size n at old room = length-take-le (at + n - at) (drop at old) (omega (arith, length-drop at old))
+    ∙ add-sub-cancel-left at n

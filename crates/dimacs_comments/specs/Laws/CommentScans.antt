@@ -43,7 +43,8 @@ Spoiled n o = (xs : List ℕ) → permuting n (prepended xs o) ≡ none
 -- what stands next from a place on
 abbrev pub Imaging : ℕ → List ℕ → ℕ → Image → Type 0
 Imaging n bytes at End = numbersFrom bytes at ≡ some []
-Imaging n bytes at (Variable v c) = (at < c .at) × (c .at ≤ length bytes) × (v ≤ n) × (numbersFrom bytes at ≡ bothNumbers (some v) (numbersFrom bytes (c .at)))
+Imaging n bytes at (Variable v c) = (at < c .at) × (c .at ≤ length bytes) × (v ≤ n)
+    × (numbersFrom bytes at ≡ bothNumbers (some v) (numbersFrom bytes (c .at)))
 Imaging n bytes at Other = Spoiled n (numbersFrom bytes at)
 
 -- the part holds the numbers of all words, or no permutation comes of these

@@ -17,7 +17,8 @@ use Rattle.dimacs_clauses.specs.declared.Taken.{Taken}
 use Rattle.dimacs_clauses.specs.declared.Taken.the-variants.{On as Further, Refused as Stopped}
 use Rattle.dimacs_comments.specs.declared.State.{State}
 use Rattle.dimacs_format.specs.Text.{piece, words}
-use Rattle.dimacs_format.specs.Reader.{goes, refuses, walk, Sizes, wordStep, targetIn, targetKept, targetStep, permutationIn, permutationKept, permutationStep}
+use Rattle.dimacs_format.specs.Reader.{goes, refuses, walk, Sizes, wordStep, targetIn, targetKept, targetStep}
+use Rattle.dimacs_format.specs.Reader.{permutationIn, permutationKept, permutationStep}
 use Rattle.dimacs_format.specs.Input.{imagesOf}
 use Rattle.dimacs_words.specs.Laws.ScanLaws.{part-end}
 use Rattle.dimacs_comments.specs.Laws.CommentScans.{Permuting}
@@ -31,15 +32,18 @@ module _ (n start : ℕ) (line : List ℕ) (s : State) where
   unfolding targetStep
   target-second e = rw e
 
-  first-line : s .targeted ≡ false → (o : Option ℕ) → targetIn n (take (length line - 7) (drop 7 line)) ≡ o → targetStep n (targetOf s) (piece start line) ≡ targetKept start o
+  first-line : s .targeted ≡ false → (o : Option ℕ) → targetIn n (take (length line - 7) (drop 7 line)) ≡ o
+      → targetStep n (targetOf s) (piece start line) ≡ targetKept start o
   unfolding targetStep
   first-line e o f = rw e (ap (λ l. targetKept start (targetIn n l)) (sym (part-end line 7)) ∙ ap (targetKept start) f)
 
-  pub target-bad : s .targeted ≡ false → targetIn n (take (length line - 7) (drop 7 line)) ≡ none → targetStep n (targetOf s) (piece start line) ≡ refuses 8 start
+  pub target-bad : s .targeted ≡ false → targetIn n (take (length line - 7) (drop 7 line)) ≡ none
+      → targetStep n (targetOf s) (piece start line) ≡ refuses 8 start
   unfolding targetKept
   target-bad e f = first-line e none f
 
-  pub target-good : (x : ℕ) → s .targeted ≡ false → targetIn n (take (length line - 7) (drop 7 line)) ≡ some x → targetStep n (targetOf s) (piece start line) ≡ goes (some x)
+  pub target-good : (x : ℕ) → s .targeted ≡ false → targetIn n (take (length line - 7) (drop 7 line)) ≡ some x
+      → targetStep n (targetOf s) (piece start line) ≡ goes (some x)
   unfolding targetKept
   target-good x e f = first-line e (some x) f
 
@@ -54,27 +58,34 @@ module _ {A : Type 0} where
   drop-replicate : (m k : ℕ) (x : A) → drop m (replicate k x) ≡ replicate (k - m) x
   drop-replicate zero k x = ap (λ j. replicate j x) (let z : k ≡ k - 0 = omega arith in z)
   drop-replicate (suc m) zero x = ap (λ j. replicate j x) (let z : 0 ≡ 0 - suc m = omega arith in z)
-  drop-replicate (suc m) (suc k) x = drop-replicate m k x ∙ ap (λ j. replicate j x) (let z : k - m ≡ suc k - suc m = omega arith in z)
+  drop-replicate (suc m) (suc k) x = drop-replicate m k x
+      ∙ ap (λ j. replicate j x) (let z : k - m ≡ suc k - suc m = omega arith in z)
 
 -- one more behind k
-permutations-snoc : (n k : ℕ) (bytes : List ℕ) → permutationsIn n (suc k) bytes ≡ permutationsIn n k bytes ++ record { images = take n (drop (k * n) bytes) } ∷ []
+permutations-snoc : (n k : ℕ) (bytes : List ℕ)
+    → permutationsIn n (suc k) bytes ≡ permutationsIn n k bytes ++ record { images = take n (drop (k * n) bytes) } ∷ []
 unfolding permutationsIn
 permutations-snoc n zero bytes = ap (λ j. record { images = take n (drop j bytes) } ∷ []) (sym (zero-mul n))
 permutations-snoc n (suc k) bytes =
     ap (λ l. record { images = take n bytes } ∷ l)
     (permutations-snoc n k (drop n bytes)
-    ∙ ap (λ l. permutationsIn n k (drop n bytes) ++ record { images = take n l } ∷ []) (drop-drop (k * n) n bytes ∙ ap (λ j. drop j bytes) (add-comm n (k * n) ∙ sym (suc-mul k n))))
+    ∙ ap (λ l. permutationsIn n k (drop n bytes) ++ record { images = take n l } ∷ [])
+    (drop-drop (k * n) n bytes ∙ ap (λ j. drop j bytes) (add-comm n (k * n) ∙ sym (suc-mul k n))))
 
 -- they lie in the first k * n bytes
-permutations-front : (n k : ℕ) (a b : List ℕ) → take (k * n) a ≡ take (k * n) b → permutationsIn n k a ≡ permutationsIn n k b
+permutations-front : (n k : ℕ) (a b : List ℕ) → take (k * n) a ≡ take (k * n) b
+    → permutationsIn n k a ≡ permutationsIn n k b
 unfolding permutationsIn
 permutations-front n zero a b e = refl
 permutations-front n (suc k) a b e =
     let size : suc k * n ≡ n + k * n = suc-mul k n ∙ add-comm (k * n) n in
     let f : take (n + k * n) a ≡ take (n + k * n) b = ap (λ j. take j a) (sym size) ∙ e ∙ ap (λ j. take j b) size in
-    let same : take n a ≡ take n b = sym (take-take n (n + k * n) a (omega arith)) ∙ ap (take n) f ∙ take-take n (n + k * n) b (omega arith) in
-    let behind : take (k * n) (drop n a) ≡ take (k * n) (drop n b) = sym (drop-take n (k * n) a) ∙ ap (drop n) f ∙ drop-take n (k * n) b in
-    ap (λ l. record { images = l } ∷ permutationsIn n k (drop n a)) same ∙ ap (λ l. record { images = take n b } ∷ l) (permutations-front n k (drop n a) (drop n b) behind)
+    let same : take n a ≡ take n b = sym (take-take n (n + k * n) a (omega arith)) ∙ ap (take n) f
+    ∙ take-take n (n + k * n) b (omega arith) in
+    let behind : take (k * n) (drop n a) ≡ take (k * n) (drop n b) = sym (drop-take n (k * n) a) ∙ ap (drop n) f
+    ∙ drop-take n (k * n) b in
+    ap (λ l. record { images = l } ∷ permutationsIn n k (drop n a)) same
+    ∙ ap (λ l. record { images = take n b } ∷ l) (permutations-front n k (drop n a) (drop n b) behind)
 
 -- the images of k permutations are those bytes
 pub images-take : (n k : ℕ) (bytes : List ℕ) → imagesOf (permutationsIn n k bytes) ≡ take (k * n) bytes
@@ -86,7 +97,7 @@ images-take n (suc k) bytes =
 
 -- ---- a permutation line
 
--- the permutations fit their table
+-- the permutations fit into their bytes
 pub table-room : (n k : ℕ) → n ≤ 64 → k < 16 → k * n + n ≤ 1024
 table-room n k few lt = let a = part-ends k 16 n lt in omega arith
 
@@ -101,16 +112,20 @@ module _ (n start : ℕ) (line : List ℕ) (k : ℕ) (old : List ℕ) where
   unfolding permutationStep
   line-kept h o f =
       rw (lt-ltb (length (permutationsIn n k old)) 16 (subst (λ j. j < 16) (sym (length-permutations n k old)) h))
-      (ap (λ l. permutationKept (permutationsIn n k old) start (permutationIn n l)) (sym (part-end line 7)) ∙ ap (permutationKept (permutationsIn n k old) start) f)
+      (ap (λ l. permutationKept (permutationsIn n k old) start (permutationIn n l)) (sym (part-end line 7))
+      ∙ ap (permutationKept (permutationsIn n k old) start) f)
 
-  module _ (new : List ℕ) (r : Bool) (p : Permuting n (take (length line - 7) (drop 7 line)) (k * n) old new r) (lt : k < 16) where
+  module _ (new : List ℕ) (r : Bool) (p : Permuting n (take (length line - 7) (drop 7 line)) (k * n) old new r)
+      (lt : k < 16) where
     pub permutation-bad : r ≡ false → permutationStep n (permutationsIn n k old) (piece start line) ≡ refuses 9 start
     unfolding permutationKept
     permutation-bad e =
-        line-kept lt none (p .result ∙ ap (λ b. cond {A = Option Permutation} b (some (record { images = take n (drop (k * n) new) })) none) e)
+        line-kept lt none (p .result ∙ ap (λ b. cond {A = Option Permutation} b
+        (some (record { images = take n (drop (k * n) new) })) none) e)
 
     pub permutation-good : r ≡ true → n ≤ 64 → KeptImages n k old → length new ≡ length old
-        → KeptImages n (k + 1) new × (permutationStep n (permutationsIn n k old) (piece start line) ≡ goes (permutationsIn n (k + 1) new))
+        → KeptImages n (k + 1) new × (permutationStep n (permutationsIn n k old) (piece start line)
+        ≡ goes (permutationsIn n (k + 1) new))
     unfolding permutationKept
     permutation-good e few t size = (
       record {
@@ -118,11 +133,15 @@ module _ (n start : ℕ) (line : List ℕ) (k : ℕ) (old : List ℕ) where
         places = size ∙ t .places;
         unused =
             ap (λ j. drop j new) next ∙ p .rest ∙ sym (drop-drop n (k * n) old) ∙ ap (drop n) (t .unused)
-            ∙ drop-replicate n (1024 - k * n) 0 ∙ ap (λ j. replicate j 0) (let z : 1024 - k * n - n ≡ 1024 - (k * n + n) = omega arith in z ∙ ap (λ j. 1024 - j) (sym next));
+            ∙ drop-replicate n (1024 - k * n) 0
+            ∙ ap (λ j. replicate j 0) (let z : 1024 - k * n - n ≡ 1024 - (k * n + n) = omega arith in z
+            ∙ ap (λ j. 1024 - j) (sym next));
       },
       line-kept lt (some (record { images = take n (drop (k * n) new) }))
-          (p .result ∙ ap (λ b. cond {A = Option Permutation} b (some (record { images = take n (drop (k * n) new) })) none) e)
-          ∙ ap goes (ap (λ l. l ++ record { images = take n (drop (k * n) new) } ∷ []) (permutations-front n k old new (sym (p .front)))
+          (p .result ∙ ap (λ b. cond {A = Option Permutation} b (some (record { images = take n (drop (k * n) new) }))
+          none) e)
+          ∙ ap goes (ap (λ l. l ++ record { images = take n (drop (k * n) new) } ∷ [])
+          (permutations-front n k old new (sym (p .front)))
           ∙ sym (permutations-snoc n k new) ∙ ap (λ j. permutationsIn n j new) (sym (add-one k))),
     )
       where
@@ -131,12 +150,16 @@ module _ (n start : ℕ) (line : List ℕ) (k : ℕ) (old : List ℕ) where
 
 -- ---- a line of words
 
-module _ (z : Sizes) (start : ℕ) (line : List ℕ) (s : State) (p q : List ℕ) (r : Taken) (p₁ q₁ : List ℕ) (k : Scanning z start line (clausesFrom p q (s .begun)) r p₁ q₁) where
-  pub words-refused : (code place : ℕ) → r ≡ Stopped code place → walk (wordStep z) (clausesFrom p q (s .begun)) (words start line) ≡ refuses code place
+module _ (z : Sizes) (start : ℕ) (line : List ℕ) (s : State) (p q : List ℕ) (r : Taken) (p₁ q₁ : List ℕ)
+    (k : Scanning z start line (clausesFrom p q (s .begun)) r p₁ q₁) where
+  pub words-refused : (code place : ℕ) → r ≡ Stopped code place
+      → walk (wordStep z) (clausesFrom p q (s .begun)) (words start line) ≡ refuses code place
   words-refused code place e = sym (k .step) ∙ ap (takenOf p₁ q₁) e
 
-  pub words-taken : (more : Begun) → r ≡ Further more → Ready z (s .begun .closed) p q → length p₁ ≡ length p → length q₁ ≡ length q
-      → Ready z (more .closed) p₁ q₁ × (walk (wordStep z) (clausesFrom p q (s .begun)) (words start line) ≡ goes (clausesFrom p₁ q₁ more))
+  pub words-taken : (more : Begun) → r ≡ Further more → Ready z (s .begun .closed) p q → length p₁ ≡ length p
+      → length q₁ ≡ length q
+      → Ready z (more .closed) p₁ q₁ × (walk (wordStep z) (clausesFrom p q (s .begun)) (words start line)
+      ≡ goes (clausesFrom p₁ q₁ more))
   words-taken more e ready lp lq = (
     record {
       variables = ready .variables;

@@ -10,16 +10,18 @@ use Rattle.dimacs_format.specs.Text.{ascii, problemWord, formatWord, tar
 use Rattle.dimacs_format.specs.Reader.{readReply, readFormula, readPositive, readNegative}
 
 -- the bytes that the fixed words and heads are
-pub fixed-bytes : (problemWord ≡ 112 ∷ []) × (formatWord ≡ 99 ∷ 110 ∷ 102 ∷ []) × (targetHead ≡ 99 ∷ 32 ∷ 119 ∷ 105 ∷ 115 ∷ 104 ∷ 32 ∷ [])
+pub fixed-bytes : (problemWord ≡ 112 ∷ []) × (formatWord ≡ 99 ∷ 110 ∷ 102 ∷ [])
+    × (targetHead ≡ 99 ∷ 32 ∷ 119 ∷ 105 ∷ 115 ∷ 104 ∷ 32 ∷ [])
     × (permutationHead ≡ 99 ∷ 32 ∷ 101 ∷ 120 ∷ 99 ∷ 104 ∷ 32 ∷ [])
 fixed-bytes = (refl, refl, refl, refl)
 
 -- what the reader yields from a text and two slices
-pub record Example (text positive₀ negative₀ : List ℕ) (r : Reply) (f : Formula) (positive₁ negative₁ : List ℕ) : Type 0 where
-  pub reply : readReply text positive₀ negative₀ ≡ r
-  pub formula : readFormula text positive₀ negative₀ ≡ f
-  pub positive : readPositive text positive₀ negative₀ ≡ positive₁
-  pub negative : readNegative text positive₀ negative₀ ≡ negative₁
+pub record Example (text positive₀ negative₀ : List ℕ) (r : Reply) (f : Formula) (positive₁ negative₁ : List ℕ) : Type 0
+  where
+    pub reply : readReply text positive₀ negative₀ ≡ r
+    pub formula : readFormula text positive₀ negative₀ ≡ f
+    pub positive : readPositive text positive₀ negative₀ ≡ positive₁
+    pub negative : readNegative text positive₀ negative₀ ≡ negative₁
 
 -- "B", as a text: `p cnf 3 2`, `c wish 000`, `1 2 0`, `-1 3 0` on four lines; the third place of a slice stays
 abbrev pub satisfiable-text : List ℕ
@@ -27,7 +29,8 @@ satisfiable-text =
     ascii "p cnf 3 2\n" ++ ascii "c wish 000\n" ++ ascii "1 2 0\n" ++ ascii "-1 3 0\n"
 
 pub satisfiable-text-read : Example satisfiable-text (7 ∷ 8 ∷ 9 ∷ []) (7 ∷ 8 ∷ []) parsed
-    (record { variables = 3; clauses = 2; target = 0; permutations = 0; images = replicate 1024 0 }) (3 ∷ 4 ∷ 9 ∷ []) (0 ∷ 1 ∷ [])
+    (record { variables = 3; clauses = 2; target = 0; permutations = 0; images = replicate 1024 0 }) (3 ∷ 4 ∷ 9 ∷ [])
+    (0 ∷ 1 ∷ [])
 unfolding readReply readFormula readPositive readNegative
 satisfiable-text-read = record { reply = refl; formula = refl; positive = refl; negative = refl }
 
@@ -44,7 +47,8 @@ symmetric-text =
     ++ ascii "-2 0\n"
 
 pub symmetric-text-read : Example symmetric-text (9 ∷ 9 ∷ 9 ∷ 9 ∷ []) (9 ∷ 9 ∷ 9 ∷ 9 ∷ []) parsed
-    (record { variables = 2; clauses = 4; target = 0; permutations = 1; images = 2 ∷ 1 ∷ replicate 1022 0 }) (3 ∷ 2 ∷ 1 ∷ 0 ∷ []) (0 ∷ 1 ∷ 2 ∷ 3 ∷ [])
+    (record { variables = 2; clauses = 4; target = 0; permutations = 1; images = 2 ∷ 1 ∷ replicate 1022 0 })
+    (3 ∷ 2 ∷ 1 ∷ 0 ∷ []) (0 ∷ 1 ∷ 2 ∷ 3 ∷ [])
 unfolding readReply readFormula readPositive readNegative
 symmetric-text-read = record { reply = refl; formula = refl; positive = refl; negative = refl }
 

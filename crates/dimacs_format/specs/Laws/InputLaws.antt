@@ -1,4 +1,5 @@
--- What an accepted text is sure to hold, and that the formula and the two slices read from it say just that. Assumes nothing.
+-- What an accepted text is sure to hold, and that the formula and the two slices read from it say just that. Assumes
+-- nothing.
 use mathlib.Core.List.{List, [], _∷_, _++_, append-assoc, List·Memᴰ·tail, List·Memᴰ·not-nil, List·Memᴰ·cases-cons}
 use mathlib.Core.Logic.{⊎-elim}
 use mathlib.Core.Path.{_≡_, refl, sym, ap, ap₂, _∙_, subst}
@@ -18,7 +19,8 @@ use Rattle.permutation_theory.specs.Permutations.{Permutation, IsPermutation, p
 use Rattle.formula.specs.Limits.{maxVariables, maxClauses, maxPermutations}
 use Rattle.formula.specs.Problem.{problemOf}
 use Rattle.dimacs_format.specs.Text.{Line}
-use Rattle.dimacs_format.specs.Input.{Input, clauseOf, imagePlaces, imagesOf, padded, formulaOf, positives, negatives}
+use Rattle.dimacs_format.specs.Input.{Input, clauseOf, imagePlaces, imagesOf, padded, formulaOf, positives}
+use Rattle.dimacs_format.specs.Input.{negatives}
 use Rattle.dimacs_format.specs.Accepted.{Targeted, Permuted, Accepts, no-line, one-line, none-left, one-more}
 use Rattle.dimacs_format.specs.Laws.ClauseLaws.{clauseOf-below}
 
@@ -38,9 +40,11 @@ targeted-below : (n : ℕ) {ls : List Line} {x : ℕ} → Targeted n ls x → x 
 targeted-below n no-line = pow-pos n
 targeted-below n (one-line t) = t .within
 
-permuted-each : (n : ℕ) {ls : List Line} {es : List Permutation} → Permuted n ls es → (e : Permutation) → e ∈ es → IsPermutation n e
+permuted-each : (n : ℕ) {ls : List Line} {es : List Permutation} → Permuted n ls es → (e : Permutation) → e ∈ es
+    → IsPermutation n e
 permuted-each n none-left e m = absurd (List·Memᴰ·not-nil m)
-permuted-each n (one-more p ps) e m = ⊎-elim (λ h. subst (IsPermutation n) (sym h) (p .permutation)) (λ k. permuted-each n ps e k) (List·Memᴰ·cases-cons m)
+permuted-each n (one-more p ps) e m = ⊎-elim (λ h. subst (IsPermutation n) (sym h) (p .permutation))
+    (λ k. permuted-each n ps e k) (List·Memᴰ·cases-cons m)
 
 pub accepts-proper : (text : List ℕ) (p q : ℕ) (d : Input) → Accepts text p q d → Proper d
 accepts-proper text p q d a =
@@ -52,7 +56,8 @@ accepts-proper text p q d a =
       clauses =
           λ c m.
           let w = map-out clauseOf (a .grouped .groups) (subst (λ cs. c ∈ cs) (a .grouped .clauses) m) in
-          subst (λ k. (k .positive < 2 ^ d .variables) × (k .negative < 2 ^ d .variables)) (sym (w .2)) (clauseOf-below (d .variables) (w .0) (a .grouped .within (w .0) (w .1)));
+          subst (λ k. (k .positive < 2 ^ d .variables) × (k .negative < 2 ^ d .variables)) (sym (w .2))
+          (clauseOf-below (d .variables) (w .0) (a .grouped .within (w .0) (w .1)));
       few-permutations = a .few-permutations;
       permutations = permuted-each (d .variables) (a .permuted);
     }
@@ -60,13 +65,19 @@ accepts-proper text p q d a =
 -- ---- the images
 
 -- "they stand without gaps, n bytes each"
-pub images-length : (n : ℕ) (es : List Permutation) → ((e : Permutation) → e ∈ es → IsPermutation n e) → length (imagesOf es) ≡ length es * n
+pub images-length : (n : ℕ) (es : List Permutation) → ((e : Permutation) → e ∈ es → IsPermutation n e)
+    → length (imagesOf es) ≡ length es * n
 unfolding imagesOf
 images-length n es h = length-flatMap (λ (e : Permutation). e .images) n es (λ e m. h e m .size)
 
 pub padded-length : (size : ℕ) (bytes : List ℕ) → length bytes ≤ size → length (padded size bytes) ≡ size
 unfolding padded
-padded-length size bytes le = omega (arith, length-append bytes (replicate (size - length bytes) 0), length-replicate {A = ℕ} (size - length bytes) 0)
+padded-length size bytes le = omega (
+  arith,
+  length-append bytes (replicate (size - length bytes) 0),
+  length-replicate
+      {A = ℕ} (size - length bytes) 0,
+)
 
 -- the permutations that stand in a run of bytes are those whose images were put there
 pub images-back : (n : ℕ) (es : List Permutation) (rest : List ℕ) → ((e : Permutation) → e ∈ es → IsPermutation n e)
@@ -75,8 +86,10 @@ unfolding permutationsIn imagesOf
 images-back n [] rest h = refl
 images-back n (e ∷ es) rest h =
     let size : length (e .images) ≡ n = h e (here e es) .size in
-    let split : imagesOf (e ∷ es) ++ rest ≡ e .images ++ (imagesOf es ++ rest) = append-assoc (e .images) (imagesOf es) rest in
-    ap₂ (λ x y. record { images = x } ∷ permutationsIn n (length es) y) (ap (take n) split ∙ take-at (e .images) (imagesOf es ++ rest) n size)
+    let split : imagesOf (e ∷ es) ++ rest
+    ≡ e .images ++ (imagesOf es ++ rest) = append-assoc (e .images) (imagesOf es) rest in
+    ap₂ (λ x y. record { images = x } ∷ permutationsIn n (length es) y)
+    (ap (take n) split ∙ take-at (e .images) (imagesOf es ++ rest) n size)
     (ap (drop n) split ∙ drop-at (e .images) (imagesOf es ++ rest) n size)
     ∙ ap (λ l. e ∷ l) (images-back n es rest (λ k m. h k (List·Memᴰ·tail m)))
 
@@ -84,19 +97,23 @@ images-back n (e ∷ es) rest h =
 pub record Images (d : Input) : Type 0 where
   pub places : length (formulaOf d .images) ≡ imagePlaces
   pub front : take (length (d .permutations) * d .variables) (formulaOf d .images) ≡ imagesOf (d .permutations)
-  pub unused : drop (length (d .permutations) * d .variables) (formulaOf d .images) ≡ replicate (imagePlaces - length (d .permutations) * d .variables) 0
+  pub unused : drop (length (d .permutations) * d .variables) (formulaOf d .images)
+      ≡ replicate (imagePlaces - length (d .permutations) * d .variables) 0
 
 pub proper-images : (d : Input) → Proper d → Images d
 unfolding formulaOf
 proper-images d h =
     let bytes : List ℕ = imagesOf (d .permutations) in
-    let size : length bytes ≡ length (d .permutations) * d .variables = images-length (d .variables) (d .permutations) (h .permutations) in
-    let le : length (d .permutations) * d .variables ≤ imagePlaces = mul-le-mul (h .few-permutations) (h .few-variables) in
+    let size : length bytes ≡ length (d .permutations) * d .variables = images-length (d .variables) (d .permutations)
+    (h .permutations) in
+    let le : length (d .permutations) * d .variables
+    ≤ imagePlaces = mul-le-mul (h .few-permutations) (h .few-variables) in
     let rest : List ℕ = replicate (imagePlaces - length bytes) 0 in
     record {
       places = padded-length imagePlaces bytes (subst (λ k. k ≤ imagePlaces) (sym size) le);
       front = take-at bytes rest (length (d .permutations) * d .variables) size;
-      unused = drop-at bytes rest (length (d .permutations) * d .variables) size ∙ ap (λ k. replicate (imagePlaces - k) 0) size;
+      unused = drop-at bytes rest (length (d .permutations) * d .variables) size
+          ∙ ap (λ k. replicate (imagePlaces - k) 0) size;
     }
 
 -- ---- the formula and the first C places of the slices are the problem that the text says
@@ -107,7 +124,8 @@ clauses-back [] = refl
 clauses-back (c ∷ cs) = ap (λ l. c ∷ l) (clauses-back cs)
 
 pub input-problem : (d : Input) → Proper d → (positive₀ negative₀ : List ℕ)
-    → problemOf (formulaOf d) (take (length (d .clauses)) (over (positives (d .clauses)) positive₀)) (take (length (d .clauses)) (over (negatives (d .clauses)) negative₀))
+    → problemOf (formulaOf d) (take (length (d .clauses)) (over (positives (d .clauses)) positive₀))
+    (take (length (d .clauses)) (over (negatives (d .clauses)) negative₀))
     ≡ record {
       variables = d .variables;
       total = length (d .clauses);
@@ -122,5 +140,13 @@ input-problem d h positive₀ negative₀ =
     ap₂ clausesOf (over-front (length cs) (positives cs) positive₀ (length-map cs (λ (c : Clause). c .positive)))
     (over-front (length cs) (negatives cs) negative₀ (length-map cs (λ (c : Clause). c .negative)))
     ∙ clauses-back cs in
-    ap₂ (λ es ks. record { variables = d .variables; total = length cs; target = d .target; permutations = es; clauses = numbered ks })
-    (images-back (d .variables) (d .permutations) (replicate (imagePlaces - length (imagesOf (d .permutations))) 0) (h .permutations)) c
+    ap₂ (λ es ks. record {
+      variables = d .variables;
+      total = length cs;
+      target = d .target;
+      permutations = es;
+      clauses =
+          numbered ks;
+    })
+    (images-back (d .variables) (d .permutations) (replicate (imagePlaces - length (imagesOf (d .permutations))) 0)
+    (h .permutations)) c

@@ -1,5 +1,5 @@
--- Laws of the lines behind the problem line: each is of one kind, and the walk over all of them is three walks side by side, over the words,
--- the target lines and the permutation lines. Assumes nothing.
+-- Laws of the lines behind the problem line: each is of one kind, and the walk over all of them is three walks side by
+-- side, over the words, the target lines and the permutation lines. Assumes nothing.
 use mathlib.Core.Bool.{Bool, true, false, not, true≢false}
 use mathlib.Core.List.{List, [], _∷_, _++_, flatMap, append-nil}
 use mathlib.Core.Option.{Option}
@@ -8,8 +8,10 @@ use Prim.Native.Nat.{ℕ}
 use Rattle.math.specs.Lists.{select}
 use Rattle.math.specs.Laws.SplitLaws.{select-cons, select-skip, select-append, flatMap-append}
 use Rattle.permutation_theory.specs.Permutations.{Permutation}
-use Rattle.dimacs_format.specs.Text.{Line, Word, wordsOf, begins, isComment, targetHead, permutationHead, isTargetLine, isPermutationLine}
-use Rattle.dimacs_format.specs.Reader.{andThen, walk, Sizes, Clauses, wordStep, targetStep, permutationStep, Kind, kindBy, kindOf, Progress, handled, lineStep, goes}
+use Rattle.dimacs_format.specs.Text.{Line, Word, wordsOf, begins, isComment, targetHead, permutationHead}
+use Rattle.dimacs_format.specs.Text.{isTargetLine, isPermutationLine}
+use Rattle.dimacs_format.specs.Reader.{andThen, walk, Sizes, Clauses, wordStep, targetStep, permutationStep, Kind}
+use Rattle.dimacs_format.specs.Reader.{kindBy, kindOf, Progress, handled, lineStep, goes}
 use Rattle.dimacs_format.specs.Accepted.{wordsAmong}
 use Rattle.dimacs_format.specs.Laws.TextLaws.{begins-split}
 use Rattle.dimacs_format.specs.Laws.StepLaws.{goes-same, both-go, walk-step, walk-steps, walk-halves}
@@ -46,7 +48,8 @@ view l = by (isComment l) refl (isTargetLine l) refl (isPermutationLine l) refl
     by true c false t true q = view-permutation c t q
     by true c false t false q = view-remark c t q
 
-pub kind-is : (l : Line) {c t p : Bool} → isComment l ≡ c → isTargetLine l ≡ t → isPermutationLine l ≡ p → kindOf l ≡ kindBy c t p
+pub kind-is : (l : Line) {c t p : Bool} → isComment l ≡ c → isTargetLine l ≡ t → isPermutationLine l ≡ p
+    → kindOf l ≡ kindBy c t p
 unfolding kindOf
 kind-is l c t p = rw (c, t, p)
 
@@ -55,7 +58,8 @@ kind-is l c t p = rw (c, t, p)
 pub record Parts (z : Sizes) (s : Progress) (ls : List Line) (q : Progress) : Type 0 where
   pub clauses : walk (wordStep z) (s .clauses) (wordsAmong ls) ≡ goes (q .clauses)
   pub target : walk (targetStep (z .variables)) (s .target) (select isTargetLine ls) ≡ goes (q .target)
-  pub permutations : walk (permutationStep (z .variables)) (s .permutations) (select isPermutationLine ls) ≡ goes (q .permutations)
+  pub permutations : walk (permutationStep (z .variables)) (s .permutations) (select isPermutationLine ls)
+      ≡ goes (q .permutations)
 
 words-append : (ls ms : List Line) → wordsAmong (ls ++ ms) ≡ wordsAmong ls ++ wordsAmong ms
 unfolding wordsAmong
@@ -64,7 +68,8 @@ words-append ls ms =
     ∙ flatMap-append wordsOf (select (λ k. not (isComment k)) ls) (select (λ k. not (isComment k)) ms)
 
 -- a line, and then the lines behind it
-parts-append : (z : Sizes) (s r q : Progress) (ls ms : List Line) → Parts z s ls r → Parts z r ms q → Parts z s (ls ++ ms) q
+parts-append : (z : Sizes) (s r q : Progress) (ls ms : List Line) → Parts z s ls r → Parts z r ms q
+    → Parts z s (ls ++ ms) q
 parts-append z s r q ls ms a b =
     record {
       clauses =
@@ -72,22 +77,28 @@ parts-append z s r q ls ms a b =
           ∙ walk-steps (wordStep z) (s .clauses) (r .clauses) (wordsAmong ls) (wordsAmong ms) (a .clauses) ∙ b .clauses;
       target =
           ap (walk (targetStep (z .variables)) (s .target)) (select-append isTargetLine ls ms)
-          ∙ walk-steps (targetStep (z .variables)) (s .target) (r .target) (select isTargetLine ls) (select isTargetLine ms) (a .target) ∙ b .target;
+          ∙ walk-steps (targetStep (z .variables)) (s .target) (r .target) (select isTargetLine ls)
+          (select isTargetLine ms) (a .target) ∙ b .target;
       permutations =
           ap (walk (permutationStep (z .variables)) (s .permutations)) (select-append isPermutationLine ls ms)
-          ∙ walk-steps (permutationStep (z .variables)) (s .permutations) (r .permutations) (select isPermutationLine ls) (select isPermutationLine ms) (a .permutations)
+          ∙ walk-steps (permutationStep (z .variables)) (s .permutations) (r .permutations)
+          (select isPermutationLine ls) (select isPermutationLine ms) (a .permutations)
           ∙ b .permutations;
     }
 
-parts-split : (z : Sizes) (s q : Progress) (ls ms : List Line) → Parts z s (ls ++ ms) q → (r : Progress) × Parts z s ls r × Parts z r ms q
+parts-split : (z : Sizes) (s q : Progress) (ls ms : List Line) → Parts z s (ls ++ ms) q
+    → (r : Progress) × Parts z s ls r × Parts z r ms q
 parts-split z s q ls ms p =
-    let c = walk-halves (wordStep z) (s .clauses) (wordsAmong ls) (wordsAmong ms) (ap (walk (wordStep z) (s .clauses)) (sym (words-append ls ms)) ∙ p .clauses) in
+    let c = walk-halves (wordStep z) (s .clauses) (wordsAmong ls) (wordsAmong ms)
+    (ap (walk (wordStep z) (s .clauses)) (sym (words-append ls ms)) ∙ p .clauses) in
     let t =
     walk-halves (targetStep (z .variables)) (s .target) (select isTargetLine ls) (select isTargetLine ms)
     (ap (walk (targetStep (z .variables)) (s .target)) (sym (select-append isTargetLine ls ms)) ∙ p .target) in
     let e =
-    walk-halves (permutationStep (z .variables)) (s .permutations) (select isPermutationLine ls) (select isPermutationLine ms)
-    (ap (walk (permutationStep (z .variables)) (s .permutations)) (sym (select-append isPermutationLine ls ms)) ∙ p .permutations) in (
+    walk-halves (permutationStep (z .variables)) (s .permutations) (select isPermutationLine ls)
+    (select isPermutationLine ms)
+    (ap (walk (permutationStep (z .variables)) (s .permutations)) (sym (select-append isPermutationLine ls ms))
+    ∙ p .permutations) in (
       record { clauses = c .0; target = t .0; permutations = e .0 },
       record { clauses = c .1; target = t .1; permutations = e .1 },
       record { clauses = c .2; target = t .2; permutations = e .2 },
@@ -96,7 +107,8 @@ parts-split z s q ls ms p =
 -- the three lists of one line
 words-here : (l : Line) → isComment l ≡ false → wordsAmong (l ∷ []) ≡ wordsOf l
 unfolding wordsAmong
-words-here l e = ap (flatMap wordsOf) (select-cons (λ k. not (isComment k)) {x = l} [] (ap not e)) ∙ append-nil (wordsOf l)
+words-here l e = ap (flatMap wordsOf) (select-cons (λ k. not (isComment k)) {x = l} [] (ap not e))
+    ∙ append-nil (wordsOf l)
 
 words-not : (l : Line) → isComment l ≡ true → wordsAmong (l ∷ []) ≡ []
 unfolding wordsAmong
@@ -112,25 +124,32 @@ line-parts z l s r e = by (view l)
 
     by : View l → Parts z s (l ∷ []) r
     by (view-clauses c t p) =
-        let h = both-go (walk (wordStep z) (s .clauses) (wordsOf l)) (λ x. goes (record { clauses = x; target = s .target; permutations = s .permutations })) (step (kind-is l c t p)) in
+        let h = both-go (walk (wordStep z) (s .clauses) (wordsOf l))
+        (λ x. goes (record { clauses = x; target = s .target; permutations = s .permutations }))
+        (step (kind-is l c t p)) in
         subst (Parts z s (l ∷ [])) (goes-same (h .2))
         (record {
           clauses = ap (walk (wordStep z) (s .clauses)) (words-here l c) ∙ h .1;
           target = ap (walk (targetStep (z .variables)) (s .target)) (select-skip isTargetLine {x = l} [] t);
-          permutations = ap (walk (permutationStep (z .variables)) (s .permutations)) (select-skip isPermutationLine {x = l} [] p);
+          permutations = ap (walk (permutationStep (z .variables)) (s .permutations))
+              (select-skip isPermutationLine {x = l} [] p);
         })
     by (view-target c t p) =
-        let h = both-go (targetStep (z .variables) (s .target) l) (λ x. goes (record { clauses = s .clauses; target = x; permutations = s .permutations })) (step (kind-is l c t p)) in
+        let h = both-go (targetStep (z .variables) (s .target) l)
+        (λ x. goes (record { clauses = s .clauses; target = x; permutations = s .permutations }))
+        (step (kind-is l c t p)) in
         subst (Parts z s (l ∷ [])) (goes-same (h .2))
         (record {
           clauses = ap (walk (wordStep z) (s .clauses)) (words-not l c);
           target =
               ap (walk (targetStep (z .variables)) (s .target)) (select-cons isTargetLine {x = l} [] t)
               ∙ walk-step (targetStep (z .variables)) (s .target) (h .0) l [] (h .1);
-          permutations = ap (walk (permutationStep (z .variables)) (s .permutations)) (select-skip isPermutationLine {x = l} [] p);
+          permutations = ap (walk (permutationStep (z .variables)) (s .permutations))
+              (select-skip isPermutationLine {x = l} [] p);
         })
     by (view-permutation c t p) =
-        let h = both-go (permutationStep (z .variables) (s .permutations) l) (λ x. goes (record { clauses = s .clauses; target = s .target; permutations = x })) (step (kind-is l c t p)) in
+        let h = both-go (permutationStep (z .variables) (s .permutations) l)
+        (λ x. goes (record { clauses = s .clauses; target = s .target; permutations = x })) (step (kind-is l c t p)) in
         subst (Parts z s (l ∷ [])) (goes-same (h .2))
         (record {
           clauses = ap (walk (wordStep z) (s .clauses)) (words-not l c);
@@ -144,12 +163,14 @@ line-parts z l s r e = by (view l)
         (record {
           clauses = ap (walk (wordStep z) (s .clauses)) (words-not l c);
           target = ap (walk (targetStep (z .variables)) (s .target)) (select-skip isTargetLine {x = l} [] t);
-          permutations = ap (walk (permutationStep (z .variables)) (s .permutations)) (select-skip isPermutationLine {x = l} [] p);
+          permutations = ap (walk (permutationStep (z .variables)) (s .permutations))
+              (select-skip isPermutationLine {x = l} [] p);
         })
 
 -- a progress is its three parts
 pub three-same : {c d : Clauses} {t u : Option ℕ} {es fs : List Permutation} → c ≡ d → t ≡ u → es ≡ fs
-    → _≡_ {A = Progress} (record { clauses = c; target = t; permutations = es }) (record { clauses = d; target = u; permutations = fs })
+    → _≡_ {A = Progress} (record { clauses = c; target = t; permutations = es })
+    (record { clauses = d; target = u; permutations = fs })
 three-same p q r i = record { clauses = p i; target = q i; permutations = r i }
 
 -- and back
@@ -161,30 +182,40 @@ parts-line z l s r a = by (view l)
     clauses-of : {ws : List Word} → wordsAmong (l ∷ []) ≡ ws → walk (wordStep z) (s .clauses) ws ≡ goes (r .clauses)
     clauses-of e = ap (walk (wordStep z) (s .clauses)) (sym e) ∙ a .clauses
 
-    target-of : {ls : List Line} → select isTargetLine (l ∷ []) ≡ ls → walk (targetStep (z .variables)) (s .target) ls ≡ goes (r .target)
+    target-of : {ls : List Line} → select isTargetLine (l ∷ []) ≡ ls
+        → walk (targetStep (z .variables)) (s .target) ls ≡ goes (r .target)
     target-of e = ap (walk (targetStep (z .variables)) (s .target)) (sym e) ∙ a .target
 
-    permutations-of : {ls : List Line} → select isPermutationLine (l ∷ []) ≡ ls → walk (permutationStep (z .variables)) (s .permutations) ls ≡ goes (r .permutations)
+    permutations-of : {ls : List Line} → select isPermutationLine (l ∷ []) ≡ ls
+        → walk (permutationStep (z .variables)) (s .permutations) ls ≡ goes (r .permutations)
     permutations-of e = ap (walk (permutationStep (z .variables)) (s .permutations)) (sym e) ∙ a .permutations
 
     by : View l → lineStep z s l ≡ goes r
     by (view-clauses c t p) =
         ap (handled z s l) (kind-is l c t p)
-        ∙ ap (λ m. andThen m (λ x. goes (record { clauses = x; target = s .target; permutations = s .permutations }))) (clauses-of (words-here l c))
-        ∙ ap goes (three-same refl (goes-same (target-of (select-skip isTargetLine {x = l} [] t))) (goes-same (permutations-of (select-skip isPermutationLine {x = l} [] p))))
+        ∙ ap (λ m. andThen m (λ x. goes (record { clauses = x; target = s .target; permutations = s .permutations })))
+        (clauses-of (words-here l c))
+        ∙ ap goes (three-same refl (goes-same (target-of (select-skip isTargetLine {x = l} [] t)))
+        (goes-same (permutations-of (select-skip isPermutationLine {x = l} [] p))))
     by (view-target c t p) =
-        let h = both-go (targetStep (z .variables) (s .target) l) (λ x. goes x) (target-of (select-cons isTargetLine {x = l} [] t)) in
+        let h = both-go (targetStep (z .variables) (s .target) l) (λ x. goes x)
+        (target-of (select-cons isTargetLine {x = l} [] t)) in
         ap (handled z s l) (kind-is l c t p)
-        ∙ ap (λ m. andThen m (λ x. goes (record { clauses = s .clauses; target = x; permutations = s .permutations }))) (h .1)
-        ∙ ap goes (three-same (goes-same (clauses-of (words-not l c))) (goes-same (h .2)) (goes-same (permutations-of (select-skip isPermutationLine {x = l} [] p))))
+        ∙ ap (λ m. andThen m (λ x. goes (record { clauses = s .clauses; target = x; permutations = s .permutations })))
+        (h .1)
+        ∙ ap goes (three-same (goes-same (clauses-of (words-not l c))) (goes-same (h .2))
+        (goes-same (permutations-of (select-skip isPermutationLine {x = l} [] p))))
     by (view-permutation c t p) =
-        let h = both-go (permutationStep (z .variables) (s .permutations) l) (λ x. goes x) (permutations-of (select-cons isPermutationLine {x = l} [] p)) in
+        let h = both-go (permutationStep (z .variables) (s .permutations) l) (λ x. goes x)
+        (permutations-of (select-cons isPermutationLine {x = l} [] p)) in
         ap (handled z s l) (kind-is l c t p)
         ∙ ap (λ m. andThen m (λ x. goes (record { clauses = s .clauses; target = s .target; permutations = x }))) (h .1)
-        ∙ ap goes (three-same (goes-same (clauses-of (words-not l c))) (goes-same (target-of (select-skip isTargetLine {x = l} [] t))) (goes-same (h .2)))
+        ∙ ap goes (three-same (goes-same (clauses-of (words-not l c)))
+        (goes-same (target-of (select-skip isTargetLine {x = l} [] t))) (goes-same (h .2)))
     by (view-remark c t p) =
         ap (handled z s l) (kind-is l c t p)
-        ∙ ap goes (three-same (goes-same (clauses-of (words-not l c))) (goes-same (target-of (select-skip isTargetLine {x = l} [] t)))
+        ∙ ap goes (three-same (goes-same (clauses-of (words-not l c)))
+        (goes-same (target-of (select-skip isTargetLine {x = l} [] t)))
         (goes-same (permutations-of (select-skip isPermutationLine {x = l} [] p))))
 
 -- over all lines
@@ -202,7 +233,8 @@ walk-parts z (l ∷ ls) s q e =
 
 pub parts-walk : (z : Sizes) (ls : List Line) (s q : Progress) → Parts z s ls q → walk (lineStep z) s ls ≡ goes q
 unfolding walk wordsAmong
-parts-walk z [] s q a = ap goes (three-same (goes-same (a .clauses)) (goes-same (a .target)) (goes-same (a .permutations)))
+parts-walk z [] s q a = ap goes (three-same (goes-same (a .clauses)) (goes-same (a .target))
+    (goes-same (a .permutations)))
 parts-walk z (l ∷ ls) s q a =
     let v = parts-split z s q (l ∷ []) ls a in
     walk-step (lineStep z) s (v .0) l ls (parts-line z l s (v .0) (v .1)) ∙ parts-walk z ls (v .0) q (v .2)

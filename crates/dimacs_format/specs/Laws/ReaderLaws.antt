@@ -1,5 +1,5 @@
--- The reader accepts just the accepted texts, and yields what they say; what it yields after a refusal; what an accepted text is sure to
--- hold. Assumes nothing.
+-- The reader accepts just the accepted texts, and yields what they say; what it yields after a refusal; what an
+-- accepted text is sure to hold. Assumes nothing.
 use mathlib.Core.Bool.{Bool, true, false, cond, _&&_, _||_}
 use mathlib.Core.List.{List, [], _∷_, _++_, nil≢cons, List·Memᴰ·tail, List·Memᴰ·not-nil, List·Memᴰ·cases-cons}
 use mathlib.Core.Logic.{inl, inr, ⊎-elim}
@@ -15,9 +15,14 @@ use Rattle.math.specs.Lists.{over, _∈_, select}
 use Rattle.formula.specs.Limits.{maxVariables, maxClauses}
 use Rattle.formula.specs.Problem.{emptyFormula}
 use Rattle.formula.specs.Reply.{parsed, refused}
-use Rattle.dimacs_format.specs.Text.{maxText, isBlank, Line, lines, wordsOf, spelled, sameBytes, begins, isComment, allBlank, problemWord, formatWord, isTargetLine, isPermutationLine, numberIn, tokenIn, malformed}
+use Rattle.dimacs_format.specs.Text.{maxText, isBlank, Line, lines, wordsOf, spelled, sameBytes, begins}
+use Rattle.dimacs_format.specs.Text.{isComment, allBlank, problemWord, formatWord, isTargetLine}
+use Rattle.dimacs_format.specs.Text.{isPermutationLine, numberIn, tokenIn, malformed}
 use Rattle.dimacs_format.specs.Input.{Input, emptyClause, formulaOf, positives, negatives}
-use Rattle.dimacs_format.specs.Reader.{Step, andThen, walk, Sizes, sizesIn, problemWords, problemIn, withinLimits, Progress, begin, lineStep, isSkipped, fromProblem, inputOf, atEnd, withRoom, withProblem, withLines, reading, replyTo, formulaFrom, sliceFrom, readReply, readFormula, readPositive, readNegative, goes, refuses}
+use Rattle.dimacs_format.specs.Reader.{Step, andThen, walk, Sizes, sizesIn, problemWords, problemIn, withinLimits}
+use Rattle.dimacs_format.specs.Reader.{Progress, begin, lineStep, isSkipped, fromProblem, inputOf, atEnd}
+use Rattle.dimacs_format.specs.Reader.{withRoom, withProblem, withLines, reading, replyTo, formulaFrom, sliceFrom}
+use Rattle.dimacs_format.specs.Reader.{readReply, readFormula, readPositive, readNegative, goes, refuses}
 use Rattle.dimacs_format.specs.Accepted.{ProblemLine, Permuted, wordsAmong, Skipped, Accepts}
 use Rattle.dimacs_format.specs.Laws.TextLaws.{begins-split, same-bytes}
 use Rattle.dimacs_format.specs.Laws.StepLaws.{same-some, not-some, some-cond, goes-same, never, both-go}
@@ -31,7 +36,11 @@ sizes-of : (v c : Option ℕ) (z : Sizes) → sizesIn v c ≡ some z → (v ≡ 
 unfolding sizesIn
 sizes-of none c z e = absurd (not-some e)
 sizes-of (some v) none z e = absurd (not-some e)
-sizes-of (some v) (some c) z e = (ap (λ (k : Sizes). some (k .variables)) (same-some e), ap (λ (k : Sizes). some (k .total)) (same-some e))
+sizes-of (some v) (some c) z e = (
+  ap (λ (k : Sizes). some (k .variables)) (same-some e),
+  ap
+      (λ (k : Sizes). some (k .total)) (same-some e),
+)
 
 pub problem-of : (l : Line) (z : Sizes) → problemIn l ≡ some z → ProblemLine l (z .variables) (z .total)
 unfolding problemIn
@@ -39,7 +48,8 @@ problem-of l z e =
     let c = some-cond (begins problemWord (l .bytes)) e in
     by (spelled (wordsOf l)) refl (c .1) (begins-split problemWord (l .bytes) (c .0))
   where
-    by : (ws : List (List ℕ)) → spelled (wordsOf l) ≡ ws → problemWords ws ≡ some z → l .bytes ≡ problemWord ++ drop 1 (l .bytes)
+    by : (ws : List (List ℕ)) → spelled (wordsOf l) ≡ ws → problemWords ws ≡ some z
+        → l .bytes ≡ problemWord ++ drop 1 (l .bytes)
         → ProblemLine l (z .variables) (z .total)
     by [] f e b = absurd (not-some e)
     by (p ∷ []) f e b = absurd (not-some e)
@@ -63,7 +73,8 @@ problem-of l z e =
 pub problem-in : (l : Line) (n c : ℕ) → ProblemLine l n c → problemIn l ≡ some (record { variables = n; total = c })
 unfolding problemIn
 problem-in l n c p =
-    ap (λ t. cond t (problemWords (spelled (wordsOf l))) none) (ap (begins problemWord) (p .first)) ∙ ap problemWords (p .four)
+    ap (λ t. cond t (problemWords (spelled (wordsOf l))) none) (ap (begins problemWord) (p .first))
+    ∙ ap problemWords (p .four)
     ∙ ap₂ sizesIn (p .variables) (p .total)
 
 -- a problem line is no comment and not all blanks
@@ -89,14 +100,20 @@ from-split [] l after e = absurd (nil≢cons e)
 from-split (k ∷ ls) l after e = by (isSkipped k) refl e (from-split ls l after)
   where
     by : (t : Bool) → isSkipped k ≡ t → cond t (fromProblem ls) (k ∷ ls) ≡ l ∷ after
-        → (fromProblem ls ≡ l ∷ after → (before : List Line) × (ls ≡ before ++ l ∷ after) × ((k : Line) → k ∈ before → Skipped k))
+        → (fromProblem ls ≡ l ∷ after
+        → (before : List Line) × (ls ≡ before ++ l ∷ after) × ((k : Line) → k ∈ before → Skipped k))
         → (before : List Line) × (k ∷ ls ≡ before ++ l ∷ after) × ((k : Line) → k ∈ before → Skipped k)
     by true s e ih =
-        let i = ih e in
-        (k ∷ i .0, ap (λ r. k ∷ r) (i .1), λ j m. ⊎-elim (λ p. subst Skipped (sym p) (skipped-of k s)) (λ m. i .2 j m) (List·Memᴰ·cases-cons m))
+        let i = ih e in (
+          k ∷ i .0,
+          ap (λ r. k ∷ r) (i .1),
+          λ j m. ⊎-elim (λ p. subst Skipped (sym p) (skipped-of k s)) (λ m. i .2 j m)
+              (List·Memᴰ·cases-cons m),
+        )
     by false s e ih = ([], e, λ j m. absurd (List·Memᴰ·not-nil m))
 
-from-of : (before : List Line) (l : Line) (after : List Line) → ((k : Line) → k ∈ before → Skipped k) → isSkipped l ≡ false
+from-of : (before : List Line) (l : Line) (after : List Line) → ((k : Line) → k ∈ before → Skipped k)
+    → isSkipped l ≡ false
     → fromProblem (before ++ l ∷ after) ≡ l ∷ after
 unfolding fromProblem
 from-of [] l after h e = ap (λ t. cond t (fromProblem after) (l ∷ after)) e
@@ -113,8 +130,10 @@ second-problem = refl
 
 module _ (text : List ℕ) (p q : ℕ) where
   -- behind a problem line with sizes z: the walk came to s, and C clauses are closed
-  accepts-with : (l : Line) (after : List Line) (z : Sizes) (s : Progress) → length text ≤ maxText → fromProblem (lines 0 text) ≡ l ∷ after
-      → problemIn l ≡ some z → withinLimits z ≡ true → leb (z .total) p && leb (z .total) q ≡ true → walk (lineStep z) begin after ≡ goes s
+  accepts-with : (l : Line) (after : List Line) (z : Sizes) (s : Progress) → length text ≤ maxText
+      → fromProblem (lines 0 text) ≡ l ∷ after
+      → problemIn l ≡ some z → withinLimits z ≡ true → leb (z .total) p && leb (z .total) q ≡ true
+      → walk (lineStep z) begin after ≡ goes s
       → length (s .clauses .closed) ≡ z .total → Accepts text p q (inputOf (z .variables) s)
   unfolding withinLimits
   accepts-with l after z s size from is limits room walked full =
@@ -148,26 +167,33 @@ module _ (text : List ℕ) (p q : ℕ) where
   unfolding reading
   reading-accepts d e = whole (leb (length text) maxText) refl (fromProblem (lines 0 text)) refl e
     where
-      ends : (l : Line) (after : List Line) (z : Sizes) (s : Progress) → length text ≤ maxText → fromProblem (lines 0 text) ≡ l ∷ after → problemIn l ≡ some z
+      ends : (l : Line) (after : List Line) (z : Sizes) (s : Progress) → length text ≤ maxText
+          → fromProblem (lines 0 text) ≡ l ∷ after → problemIn l ≡ some z
           → withinLimits z ≡ true → leb (z .total) p && leb (z .total) q ≡ true → walk (lineStep z) begin after ≡ goes s
-          → (t : Bool) → eqb (length (s .clauses .closed)) (z .total) ≡ t → cond t (goes (inputOf (z .variables) s)) (refuses 7 (length text)) ≡ goes d → Accepts text p q d
+          → (t : Bool) → eqb (length (s .clauses .closed)) (z .total) ≡ t
+          → cond t (goes (inputOf (z .variables) s)) (refuses 7 (length text)) ≡ goes d → Accepts text p q d
       ends l after z s size from is limits room walked true f e =
-          subst (Accepts text p q) (goes-same e) (accepts-with l after z s size from is limits room walked (eqb-true (length (s .clauses .closed)) (z .total) f))
+          subst (Accepts text p q) (goes-same e) (accepts-with l after z s size from is limits room walked
+          (eqb-true (length (s .clauses .closed)) (z .total) f))
       ends l after z s size from is limits room walked false f e = absurd (never e)
 
-      sized : (l : Line) (after : List Line) (z : Sizes) → length text ≤ maxText → fromProblem (lines 0 text) ≡ l ∷ after → problemIn l ≡ some z
+      sized : (l : Line) (after : List Line) (z : Sizes) → length text ≤ maxText
+          → fromProblem (lines 0 text) ≡ l ∷ after → problemIn l ≡ some z
           → (t : Bool) → withinLimits z ≡ t → (u : Bool) → leb (z .total) p && leb (z .total) q ≡ u
-          → cond t (cond u (andThen (walk (lineStep z) begin after) (atEnd (length text) z)) (refuses 4 (l .start))) (refuses 3 (l .start)) ≡ goes d → Accepts text p q d
+          → cond t (cond u (andThen (walk (lineStep z) begin after) (atEnd (length text) z)) (refuses 4 (l .start)))
+          (refuses 3 (l .start)) ≡ goes d → Accepts text p q d
       sized l after z size from is false f u g e = absurd (never e)
       sized l after z size from is true f false g e = absurd (never e)
       sized l after z size from is true f true g e =
           let v = both-go (walk (lineStep z) begin after) (atEnd (length text) z) e in
           ends l after z (v .0) size from is f g (v .1) (eqb (length (v .0 .clauses .closed)) (z .total)) refl (v .2)
 
-      headed : (l : Line) (after : List Line) → length text ≤ maxText → fromProblem (lines 0 text) ≡ l ∷ after → (o : Option Sizes) → problemIn l ≡ o
+      headed : (l : Line) (after : List Line) → length text ≤ maxText → fromProblem (lines 0 text) ≡ l ∷ after
+          → (o : Option Sizes) → problemIn l ≡ o
           → withProblem (length text) p q l after o ≡ goes d → Accepts text p q d
       headed l after size from none is e = absurd (never e)
-      headed l after size from (some z) is e = sized l after z size from is (withinLimits z) refl (leb (z .total) p && leb (z .total) q) refl e
+      headed l after size from (some z) is e = sized l after z size from is (withinLimits z) refl
+          (leb (z .total) p && leb (z .total) q) refl e
 
       whole : (t : Bool) → leb (length text) maxText ≡ t → (ls : List Line) → fromProblem (lines 0 text) ≡ ls
           → cond t (withLines (length text) p q ls) (refuses 1 maxText) ≡ goes d → Accepts text p q d
@@ -183,15 +209,22 @@ module _ (text : List ℕ) (p q : ℕ) where
   accepts-reading d a =
       let z : Sizes = record { variables = d .variables; total = length (d .clauses) } in
       let t = targeted-walk (d .variables) (a .targeted) in
-      let s : Progress = record { clauses = record { closed = d .clauses; begun = emptyClause }; target = t .0; permutations = d .permutations } in
+      let s : Progress = record {
+        clauses = record { closed = d .clauses; begun = emptyClause };
+        target = t .0;
+        permutations = d .permutations;
+      } in
       let from : fromProblem (lines 0 text) ≡ a .problem ∷ a .after =
-      ap fromProblem (a .place) ∙ from-of (a .before) (a .problem) (a .after) (a .skipped) (problem-shown (a .problem) (d .variables) (length (d .clauses)) (a .sizes)) in
+      ap fromProblem (a .place) ∙ from-of (a .before) (a .problem) (a .after) (a .skipped)
+      (problem-shown (a .problem) (d .variables) (length (d .clauses)) (a .sizes)) in
       let limits : withinLimits z ≡ true =
       and-join (leb 1 (d .variables) && leb (d .variables) maxVariables) (leb (length (d .clauses)) maxClauses)
-      (and-join (leb 1 (d .variables)) (leb (d .variables) maxVariables) (le-leb 1 (d .variables) (a .some-variable)) (le-leb (d .variables) maxVariables (a .few-variables)))
+      (and-join (leb 1 (d .variables)) (leb (d .variables) maxVariables) (le-leb 1 (d .variables) (a .some-variable))
+      (le-leb (d .variables) maxVariables (a .few-variables)))
       (le-leb (length (d .clauses)) maxClauses (a .few-clauses)) in
       let room : leb (length (d .clauses)) p && leb (length (d .clauses)) q ≡ true =
-      and-join (leb (length (d .clauses)) p) (leb (length (d .clauses)) q) (le-leb (length (d .clauses)) p (a .room-positive))
+      and-join (leb (length (d .clauses)) p) (leb (length (d .clauses)) q)
+      (le-leb (length (d .clauses)) p (a .room-positive))
       (le-leb (length (d .clauses)) q (a .room-negative)) in
       let walked : walk (lineStep z) begin (a .after) ≡ goes s =
       parts-walk z (a .after) begin s
@@ -200,19 +233,30 @@ module _ (text : List ℕ) (p q : ℕ) where
         target = t .1;
         permutations = permuted-walk (d .variables) (a .permuted) [] (omega (arith, a .few-permutations));
       }) in
-      ap (λ b. cond b (withLines (length text) p q (fromProblem (lines 0 text))) (refuses 1 maxText)) (le-leb (length text) maxText (a .size))
+      ap (λ b. cond b (withLines (length text) p q (fromProblem (lines 0 text))) (refuses 1 maxText))
+      (le-leb (length text) maxText (a .size))
       ∙ ap (withLines (length text) p q) from
-      ∙ ap (withProblem (length text) p q (a .problem) (a .after)) (problem-in (a .problem) (d .variables) (length (d .clauses)) (a .sizes))
+      ∙ ap (withProblem (length text) p q (a .problem) (a .after))
+      (problem-in (a .problem) (d .variables) (length (d .clauses)) (a .sizes))
       ∙ ap (λ b. cond b (withRoom (length text) p q (a .problem) (a .after) z) (refuses 3 (a .problem .start))) limits
-      ∙ ap (λ b. cond b (andThen (walk (lineStep z) begin (a .after)) (atEnd (length text) z)) (refuses 4 (a .problem .start))) room
+      ∙ ap (λ b. cond b (andThen (walk (lineStep z) begin (a .after)) (atEnd (length text) z))
+      (refuses 4 (a .problem .start))) room
       ∙ ap (λ m. andThen m (atEnd (length text) z)) walked
-      ∙ ap (λ b. cond b (goes (inputOf (d .variables) s)) (refuses 7 (length text))) (eq-eqb (length (d .clauses)) (length (d .clauses)) refl)
-      ∙ ap (λ x. goes (record { variables = d .variables; clauses = d .clauses; target = x; permutations = d .permutations })) (t .2)
+      ∙ ap (λ b. cond b (goes (inputOf (d .variables) s)) (refuses 7 (length text)))
+      (eq-eqb (length (d .clauses)) (length (d .clauses)) refl)
+      ∙ ap (λ x. goes (record {
+        variables = d .variables;
+        clauses = d .clauses;
+        target = x;
+        permutations =
+            d .permutations;
+      })) (t .2)
 
 -- R1: "text too long | 1 | 1,048,576"
 pub too-long : (text : List ℕ) (p q : ℕ) → maxText < length text → reading text p q ≡ refuses 1 maxText
 unfolding reading
-too-long text p q lt = ap (λ b. cond b (withLines (length text) p q (fromProblem (lines 0 text))) (refuses 1 maxText)) (lt-leb (length text) maxText lt)
+too-long text p q lt = ap (λ b. cond b (withLines (length text) p q (fromProblem (lines 0 text))) (refuses 1 maxText))
+    (lt-leb (length text) maxText lt)
 
 -- a text says one thing
 pub accepts-once : (text : List ℕ) (p q : ℕ) (d e : Input) → Accepts text p q d → Accepts text p q e → d ≡ e
@@ -229,7 +273,8 @@ pub record Yields (text positive₀ negative₀ : List ℕ) (d : Input) : Type 0
   pub negative : readNegative text positive₀ negative₀ ≡ over (negatives (d .clauses)) negative₀
 
 module _ (text positive₀ negative₀ : List ℕ) where
-  goes-yields : (d : Input) → reading text (length positive₀) (length negative₀) ≡ goes d → Yields text positive₀ negative₀ d
+  goes-yields : (d : Input) → reading text (length positive₀) (length negative₀) ≡ goes d
+      → Yields text positive₀ negative₀ d
   unfolding readReply readFormula readPositive readNegative
   goes-yields d e =
       record {
@@ -240,7 +285,8 @@ module _ (text positive₀ negative₀ : List ℕ) where
       }
 
   -- D2.1: an accepted text is read, and yields what it says
-  pub accepts-yields : (d : Input) → Accepts text (length positive₀) (length negative₀) d → Yields text positive₀ negative₀ d
+  pub accepts-yields : (d : Input) → Accepts text (length positive₀) (length negative₀) d
+      → Yields text positive₀ negative₀ d
   accepts-yields d a = goes-yields d (accepts-reading text (length positive₀) (length negative₀) d a)
 
   -- D2.1: a text that is read is an accepted one
@@ -256,11 +302,13 @@ module _ (text positive₀ negative₀ : List ℕ) where
 
   -- N1: "Every row leaves all lent slices unchanged"; N2: "a refusal carries one that is 0 throughout"
   pub refused-leaves : (code place : ℕ) → readReply text positive₀ negative₀ ≡ refused code place
-      → (readFormula text positive₀ negative₀ ≡ emptyFormula) × (readPositive text positive₀ negative₀ ≡ positive₀) × (readNegative text positive₀ negative₀ ≡ negative₀)
+      → (readFormula text positive₀ negative₀ ≡ emptyFormula) × (readPositive text positive₀ negative₀ ≡ positive₀)
+      × (readNegative text positive₀ negative₀ ≡ negative₀)
   unfolding readReply readFormula readPositive readNegative
   refused-leaves code place e = by (reading text (length positive₀) (length negative₀)) e
     where
       by : (r : Step Input) → replyTo r ≡ refused code place
-          → (formulaFrom r ≡ emptyFormula) × (sliceFrom positives r positive₀ ≡ positive₀) × (sliceFrom negatives r negative₀ ≡ negative₀)
+          → (formulaFrom r ≡ emptyFormula) × (sliceFrom positives r positive₀ ≡ positive₀)
+          × (sliceFrom negatives r negative₀ ≡ negative₀)
       by (goes d) e = absurd (let z : _≡_ {A = ℕ} 0 1 = cc in let n : ⊥ = omega arith in n)
       by (refuses c p) e = (refl, refl, refl)

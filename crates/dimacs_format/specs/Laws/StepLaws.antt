@@ -57,5 +57,6 @@ module _ {S X : Type 0} (f : S → X → Step S) where
   walk-steps s q xs ys e = walk-append s xs ys ∙ ap (λ m. andThen m (λ r. walk f r ys)) e
 
   -- a walk to the end goes to the end of its first half, and from there
-  pub walk-halves : (s : S) (xs ys : List X) {q : S} → walk f s (xs ++ ys) ≡ goes q → (r : S) × (walk f s xs ≡ goes r) × (walk f r ys ≡ goes q)
+  pub walk-halves : (s : S) (xs ys : List X) {q : S} → walk f s (xs ++ ys) ≡ goes q
+      → (r : S) × (walk f s xs ≡ goes r) × (walk f r ys ≡ goes q)
   walk-halves s xs ys e = both-go (walk f s xs) (λ r. walk f r ys) (sym (walk-append s xs ys) ∙ e)

@@ -1,5 +1,5 @@
--- Laws of lines and words: the computed runs are the declared ones and no others, how they go on from a place of the text, and what the
--- tests on bytes say. Assumes nothing.
+-- Laws of lines and words: the computed runs are the declared ones and no others, how they go on from a place of the
+-- text, and what the tests on bytes say. Assumes nothing.
 use mathlib.Core.Bool.{Bool, true, false, not, cond, false≢true}
 use mathlib.Core.List.{List, [], _∷_, _++_, map}
 use mathlib.Core.Path.{_≡_, refl, sym, ap, ap₂, _∙_, subst}
@@ -13,7 +13,8 @@ use borrow.Author.Tests.{eqb-true, eq-eqb, not-true, le-leb}
 use Rattle.math.specs.Laws.ListLaws.{and-split, and-join}
 use Rattle.math.specs.Lists.{all, select}
 use Rattle.math.specs.Laws.SplitLaws.{select-cons}
-use Rattle.dimacs_format.specs.Text.{endsLine, isBlank, Piece, piece, Clean, Split, joined, pieces, Word, lines, holdsBytes, words, sameBytes, begins, split-last, split-more}
+use Rattle.dimacs_format.specs.Text.{endsLine, isBlank, Piece, piece, Clean, Split, joined, pieces, Word, lines}
+use Rattle.dimacs_format.specs.Text.{holdsBytes, words, sameBytes, begins, split-last, split-more}
 
 -- ---- the runs
 
@@ -39,15 +40,19 @@ module _ (t : ℕ → Bool) where
   pub pieces-at : (at k : ℕ) (bytes : List ℕ) → k < length bytes → Clean t (take k bytes) → t (getD bytes k 0) ≡ true
       → pieces t at bytes ≡ piece at (take k bytes) ∷ pieces t (suc (at + k)) (drop (suc k) bytes)
   pieces-at at k bytes lt clean e =
-      ap (pieces t at) (split-at bytes k 0 lt) ∙ pieces-next at (take k bytes) (getD bytes k 0) (drop (suc k) bytes) clean e
-      ∙ ap (λ j. piece at (take k bytes) ∷ pieces t (suc (at + j)) (drop (suc k) bytes)) (length-take-le k bytes (omega arith))
+      ap (pieces t at) (split-at bytes k 0 lt)
+      ∙ pieces-next at (take k bytes) (getD bytes k 0) (drop (suc k) bytes) clean e
+      ∙ ap (λ j. piece at (take k bytes) ∷ pieces t (suc (at + j)) (drop (suc k) bytes))
+      (length-take-le k bytes (omega arith))
 
   -- a byte that does not separate joins the first run
-  split-joined : {at b : ℕ} {bs : List ℕ} {ps : List Piece} → t b ≡ false → Split t (suc at) bs ps → Split t at (b ∷ bs) (joined false at b ps)
+  split-joined : {at b : ℕ} {bs : List ℕ} {ps : List Piece} → t b ≡ false → Split t (suc at) bs ps
+      → Split t at (b ∷ bs) (joined false at b ps)
   unfolding joined all
   split-joined {at} {b} e (split-last {run = run} clean) = split-last {run = b ∷ run} (rw e clean)
   split-joined {at} {b} e (split-more {b = c} {run = run} {rest = rest} {ps = ps} clean f s) =
-      split-more {run = b ∷ run} (rw e clean) f (subst (λ k. Split t (suc k) rest ps) (suc-add at (length run) ∙ sym (add-suc at (length run))) s)
+      split-more {run = b ∷ run} (rw e clean) f (subst (λ k. Split t (suc k) rest ps)
+      (suc-add at (length run) ∙ sym (add-suc at (length run))) s)
 
   -- the computed runs are the declared ones
   pub pieces-split : (at : ℕ) (xs : List ℕ) → Split t at xs (pieces t at xs)
@@ -55,8 +60,10 @@ module _ (t : ℕ → Bool) where
   pieces-split at [] = split-last refl
   pieces-split at (b ∷ bs) = by (t b) refl (pieces-split (suc at) bs)
     where
-      by : (v : Bool) → t b ≡ v → Split t (suc at) bs (pieces t (suc at) bs) → Split t at (b ∷ bs) (joined v at b (pieces t (suc at) bs))
-      by true e s = split-more {run = []} refl e (subst (λ k. Split t (suc k) bs (pieces t (suc at) bs)) (sym (add-zero at)) s)
+      by : (v : Bool) → t b ≡ v → Split t (suc at) bs (pieces t (suc at) bs)
+          → Split t at (b ∷ bs) (joined v at b (pieces t (suc at) bs))
+      by true e s = split-more {run = []} refl e (subst (λ k. Split t (suc k) bs (pieces t (suc at) bs))
+          (sym (add-zero at)) s)
       by false e s = split-joined e s
 
   -- and there are no others
@@ -66,7 +73,8 @@ module _ (t : ℕ → Bool) where
       ap (λ l. piece at run ∷ l) (split-pieces s) ∙ sym (pieces-next at run b rest clean e)
 
   -- what the runs hold does not depend on where the text begins
-  pub pieces-bytes : (a b : ℕ) (xs : List ℕ) → map (λ (p : Piece). p .bytes) (pieces t a xs) ≡ map (λ (p : Piece). p .bytes) (pieces t b xs)
+  pub pieces-bytes : (a b : ℕ) (xs : List ℕ)
+      → map (λ (p : Piece). p .bytes) (pieces t a xs) ≡ map (λ (p : Piece). p .bytes) (pieces t b xs)
   unfolding pieces
   pieces-bytes a b [] = refl
   pieces-bytes a b (x ∷ xs) = by (t x) (pieces t (suc a) xs) (pieces t (suc b) xs) (pieces-bytes (suc a) (suc b) xs)
@@ -87,7 +95,8 @@ unfolding lines
 lines-last at run clean = pieces-end endsLine at run clean
 
 -- a line of k bytes, and then byte 10
-pub lines-next : (at k : ℕ) (bytes : List ℕ) → k < length bytes → Clean endsLine (take k bytes) → endsLine (getD bytes k 0) ≡ true
+pub lines-next : (at k : ℕ) (bytes : List ℕ) → k < length bytes → Clean endsLine (take k bytes)
+    → endsLine (getD bytes k 0) ≡ true
     → lines at bytes ≡ piece at (take k bytes) ∷ lines (suc (at + k)) (drop (suc k) bytes)
 unfolding lines
 lines-next at k bytes lt clean e = pieces-at endsLine at k bytes lt clean e
@@ -110,10 +119,12 @@ holds at b bs = le-leb 1 (suc (length bs)) (omega arith)
 -- a word up to the end
 pub words-last : (at b : ℕ) (run : List ℕ) → Clean isBlank (b ∷ run) → words at (b ∷ run) ≡ piece at (b ∷ run) ∷ []
 unfolding words select
-words-last at b run clean = ap (select holdsBytes) (pieces-end isBlank at (b ∷ run) clean) ∙ select-cons holdsBytes [] (holds at b run)
+words-last at b run clean = ap (select holdsBytes) (pieces-end isBlank at (b ∷ run) clean)
+    ∙ select-cons holdsBytes [] (holds at b run)
 
 -- a word of k bytes, and then a blank
-pub words-next : (at k : ℕ) (bytes : List ℕ) → 1 ≤ k → k < length bytes → Clean isBlank (take k bytes) → isBlank (getD bytes k 0) ≡ true
+pub words-next : (at k : ℕ) (bytes : List ℕ) → 1 ≤ k → k < length bytes → Clean isBlank (take k bytes)
+    → isBlank (getD bytes k 0) ≡ true
     → words at bytes ≡ piece at (take k bytes) ∷ words (suc (at + k)) (drop (suc k) bytes)
 unfolding words
 words-next at k bytes some-byte lt clean e =
@@ -123,11 +134,13 @@ words-next at k bytes some-byte lt clean e =
     (le-leb 1 (length (take k bytes)) (omega arith))
 
 -- what the words hold does not depend on where the text begins
-pub words-bytes : (a b : ℕ) (xs : List ℕ) → map (λ (w : Word). w .bytes) (words a xs) ≡ map (λ (w : Word). w .bytes) (words b xs)
+pub words-bytes : (a b : ℕ) (xs : List ℕ)
+    → map (λ (w : Word). w .bytes) (words a xs) ≡ map (λ (w : Word). w .bytes) (words b xs)
 unfolding words
 words-bytes a b xs = held (pieces isBlank a xs) (pieces isBlank b xs) (pieces-bytes isBlank a b xs)
   where
-    kept : (t : Bool) (p q : Piece) (ps qs : List Piece) → p .bytes ≡ q .bytes → map (λ (w : Word). w .bytes) ps ≡ map (λ (w : Word). w .bytes) qs
+    kept : (t : Bool) (p q : Piece) (ps qs : List Piece) → p .bytes ≡ q .bytes
+        → map (λ (w : Word). w .bytes) ps ≡ map (λ (w : Word). w .bytes) qs
         → map (λ (w : Word). w .bytes) (cond t (p ∷ ps) ps) ≡ map (λ (w : Word). w .bytes) (cond t (q ∷ qs) qs)
     kept true p q ps qs f e = ap₂ _∷_ f e
     kept false p q ps qs f e = e
@@ -139,7 +152,8 @@ words-bytes a b xs = held (pieces isBlank a xs) (pieces isBlank b xs) (pieces-by
     held (p ∷ ps) [] e = cc
     held (p ∷ ps) (q ∷ qs) e =
         let f : p .bytes ≡ q .bytes = cc in
-        rw (ap (λ v. leb 1 (length v)) f) (kept (leb 1 (length (q .bytes))) p q (select holdsBytes ps) (select holdsBytes qs) f (held ps qs cc))
+        rw (ap (λ v. leb 1 (length v)) f) (kept (leb 1 (length (q .bytes))) p q (select holdsBytes ps)
+        (select holdsBytes qs) f (held ps qs cc))
 
 -- ---- tests on bytes
 
@@ -148,7 +162,8 @@ unfolding sameBytes
 same-bytes [] [] e = refl
 same-bytes [] (y ∷ ys) e = absurd (false≢true e)
 same-bytes (x ∷ xs) [] e = absurd (false≢true e)
-same-bytes (x ∷ xs) (y ∷ ys) e = let w = and-split (eqb x y) (sameBytes xs ys) e in ap₂ _∷_ (eqb-true x y (w .0)) (same-bytes xs ys (w .1))
+same-bytes (x ∷ xs) (y ∷ ys) e = let w = and-split (eqb x y) (sameBytes xs ys) e in ap₂ _∷_ (eqb-true x y (w .0))
+    (same-bytes xs ys (w .1))
 
 pub bytes-same : (xs : List ℕ) → sameBytes xs xs ≡ true
 unfolding sameBytes
@@ -159,7 +174,8 @@ bytes-same (x ∷ xs) = and-join (eqb x x) (sameBytes xs xs) (eq-eqb x x refl) (
 pub begins-split : (head bytes : List ℕ) → begins head bytes ≡ true → bytes ≡ head ++ drop (length head) bytes
 unfolding begins
 begins-split head bytes e =
-    sym (take-append-drop (length head) bytes) ∙ ap (λ l. l ++ drop (length head) bytes) (sym (same-bytes head (take (length head) bytes) e))
+    sym (take-append-drop (length head) bytes)
+    ∙ ap (λ l. l ++ drop (length head) bytes) (sym (same-bytes head (take (length head) bytes) e))
 
 pub begins-of : (head rest : List ℕ) → begins head (head ++ rest) ≡ true
 unfolding begins

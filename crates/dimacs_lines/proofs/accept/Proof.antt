@@ -1,4 +1,5 @@
--- `dimacs_lines::accept` meets its contract: too few clauses are refused, else the clauses go to the slices. Assumes nothing.
+-- `dimacs_lines::accept` meets its contract: too few clauses are refused, else the clauses go to the slices. Assumes
+-- nothing.
 use borrow.Author.Needs.{needs}
 use Rattle.dimacs_lines.specs.Laws.ParsedLaws.{end-refused, answers-refused, answers-accepted}
 use Rattle.dimacs_lines.proofs.accept.Statement.{statement}

@@ -1,5 +1,5 @@
--- `dimacs_lines::collect` meets its contract: the lines read into the slices that are the caller's own, then the end of the text. Assumes
--- nothing.
+-- `dimacs_lines::collect` meets its contract: the lines read into the slices that are the caller's own, then the end of
+-- the text. Assumes nothing.
 use mathlib.Core.Path.{refl, sym, ap}
 use lib.ListN.{length}
 use borrow.Author.Needs.{needs}

@@ -2,7 +2,8 @@
 use mathlib.Core.Path.{sym, _∙_}
 use borrow.Author.Tests.{not-true, not-false}
 use borrow.Author.Needs.{needs}
-use Rattle.dimacs_lines.specs.Laws.LineScanLaws.{head-length, line-words, line-target, line-permutation, line-remark}
+use Rattle.dimacs_lines.specs.Laws.LineScanLaws.{head-length, line-words, line-target, line-permutation}
+use Rattle.dimacs_lines.specs.Laws.LineScanLaws.{line-remark}
 use Rattle.dimacs_format.specs.Text.{isComment, targetHead, isTargetLine, permutationHead, isPermutationLine}
 use Rattle.dimacs_lines.proofs.read_line.Statement.{statement}
 use Rattle.dimacs_lines.proofs.read_line.Tie as tie

@@ -1,10 +1,12 @@
--- `dimacs_lines::read_lines` meets its contract: what is left of the walk over the lines is the whole walk. Assumes nothing.
+-- `dimacs_lines::read_lines` meets its contract: what is left of the walk over the lines is the whole walk. Assumes
+-- nothing.
 use mathlib.Core.Path.{_∙_}
 use Prim.Native.Nat.{_-_}
 use native.Mathlib.Omega.{arith}
 use lib.ListN.{length}
 use borrow.Author.Needs.{needs}
-use Rattle.dimacs_lines.specs.Laws.LineScanLaws.{passing-begins, passing-ends, passing-inside, passing-stops, passing-goes-on}
+use Rattle.dimacs_lines.specs.Laws.LineScanLaws.{passing-begins, passing-ends, passing-inside, passing-stops}
+use Rattle.dimacs_lines.specs.Laws.LineScanLaws.{passing-goes-on}
 use Rattle.dimacs_lines.specs.Laws.LineScans.{Passing}
 use Rattle.dimacs_lines.proofs.read_lines.Statement.{statement}
 use Rattle.dimacs_lines.proofs.read_lines.Tie as tie

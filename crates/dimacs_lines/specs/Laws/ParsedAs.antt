@@ -39,8 +39,9 @@ pub record HasRoom (total : ℕ) (positive negative : List ℕ) : Type 0 where
   pub room-negative : total ≤ length negative
 
 -- the answer and the slices at exit are those of a step to an input
-pub record ParsedAs (m : Step Input) (positive₀ negative₀ : List ℕ) (r : Parsed) (positive₁ negative₁ : List ℕ) : Type 0 where
-  pub reply : replyOfParse (r .answer) ≡ replyTo m
-  pub formula : r .formula ≡ formulaFrom m
-  pub positive : positive₁ ≡ sliceFrom positives m positive₀
-  pub negative : negative₁ ≡ sliceFrom negatives m negative₀
+pub record ParsedAs (m : Step Input) (positive₀ negative₀ : List ℕ) (r : Parsed) (positive₁ negative₁ : List ℕ) : Type 0
+  where
+    pub reply : replyOfParse (r .answer) ≡ replyTo m
+    pub formula : r .formula ≡ formulaFrom m
+    pub positive : positive₁ ≡ sliceFrom positives m positive₀
+    pub negative : negative₁ ≡ sliceFrom negatives m negative₀

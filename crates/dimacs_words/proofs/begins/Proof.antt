@@ -1,11 +1,13 @@
--- `dimacs_words::begins` meets its contract: the comparison is, at index i, that of the bytes from i on. Assumes nothing.
+-- `dimacs_words::begins` meets its contract: the comparison is, at index i, that of the bytes from i on. Assumes
+-- nothing.
 use mathlib.Core.Path.{_≡_, sym, _∙_}
 use Prim.Native.Nat.{_≤_, _-_}
 use native.Mathlib.Omega.{arith}
 use lib.ListN.{length}
 use borrow.Author.Needs.{needs}
 use Rattle.dimacs_format.specs.Text.{begins}
-use Rattle.dimacs_words.specs.Laws.ScanLaws.{head-long, beginsFrom, head-begins, head-ends, head-stops, head-goes-on}
+use Rattle.dimacs_words.specs.Laws.ScanLaws.{head-long, beginsFrom, head-begins, head-ends, head-stops}
+use Rattle.dimacs_words.specs.Laws.ScanLaws.{head-goes-on}
 use Rattle.dimacs_words.proofs.begins.Statement.{statement}
 use Rattle.dimacs_words.proofs.begins.Tie as tie
 

@@ -1,4 +1,5 @@
--- `dimacs_words::read_number` meets its contract: the number is, at index i, that of the digits from i on behind those passed. Assumes nothing.
+-- `dimacs_words::read_number` meets its contract: the number is, at index i, that of the digits from i on behind those
+-- passed. Assumes nothing.
 use mathlib.Core.Bool.{true}
 use mathlib.Core.Path.{_≡_, sym, _∙_}
 use Prim.Native.Nat.{_≤_, _<_, _-_, _^_}
@@ -7,7 +8,8 @@ use lib.ListN.{length, getD, drop}
 use borrow.Author.Needs.{needs}
 use borrow.Author.Tests.{not-true, not-false}
 use Rattle.dimacs_format.specs.Text.{isDigit, numberIn}
-use Rattle.dimacs_words.specs.Laws.ScanLaws.{numberFrom, number-short, number-long, number-begins, number-ends, number-stops, number-goes-on, digit-within, value-grows, value-small}
+use Rattle.dimacs_words.specs.Laws.ScanLaws.{numberFrom, number-short, number-long, number-begins, number-ends}
+use Rattle.dimacs_words.specs.Laws.ScanLaws.{number-stops, number-goes-on, digit-within, value-grows, value-small}
 use Rattle.dimacs_words.proofs.read_number.Statement.{statement}
 use Rattle.dimacs_words.proofs.read_number.Tie as tie
 

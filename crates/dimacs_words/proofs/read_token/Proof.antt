@@ -5,7 +5,8 @@ use lib.ListN.{length, take, drop}
 use borrow.Author.Needs.{needs}
 use Rattle.dimacs_words.specs.Laws.Scans.{numberOf}
 use Rattle.dimacs_format.specs.Text.{numberIn, tokenIn, negated, unsigned}
-use Rattle.dimacs_words.specs.Laws.ScanLaws.{token-empty, token-minus, token-plain, minus-none, minus-zero, minus-number, plain-none, plain-number}
+use Rattle.dimacs_words.specs.Laws.ScanLaws.{token-empty, token-minus, token-plain, minus-none, minus-zero}
+use Rattle.dimacs_words.specs.Laws.ScanLaws.{minus-number, plain-none, plain-number}
 use Rattle.dimacs_words.proofs.read_token.Statement.{statement}
 use Rattle.dimacs_words.proofs.read_token.Tie as tie
 

@@ -14,7 +14,8 @@ use Rattle.dimacs_words.specs.declared.Token.{Token as TokenRead}
 use Rattle.dimacs_words.specs.declared.Token.the-variants.{Signed, Malformed as no-token}
 use Rattle.dimacs_words.specs.declared.Word.{Word as WordAnswer}
 use Rattle.dimacs_words.specs.declared.Word.the-variants.{Read, Malformed as no-word}
-use Rattle.dimacs_format.specs.Text.{endsLine, isBlank, Line, piece, lines, words, Token, literal, close, malformed, pos, neg, tokenIn}
+use Rattle.dimacs_format.specs.Text.{endsLine, isBlank, Line, piece, lines, words, Token, literal, close, malformed}
+use Rattle.dimacs_format.specs.Text.{pos, neg, tokenIn}
 
 -- ---- runs
 
@@ -54,7 +55,8 @@ pub record WordAt (line : List ℕ) (at next : ℕ) (t : Token) : Type 0 where
   pub later : at < next
   pub within : next ≤ length line
   pub token : tokenIn (take (next - at) (drop at line)) ≡ t
-  pub parts : (s : ℕ) → words (s + at) (drop at line) ≡ piece (s + at) (take (next - at) (drop at line)) ∷ words (s + next) (drop next line)
+  pub parts : (s : ℕ) → words (s + at) (drop at line)
+      ≡ piece (s + at) (take (next - at) (drop at line)) ∷ words (s + next) (drop next line)
 
 -- what the word reader answers at a place
 abbrev pub WordRead : List ℕ → ℕ → WordAnswer → Type 0

@@ -2,7 +2,9 @@
 use mathlib.Core.Bool.{Bool, true, false, _&&_, _||_, xor, true≢false, false≢true}
 use mathlib.Core.Path.{_≡_, refl, sym, ap, ap₂, _∙_, subst}
 use Prim.Native.Nat.{ℕ, zero, suc, _+_, _*_, _/_, _%_, _^_, _≤_, _<_, min, max, zero-le, suc-le-suc}
-use native.Mathlib.Nat.{one-mul, div-lt-iff-lt-mul, le-of-eq, div-one, pow-succ', div-div-eq-div-mul, mod-lt, zero-lt-suc, zero-div, div-eq-of-lt, lt-of-lt-of-le, mul-div-cancel-left, mul-mod-right, le-of-suc-le-suc, not-suc-le-zero}
+use native.Mathlib.Nat.{one-mul, div-lt-iff-lt-mul, le-of-eq, div-one, pow-succ', div-div-eq-div-mul, mod-lt}
+use native.Mathlib.Nat.{zero-lt-suc, zero-div, div-eq-of-lt, lt-of-lt-of-le, mul-div-cancel-left, mul-mod-right}
+use native.Mathlib.Nat.{le-of-suc-le-suc, not-suc-le-zero}
 use native.Mathlib.Omega.{arith}
 use lib.Arith.{digits-div, digits-mod, bin-ind}
 use lib.Bits.{bitAnd, bitOr, bitXor, and-step, or-step, xor-step, xor-lt, differ}
@@ -34,16 +36,20 @@ digit-lt x = mod-lt x (zero-lt-suc 1)
 
 -- ---- the digits of a machine operation: one law for the three
 
-module _ (op g : ℕ → ℕ → ℕ) (h : Bool → Bool → Bool) (step : (a b : ℕ) → op a b ≡ op (a / 2) (b / 2) * 2 + g (a % 2) (b % 2))
-    (digit : (u v : ℕ) → u < 2 → v < 2 → g u v < 2) (agrees : (u v : ℕ) → u < 2 → v < 2 → eqb (g u v) 1 ≡ h (eqb u 1) (eqb v 1)) where
+module _ (op g : ℕ → ℕ → ℕ) (h : Bool → Bool → Bool) (step : (a b : ℕ)
+    → op a b ≡ op (a / 2) (b / 2) * 2 + g (a % 2) (b % 2))
+    (digit : (u v : ℕ) → u < 2 → v < 2 → g u v < 2) (agrees : (u v : ℕ) → u < 2 → v < 2
+    → eqb (g u v) 1 ≡ h (eqb u 1) (eqb v 1)) where
   bit-op : (i a b : ℕ) → bit (op a b) i ≡ h (bit a i) (bit b i)
   bit-op zero a b =
       bit-zero (op a b)
-      ∙ ap (λ (y : ℕ). eqb y 1) (ap (λ (y : ℕ). y % 2) (step a b) ∙ digits-mod (op (a / 2) (b / 2)) (digit (a % 2) (b % 2) (digit-lt a) (digit-lt b)))
+      ∙ ap (λ (y : ℕ). eqb y 1) (ap (λ (y : ℕ). y % 2) (step a b)
+      ∙ digits-mod (op (a / 2) (b / 2)) (digit (a % 2) (b % 2) (digit-lt a) (digit-lt b)))
       ∙ agrees (a % 2) (b % 2) (digit-lt a) (digit-lt b) ∙ ap₂ h (sym (bit-zero a)) (sym (bit-zero b))
   bit-op (suc i) a b =
       bit-suc (op a b) i
-      ∙ ap (λ (y : ℕ). bit y i) (ap (λ (y : ℕ). y / 2) (step a b) ∙ digits-div (op (a / 2) (b / 2)) (digit (a % 2) (b % 2) (digit-lt a) (digit-lt b)))
+      ∙ ap (λ (y : ℕ). bit y i) (ap (λ (y : ℕ). y / 2) (step a b)
+      ∙ digits-div (op (a / 2) (b / 2)) (digit (a % 2) (b % 2) (digit-lt a) (digit-lt b)))
       ∙ bit-op i (a / 2) (b / 2) ∙ ap₂ h (sym (bit-suc a i)) (sym (bit-suc b i))
 
 -- a fact of two digits, by its four cases
@@ -76,12 +82,14 @@ bit-xor a b i =
 
 same-digit : (u v : ℕ) → u < 2 → v < 2 → eqb u 1 ≡ eqb v 1 → u ≡ v
 same-digit =
-    by-digits (λ u v. eqb u 1 ≡ eqb v 1 → u ≡ v) (λ _. refl) (λ e. absurd (false≢true e)) (λ e. absurd (true≢false e)) (λ _. refl)
+    by-digits (λ u v. eqb u 1 ≡ eqb v 1 → u ≡ v) (λ _. refl) (λ e. absurd (false≢true e)) (λ e. absurd (true≢false e))
+    (λ _. refl)
 
 -- numbers whose lowest digits and whose halves are equal are equal
 same-halves : (a b : ℕ) → bit a 0 ≡ bit b 0 → a / 2 ≡ b / 2 → a ≡ b
 same-halves a b low high =
-    let odd : a % 2 ≡ b % 2 = same-digit (a % 2) (b % 2) (digit-lt a) (digit-lt b) (sym (bit-zero a) ∙ low ∙ bit-zero b) in
+    let odd : a % 2 ≡ b % 2 = same-digit (a % 2) (b % 2) (digit-lt a) (digit-lt b) (sym (bit-zero a) ∙ low ∙ bit-zero b)
+    in
     omega arith
 
 pub no-bits : (x : ℕ) → ((i : ℕ) → bit x i ≡ false) → x ≡ 0
@@ -91,7 +99,8 @@ no-bits =
 
 pub bits-ext : (a b : ℕ) → ((i : ℕ) → bit a i ≡ bit b i) → a ≡ b
 bits-ext =
-    bin-ind (λ a. (b : ℕ) → ((i : ℕ) → bit a i ≡ bit b i) → a ≡ b) (λ b h. sym (no-bits b (λ i. sym (h i) ∙ bit-of-zero i)))
+    bin-ind (λ a. (b : ℕ) → ((i : ℕ) → bit a i ≡ bit b i) → a ≡ b)
+    (λ b h. sym (no-bits b (λ i. sym (h i) ∙ bit-of-zero i)))
     (λ a ih b h. same-halves a b (h 0) (ih (b / 2) (λ i. sym (bit-suc a i) ∙ h (suc i) ∙ bit-suc b i)))
 
 -- ---- a bound 2 ^ n says that the digits from n on are 0
@@ -111,7 +120,8 @@ lt-of-bits (suc n) x h =
 pub shifted-out : (x n : ℕ) → eqb (x / 2 ^ n) 0 ≡ ltb x (2 ^ n)
 shifted-out x n =
     same-tests (eqb (x / 2 ^ n) 0) (ltb x (2 ^ n))
-    (λ e. lt-ltb x (2 ^ n) (subst (λ (d : ℕ). x < d) (one-mul (2 ^ n)) (div-lt-iff-lt-mul (pow-pos n) .0 (le-of-eq (ap suc (eqb-true (x / 2 ^ n) 0 e))))))
+    (λ e. lt-ltb x (2 ^ n) (subst (λ (d : ℕ). x < d) (one-mul (2 ^ n))
+    (div-lt-iff-lt-mul (pow-pos n) .0 (le-of-eq (ap suc (eqb-true (x / 2 ^ n) 0 e))))))
     (λ e. eq-eqb (x / 2 ^ n) 0 (div-eq-of-lt (ltb-true x (2 ^ n) e)))
 
 -- two numbers below 2 ^ n with the same digits below n are equal
@@ -128,9 +138,11 @@ pub bit-pow : (k i : ℕ) → bit (2 ^ k) i ≡ eqb k i
 bit-pow zero zero = bit-zero 1
 bit-pow zero (suc i) = bit-suc 1 i ∙ bit-of-zero i ∙ sym (eqb·zero-suc i)
 bit-pow (suc k) zero =
-    bit-zero (2 ^ suc k) ∙ ap (λ (y : ℕ). eqb (y % 2) 1) (pow-succ' 2 k) ∙ ap (λ (y : ℕ). eqb y 1) (mul-mod-right 2 (2 ^ k)) ∙ sym (eqb·suc-zero k)
+    bit-zero (2 ^ suc k) ∙ ap (λ (y : ℕ). eqb (y % 2) 1) (pow-succ' 2 k)
+    ∙ ap (λ (y : ℕ). eqb y 1) (mul-mod-right 2 (2 ^ k)) ∙ sym (eqb·suc-zero k)
 bit-pow (suc k) (suc i) =
-    bit-suc (2 ^ suc k) i ∙ ap (λ (y : ℕ). bit (y / 2) i) (pow-succ' 2 k) ∙ ap (λ (y : ℕ). bit y i) (mul-div-cancel-left (2 ^ k) (zero-lt-suc 1))
+    bit-suc (2 ^ suc k) i ∙ ap (λ (y : ℕ). bit (y / 2) i) (pow-succ' 2 k)
+    ∙ ap (λ (y : ℕ). bit y i) (mul-div-cancel-left (2 ^ k) (zero-lt-suc 1))
     ∙ bit-pow k i ∙ sym (eqb·suc-suc k i)
 
 pub bit-flip : (x v i : ℕ) → bit (flip x v) i ≡ xor (bit x i) (eqb v i)
@@ -159,7 +171,8 @@ some-bit = bin-ind (λ s. (s ≡ 0 → ⊥) → (i : ℕ) × (bit s i ≡ true))
 pub differing-bit : (a b : ℕ) → (a ≡ b → ⊥) → (i : ℕ) × (xor (bit a i) (bit b i) ≡ true)
 unfolding xor
 differing-bit a b ne =
-    let w = some-bit (bitXor a b) (λ z. ne (bits-ext a b (λ i. xor-none (bit a i) (bit b i) (sym (bit-xor a b i) ∙ ap (λ x. bit x i) z ∙ bit-of-zero i)))) in
+    let w = some-bit (bitXor a b) (λ z. ne (bits-ext a b
+    (λ i. xor-none (bit a i) (bit b i) (sym (bit-xor a b i) ∙ ap (λ x. bit x i) z ∙ bit-of-zero i)))) in
     (w .0, sym (bit-xor a b (w .0)) ∙ w .1)
   where
     xor-none : (p q : Bool) → xor p q ≡ false → p ≡ q

@@ -1,5 +1,5 @@
--- Laws of counting: tests compared over a list, lists without repetition that hold the same, and that an injective map of a finite list
--- into itself is onto; and of what a distance counts: the numbers below n, and two values that differ.
+-- Laws of counting: tests compared over a list, lists without repetition that hold the same, and that an injective map
+-- of a finite list into itself is onto; and of what a distance counts: the numbers below n, and two values that differ.
 -- Assumes nothing.
 use mathlib.Core.Bool.{Bool, true, false, cond, xor, true≢false, false≢true}
 use mathlib.Core.List.{List, [], _∷_, map, List·Memᴰ·head, List·Memᴰ·tail, List·Memᴰ·cases-cons}
@@ -12,7 +12,9 @@ use native.Mathlib.Omega.{arith}
 use lib.ListN.{length, getD, length-map}
 use Rattle.math.specs.Laws.BitLaws.{bit-above}
 use Rattle.math.specs.Bits.{bit}
-use Rattle.math.specs.Laws.ListLaws.{not-true-false, select-in, select-out, length-select, count-ext, count-pos, count-map, distinct-length, distinct-onto, distinct-map, decMember, getD-in, map-out, range-in, range-out}
+use Rattle.math.specs.Laws.ListLaws.{not-true-false, select-in, select-out, length-select, count-ext, count-pos}
+use Rattle.math.specs.Laws.ListLaws.{count-map, distinct-length, distinct-onto, distinct-map, decMember, getD-in}
+use Rattle.math.specs.Laws.ListLaws.{map-out, range-in, range-out}
 use Rattle.math.specs.Lists.{_∈_, select, count, Distinct, distinct-nil, distinct-cons, below}
 
 -- ---- two values that differ
@@ -81,10 +83,12 @@ module _ {A : Type 0} where
 
   -- what is not counted passes nowhere
   pub count-zero : (t : A → Bool) {x : A} {xs : List A} → count t xs ≡ 0 → x ∈ xs → t x ≡ false
-  count-zero t {x} {xs} h m = not-true-false (t x) (λ e. let one : 1 ≤ count t xs = count-pos t m e in let z : ⊥ = omega arith in z)
+  count-zero t {x} {xs} h m = not-true-false (t x) (λ e. let one : 1
+      ≤ count t xs = count-pos t m e in let z : ⊥ = omega arith in z)
 
   -- if one of two tests passes wherever a third does, they count as much together
-  pub count-either : (t u v : A → Bool) (xs : List A) → ((x : A) → t x ≡ true → (u x ≡ true) ⊎ (v x ≡ true)) → count t xs ≤ count u xs + count v xs
+  pub count-either : (t u v : A → Bool) (xs : List A) → ((x : A) → t x ≡ true → (u x ≡ true) ⊎ (v x ≡ true))
+      → count t xs ≤ count u xs + count v xs
   unfolding count
   count-either t u v [] h = zero-le
   count-either t u v (x ∷ xs) h = by (t x) (u x) (v x) (h x) (count-either t u v xs h)
@@ -101,16 +105,19 @@ module _ {A : Type 0} where
       → ((x : A) → (x ≡ v → ⊥) → t x ≡ u x) → count t xs ≡ suc (count u xs)
   unfolding count
   count-one-more t u {v} (distinct-cons {x = x} {xs = xs} new d) (List·Memᴰ·head e) on off same =
-      here-more (t x) (u x) (ap t (sym e) ∙ on) (ap u (sym e) ∙ off) (count-ext t u xs (λ y m. same y (λ p. new (subst (λ z. z ∈ xs) (p ∙ e) m))))
+      here-more (t x) (u x) (ap t (sym e) ∙ on) (ap u (sym e) ∙ off)
+      (count-ext t u xs (λ y m. same y (λ p. new (subst (λ z. z ∈ xs) (p ∙ e) m))))
     where
-      here-more : (a b : Bool) → a ≡ true → b ≡ false → count t xs ≡ count u xs → cond a 1 0 + count t xs ≡ suc (cond b 1 0 + count u xs)
+      here-more : (a b : Bool) → a ≡ true → b ≡ false → count t xs ≡ count u xs
+          → cond a 1 0 + count t xs ≡ suc (cond b 1 0 + count u xs)
       here-more true false p q r = omega arith
       here-more true true p q r = absurd (true≢false q)
       here-more false b p q r = absurd (false≢true p)
   count-one-more t u {v} (distinct-cons {x = x} {xs = xs} new d) (List·Memᴰ·tail m) on off same =
       there-more (t x) (u x) (same x (λ p. new (subst (λ z. z ∈ xs) (sym p) m))) (count-one-more t u d m on off same)
     where
-      there-more : (a b : Bool) → a ≡ b → count t xs ≡ suc (count u xs) → cond a 1 0 + count t xs ≡ suc (cond b 1 0 + count u xs)
+      there-more : (a b : Bool) → a ≡ b → count t xs ≡ suc (count u xs)
+          → cond a 1 0 + count t xs ≡ suc (cond b 1 0 + count u xs)
       there-more a b p r = rw p (omega arith)
 
   -- ---- lists without repetition that hold the same
@@ -125,21 +132,27 @@ module _ {A : Type 0} where
       by false ih = ih
 
   -- a list without repetition that lies within another counts no more
-  pub count-within : (t : A → Bool) {xs : List A} → Distinct xs → (ys : List A) → ((x : A) → x ∈ xs → x ∈ ys) → count t xs ≤ count t ys
+  pub count-within : (t : A → Bool) {xs : List A} → Distinct xs → (ys : List A) → ((x : A) → x ∈ xs → x ∈ ys)
+      → count t xs ≤ count t ys
   count-within t {xs} d ys h =
       let le : length (select t xs) ≤ length (select t ys) =
-      distinct-length (distinct-select t d) (select t ys) (λ x m. let w = select-out t xs m in select-in t (h x (w .0)) (w .1)) in
+      distinct-length (distinct-select t d) (select t ys)
+      (λ x m. let w = select-out t xs m in select-in t (h x (w .0)) (w .1)) in
       let a : length (select t xs) ≡ count t xs = length-select t xs in
       let b : length (select t ys) ≡ count t ys = length-select t ys in
       omega arith
 
   -- elements of a list without repetition that are equal stand at one index
-  pub distinct-index : (d : A) {xs : List A} → Distinct xs → (i j : ℕ) → i < length xs → j < length xs → getD xs i d ≡ getD xs j d → i ≡ j
+  pub distinct-index : (d : A) {xs : List A} → Distinct xs → (i j : ℕ) → i < length xs → j < length xs
+      → getD xs i d ≡ getD xs j d → i ≡ j
   distinct-index d distinct-nil i j hi hj e = absurd (not-suc-le-zero hi)
   distinct-index d (distinct-cons new r) zero zero hi hj e = refl
-  distinct-index d (distinct-cons {x = x} {xs = xs} new r) zero (suc j) hi hj e = absurd (new (subst (λ z. z ∈ xs) (sym e) (getD-in xs j d (le-of-suc-le-suc hj))))
-  distinct-index d (distinct-cons {x = x} {xs = xs} new r) (suc i) zero hi hj e = absurd (new (subst (λ z. z ∈ xs) e (getD-in xs i d (le-of-suc-le-suc hi))))
-  distinct-index d (distinct-cons new r) (suc i) (suc j) hi hj e = ap suc (distinct-index d r i j (le-of-suc-le-suc hi) (le-of-suc-le-suc hj) e)
+  distinct-index d (distinct-cons {x = x} {xs = xs} new r) zero (suc j) hi hj e = absurd
+      (new (subst (λ z. z ∈ xs) (sym e) (getD-in xs j d (le-of-suc-le-suc hj))))
+  distinct-index d (distinct-cons {x = x} {xs = xs} new r) (suc i) zero hi hj e = absurd
+      (new (subst (λ z. z ∈ xs) e (getD-in xs i d (le-of-suc-le-suc hi))))
+  distinct-index d (distinct-cons new r) (suc i) (suc j) hi hj e = ap suc
+      (distinct-index d r i j (le-of-suc-le-suc hi) (le-of-suc-le-suc hj) e)
 
   -- ---- an injective map of a finite list into itself is onto
 
@@ -166,7 +179,8 @@ module _ {A : Type 0} where
           record {
             elements = x ∷ r .elements;
             distinct = distinct-cons new (r .distinct);
-            within = λ y k. ⊎-elim (λ e. List·Memᴰ·head e) (λ l. List·Memᴰ·tail (r .within y l)) (List·Memᴰ·cases-cons k);
+            within = λ y k. ⊎-elim (λ e. List·Memᴰ·head e) (λ l. List·Memᴰ·tail (r .within y l))
+                (List·Memᴰ·cases-cons k);
             whole = λ y k. ⊎-elim (λ e. List·Memᴰ·head e) (λ l. List·Memᴰ·tail (r .whole y l)) (List·Memᴰ·cases-cons k);
           }
 
@@ -176,8 +190,10 @@ module _ {A : Type 0} where
   injective-onto dec f xs into injective y m =
       let r = once dec xs in
       let images : y ∈ map f (r .elements) =
-      distinct-onto (decMember dec) (distinct-map f (r .distinct) (λ a b ma mb. injective a b (r .within a ma) (r .within b mb))) (r .elements)
-      (λ z k. let w = map-out f (r .elements) k in subst (λ u. u ∈ r .elements) (sym (w .2)) (r .whole (f (w .0)) (into (w .0) (r .within (w .0) (w .1)))))
+      distinct-onto (decMember dec) (distinct-map f (r .distinct)
+      (λ a b ma mb. injective a b (r .within a ma) (r .within b mb))) (r .elements)
+      (λ z k. let w = map-out f (r .elements) k in subst (λ u. u ∈ r .elements) (sym (w .2))
+      (r .whole (f (w .0)) (into (w .0) (r .within (w .0) (w .1)))))
       (le-of-eq (sym (length-map (r .elements) f))) y (r .whole y m) in
       let w = map-out f (r .elements) images in
       (w .0, r .within (w .0) (w .1), sym (w .2))
@@ -190,5 +206,6 @@ module _ {A B : Type 0} where
   count-carried f t {xs} {ys} dx dy into injective onto =
       sym (count-map f t xs)
       ∙ le-antisymm
-      (count-within t (distinct-map f dx injective) ys (λ y m. let w = map-out f xs m in subst (λ z. z ∈ ys) (sym (w .2)) (into (w .0) (w .1))))
+      (count-within t (distinct-map f dx injective) ys (λ y m. let w = map-out f xs m in subst (λ z. z ∈ ys)
+      (sym (w .2)) (into (w .0) (w .1))))
       (count-within t dy (map f xs) onto)

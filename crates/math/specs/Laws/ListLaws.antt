@@ -1,12 +1,14 @@
--- Laws of lists: what a test over a list says of its elements, counting, and that a list without repetition fits into no shorter one.
--- Assumes nothing.
+-- Laws of lists: what a test over a list says of its elements, counting, and that a list without repetition fits into
+-- no shorter one. Assumes nothing.
 use mathlib.Core.Bool.{Bool, true, false, cond, _&&_, _||_, true≢false, false≢true}
-use mathlib.Core.List.{List, [], _∷_, _++_, map, List·Memᴰ·head, List·Memᴰ·tail, List·Memᴰ·not-nil, List·Memᴰ·cases-cons}
+use mathlib.Core.List.{List, [], _∷_, _++_, map, List·Memᴰ·head, List·Memᴰ·tail, List·Memᴰ·not-nil}
+use mathlib.Core.List.{List·Memᴰ·cases-cons}
 use mathlib.Core.Logic.{_⊎_, inl, inr, ⊎-elim}
 use mathlib.Core.Path.{_≡_, refl, sym, ap, ap₂, _∙_, subst}
 use Prim.Native.Nat.{ℕ, zero, suc, _+_, _≤_, _<_, zero-le, suc-le-suc}
 use native.Mathlib.Decide.{ℕ-discrete}
-use native.Mathlib.Nat.{le-of-suc-le-suc, not-suc-le-zero, zero-add, add-zero, suc-add, add-suc, add-assoc, le-trans, not-suc-le-self}
+use native.Mathlib.Nat.{le-of-suc-le-suc, not-suc-le-zero, zero-add, add-zero, suc-add, add-suc, add-assoc, le-trans}
+use native.Mathlib.Nat.{not-suc-le-self}
 use native.Mathlib.Omega.{arith}
 use lib.ListN.{length, getD}
 use lib.Dec.{eqb}
@@ -59,7 +61,8 @@ module _ {A : Type 0} where
   pub any-found : (t : A → Bool) (xs : List A) → any t xs ≡ true → (x : A) × (x ∈ xs) × (t x ≡ true)
   unfolding any
   any-found t [] h = absurd (false≢true h)
-  any-found t (x ∷ xs) h = ⊎-elim (λ p. (x, here x xs, p)) (λ p. deeper (any-found t xs p)) (or-split (t x) (any t xs) h)
+  any-found t (x ∷ xs) h = ⊎-elim (λ p. (x, here x xs, p)) (λ p. deeper (any-found t xs p))
+      (or-split (t x) (any t xs) h)
     where
       deeper : (y : A) × (y ∈ xs) × (t y ≡ true) → (y : A) × (y ∈ (x ∷ xs)) × (t y ≡ true)
       deeper w = (w .0, List·Memᴰ·tail (w .1), w .2)
@@ -70,7 +73,8 @@ module _ {A : Type 0} where
   any-of t (List·Memᴰ·tail {x = y} {xs = ys} m) h = or-right (t y) (any t ys) (any-of t m h)
 
   pub any-none : (t : A → Bool) (xs : List A) → ((x : A) → x ∈ xs → t x ≡ false) → any t xs ≡ false
-  any-none t xs h = not-true-false (any t xs) (λ e. let w = any-found t xs e in true≢false (sym (w .2) ∙ h (w .0) (w .1)))
+  any-none t xs h = not-true-false (any t xs) (λ e. let w = any-found t xs e in true≢false
+      (sym (w .2) ∙ h (w .0) (w .1)))
 
   pub all-at : (t : A → Bool) {x : A} {xs : List A} → all t xs ≡ true → x ∈ xs → t x ≡ true
   unfolding all
@@ -92,7 +96,8 @@ module _ {A : Type 0} where
   all-failed t [] h = absurd (true≢false h)
   all-failed t (x ∷ xs) h = by (t x) refl (all-failed t xs)
     where
-      by : (b : Bool) → t x ≡ b → (all t xs ≡ false → (y : A) × (y ∈ xs) × (t y ≡ false)) → (y : A) × (y ∈ (x ∷ xs)) × (t y ≡ false)
+      by : (b : Bool) → t x ≡ b → (all t xs ≡ false → (y : A) × (y ∈ xs) × (t y ≡ false))
+          → (y : A) × (y ∈ (x ∷ xs)) × (t y ≡ false)
       by true e ih = let w = ih (sym (ap (λ b. b && all t xs) e) ∙ h) in (w .0, List·Memᴰ·tail (w .1), w .2)
       by false e ih = (x, here x xs, e)
 
@@ -112,7 +117,8 @@ module _ {A : Type 0} where
   select-out t [] m = absurd (List·Memᴰ·not-nil m)
   select-out t {x} (y ∷ ys) m = by (t y) refl (select-out t ys) m
     where
-      by : (b : Bool) → t y ≡ b → (x ∈ select t ys → (x ∈ ys) × (t x ≡ true)) → x ∈ cond b (y ∷ select t ys) (select t ys) → (x ∈ (y ∷ ys)) × (t x ≡ true)
+      by : (b : Bool) → t y ≡ b → (x ∈ select t ys → (x ∈ ys) × (t x ≡ true))
+          → x ∈ cond b (y ∷ select t ys) (select t ys) → (x ∈ (y ∷ ys)) × (t x ≡ true)
       by true e ih (List·Memᴰ·head p) = (List·Memᴰ·head p, ap t p ∙ e)
       by true e ih (List·Memᴰ·tail m) = let w = ih m in (List·Memᴰ·tail (w .0), w .1)
       by false e ih m = let w = ih m in (List·Memᴰ·tail (w .0), w .1)
@@ -129,12 +135,14 @@ module _ {A : Type 0} where
   pub count-ext : (t u : A → Bool) (xs : List A) → ((x : A) → x ∈ xs → t x ≡ u x) → count t xs ≡ count u xs
   unfolding count
   count-ext t u [] h = refl
-  count-ext t u (x ∷ xs) h = ap₂ (λ b k. cond b 1 0 + k) (h x (here x xs)) (count-ext t u xs (λ y m. h y (List·Memᴰ·tail m)))
+  count-ext t u (x ∷ xs) h = ap₂ (λ b k. cond b 1 0 + k) (h x (here x xs))
+      (count-ext t u xs (λ y m. h y (List·Memᴰ·tail m)))
 
   pub count-append : (t : A → Bool) (xs ys : List A) → count t (xs ++ ys) ≡ count t xs + count t ys
   unfolding count
   count-append t [] ys = sym (zero-add (count t ys))
-  count-append t (x ∷ xs) ys = ap (λ k. cond (t x) 1 0 + k) (count-append t xs ys) ∙ sym (add-assoc (cond (t x) 1 0) (count t xs) (count t ys))
+  count-append t (x ∷ xs) ys = ap (λ k. cond (t x) 1 0 + k) (count-append t xs ys)
+      ∙ sym (add-assoc (cond (t x) 1 0) (count t xs) (count t ys))
 
   pub count-le : (t : A → Bool) (xs : List A) → count t xs ≤ length xs
   unfolding count
@@ -148,7 +156,8 @@ module _ {A : Type 0} where
   pub count-none : (t : A → Bool) (xs : List A) → ((x : A) → x ∈ xs → t x ≡ false) → count t xs ≡ 0
   unfolding count
   count-none t [] h = refl
-  count-none t (x ∷ xs) h = ap₂ (λ b k. cond b 1 0 + k) (h x (here x xs)) (count-none t xs (λ y m. h y (List·Memᴰ·tail m)))
+  count-none t (x ∷ xs) h = ap₂ (λ b k. cond b 1 0 + k) (h x (here x xs))
+      (count-none t xs (λ y m. h y (List·Memᴰ·tail m)))
 
   pub count-pos : (t : A → Bool) {x : A} {xs : List A} → x ∈ xs → t x ≡ true → 1 ≤ count t xs
   unfolding count
@@ -160,7 +169,8 @@ module _ {A : Type 0} where
   length-select t [] = refl
   length-select t (x ∷ xs) = by (t x) (length-select t xs)
     where
-      by : (b : Bool) → length (select t xs) ≡ count t xs → length (cond b (x ∷ select t xs) (select t xs)) ≡ cond b 1 0 + count t xs
+      by : (b : Bool) → length (select t xs) ≡ count t xs
+          → length (cond b (x ∷ select t xs) (select t xs)) ≡ cond b 1 0 + count t xs
       by true ih = omega arith
       by false ih = omega arith
 
@@ -183,12 +193,14 @@ module _ {A : Type 0} where
   without-keeps (List·Memᴰ·tail m) (List·Memᴰ·head p) ne = List·Memᴰ·head p
   without-keeps (List·Memᴰ·tail m) (List·Memᴰ·tail k) ne = List·Memᴰ·tail (without-keeps m k ne)
 
-  pub distinct-length : {xs : List A} → Distinct xs → (ys : List A) → ((x : A) → x ∈ xs → x ∈ ys) → length xs ≤ length ys
+  pub distinct-length : {xs : List A} → Distinct xs → (ys : List A) → ((x : A) → x ∈ xs → x ∈ ys)
+      → length xs ≤ length ys
   distinct-length distinct-nil ys h = zero-le
   distinct-length (distinct-cons {x = x} {xs = xs} new d) ys h =
       let m : x ∈ ys = h x (here x xs) in
       let le : length xs ≤ length (without m) =
-      distinct-length d (without m) (λ y k. without-keeps m (h y (List·Memᴰ·tail k)) (λ e. new (subst (λ z. z ∈ xs) e k))) in
+      distinct-length d (without m) (λ y k. without-keeps m (h y (List·Memᴰ·tail k))
+      (λ e. new (subst (λ z. z ∈ xs) e k))) in
       subst (λ l. suc (length xs) ≤ l) (sym (without-length m)) (suc-le-suc le)
 
   pub distinct-onto : ((x : A) (l : List A) → Dec (x ∈ l)) → {xs : List A} → Distinct xs → (ys : List A)
@@ -242,10 +254,12 @@ module _ {A B : Type 0} (f : A → B) where
   count-map t (x ∷ xs) = ap (λ k. cond (t (f x)) 1 0 + k) (count-map t xs)
 
   -- a map that sends no two elements of the list to one leaves it without repetition
-  pub distinct-map : {xs : List A} → Distinct xs → ((x y : A) → x ∈ xs → y ∈ xs → f x ≡ f y → x ≡ y) → Distinct (map f xs)
+  pub distinct-map : {xs : List A} → Distinct xs → ((x y : A) → x ∈ xs → y ∈ xs → f x ≡ f y → x ≡ y)
+      → Distinct (map f xs)
   distinct-map distinct-nil inj = distinct-nil
   distinct-map (distinct-cons {x = x} {xs = xs} new d) inj =
-      distinct-cons (λ m. let w = map-out xs m in new (subst (λ z. z ∈ xs) (sym (inj x (w .0) (here x xs) (List·Memᴰ·tail (w .1)) (w .2))) (w .1)))
+      distinct-cons (λ m. let w = map-out xs m in new (subst (λ z. z ∈ xs)
+      (sym (inj x (w .0) (here x xs) (List·Memᴰ·tail (w .1)) (w .2))) (w .1)))
       (distinct-map d (λ y z my mz. inj y z (List·Memᴰ·tail my) (List·Memᴰ·tail mz)))
 
 -- ---- ranges
@@ -276,7 +290,8 @@ range-out a (suc k) x (List·Memᴰ·tail m) = let w = range-out (suc a) k x m i
 pub distinct-range : (a k : ℕ) → Distinct (range a k)
 unfolding range
 distinct-range a zero = distinct-nil
-distinct-range a (suc k) = distinct-cons (λ m. let w = range-out (suc a) k a m in omega arith) (distinct-range (suc a) k)
+distinct-range a (suc k) = distinct-cons (λ m. let w = range-out (suc a) k a m in omega arith)
+    (distinct-range (suc a) k)
 
 -- the number at an index
 pub getD-range : (a k i d : ℕ) → i < k → getD (range a k) i d ≡ a + i
@@ -321,7 +336,8 @@ distinct-count (distinct-cons {x = x} {xs = xs} new d) v = by (ℕ-discrete v x)
   where
     by : Dec (v ≡ x) → count (eqb v) xs ≤ 1 → cond (eqb v x) 1 0 + count (eqb v) xs ≤ 1
     by (yes e) le =
-        let z : count (eqb v) xs ≡ 0 = count-none (eqb v) xs (λ y m. ne-eqb v y (λ p. new (subst (λ w. w ∈ xs) (sym p ∙ e) m))) in
+        let z : count (eqb v) xs ≡ 0 = count-none (eqb v) xs
+        (λ y m. ne-eqb v y (λ p. new (subst (λ w. w ∈ xs) (sym p ∙ e) m))) in
         rw (eq-eqb v x e) (omega arith)
     by (no ne) le = rw (ne-eqb v x ne) (omega arith)
 

@@ -1,4 +1,5 @@
--- Laws of new contents in front of what was there, while they grow at their end or one element of them changes. Assumes nothing.
+-- Laws of new contents in front of what was there, while they grow at their end or one element of them changes. Assumes
+-- nothing.
 use mathlib.Core.List.{List, [], _∷_, _++_, append-assoc}
 use mathlib.Core.Path.{_≡_, refl, sym, ap, _∙_}
 use Prim.Native.Nat.{ℕ, suc, _+_, _<_}
@@ -16,7 +17,8 @@ module _ {A : Type 0} where
   over-none old = refl
 
   -- the element behind the new contents becomes the last of them
-  pub over-snoc : (k : ℕ) (new old : List A) (a : A) → length new ≡ k → k < length old → set (over new old) k a ≡ over (new ++ a ∷ []) old
+  pub over-snoc : (k : ℕ) (new old : List A) (a : A) → length new ≡ k → k < length old
+      → set (over new old) k a ≡ over (new ++ a ∷ []) old
   unfolding over
   over-snoc k new old a e lt =
       ap (λ l. set (new ++ l) k a) (ap (λ i. drop i old) e ∙ drop-cons old k a lt)
@@ -25,23 +27,28 @@ module _ {A : Type 0} where
       ∙ ap (λ i. (new ++ a ∷ []) ++ drop i old) (sym (length-snoc new a ∙ ap suc e))
 
   -- an element of the new contents takes another's place
-  pub over-change : (k : ℕ) (front back old : List A) (a b : A) → length front ≡ k → set (over (front ++ a ∷ back) old) k b ≡ over (front ++ b ∷ back) old
+  pub over-change : (k : ℕ) (front back old : List A) (a b : A) → length front ≡ k
+      → set (over (front ++ a ∷ back) old) k b ≡ over (front ++ b ∷ back) old
   unfolding over
   over-change k front back old a b e =
       ap (λ l. set l k b) (append-assoc front (a ∷ back) (drop (length (front ++ a ∷ back)) old))
       ∙ set-at front a (back ++ drop (length (front ++ a ∷ back)) old) b k e
       ∙ sym (append-assoc front (b ∷ back) (drop (length (front ++ a ∷ back)) old))
-      ∙ ap (λ i. (front ++ b ∷ back) ++ drop i old) (length-append front (a ∷ back) ∙ sym (length-append front (b ∷ back)))
+      ∙ ap (λ i. (front ++ b ∷ back) ++ drop i old) (length-append front (a ∷ back)
+      ∙ sym (length-append front (b ∷ back)))
 
   -- and is read at its index
-  pub over-at : (k : ℕ) (front back old : List A) (a d : A) → length front ≡ k → getD (over (front ++ a ∷ back) old) k d ≡ a
+  pub over-at : (k : ℕ) (front back old : List A) (a d : A) → length front ≡ k
+      → getD (over (front ++ a ∷ back) old) k d ≡ a
   unfolding over
   over-at k front back old a d e =
       ap (λ l. getD l k d) (append-assoc front (a ∷ back) (drop (length (front ++ a ∷ back)) old))
       ∙ getD-at front a (back ++ drop (length (front ++ a ∷ back)) old) d k e
 
   -- copying another list element by element: after i come i + 1
-  pub over-take-next : (i : ℕ) (xs old : List A) (d : A) → i < length xs → i < length old → set (over (take i xs) old) i (getD xs i d) ≡ over (take (i + 1) xs) old
+  pub over-take-next : (i : ℕ) (xs old : List A) (d : A) → i < length xs → i < length old
+      → set (over (take i xs) old) i (getD xs i d) ≡ over (take (i + 1) xs) old
   over-take-next i xs old d more room =
       over-snoc i (take i xs) old (getD xs i d) (length-take-le i xs (le-of-lt more)) room
-      ∙ ap (λ l. over l old) (sym (take-suc xs i d more) ∙ ap (λ (j : ℕ). take j xs) (let z : suc i ≡ i + 1 = omega arith in z))
+      ∙ ap (λ l. over l old) (sym (take-suc xs i d more)
+      ∙ ap (λ (j : ℕ). take j xs) (let z : suc i ≡ i + 1 = omega arith in z))

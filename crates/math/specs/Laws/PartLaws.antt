@@ -1,5 +1,5 @@
--- Laws of lists by index and by parts: the first element that fails a test, repetition, what holds of each element, and a part of joined
--- lists. Assumes nothing.
+-- Laws of lists by index and by parts: the first element that fails a test, repetition, what holds of each element, and
+-- a part of joined lists. Assumes nothing.
 use mathlib.Core.Bool.{Bool, true, false, cond}
 use mathlib.Core.List.{List, [], _∷_, _++_, append-assoc, append-nil, List·Memᴰ·head, List·Memᴰ·tail, List·Memᴰ·not-nil}
 use mathlib.Core.Option.{some, none}
@@ -13,7 +13,8 @@ use lib.ListN.{length, getD, getElem?, take, drop, replicate, length-append, len
 use lib.Seq.{take-at, drop-at}
 use borrow.Author.Tests.{eq-eqb, ne-eqb}
 use Rattle.math.specs.Laws.ListLaws.{here, getD-in, in-getD, count-pos, count-none, range-out, range-in}
-use Rattle.math.specs.Lists.{_∈_, count, failingAt, firstFailing, Distinct, distinct-nil, distinct-cons, range, below, over}
+use Rattle.math.specs.Lists.{_∈_, count, failingAt, firstFailing, Distinct, distinct-nil, distinct-cons, range}
+use Rattle.math.specs.Lists.{below, over}
 
 -- the first failure's number is 0 only where the head passes and the tail has none
 failing-zero : (b : Bool) (k : ℕ) → failingAt b k ≡ 0 → (b ≡ true) × (k ≡ 0)
@@ -100,12 +101,16 @@ module _ {A : Type 0} where
   -- ---- a count of one
 
   -- where a test counts one element, two that pass are the same
-  pub count-one-same : (t : A → Bool) {x y : A} {xs : List A} → count t xs ≡ 1 → x ∈ xs → y ∈ xs → t x ≡ true → t y ≡ true → x ≡ y
+  pub count-one-same : (t : A → Bool) {x y : A} {xs : List A} → count t xs ≡ 1 → x ∈ xs → y ∈ xs → t x ≡ true
+      → t y ≡ true → x ≡ y
   unfolding count
   count-one-same t h (List·Memᴰ·head p) (List·Memᴰ·head q) tx ty = p ∙ sym q
-  count-one-same t h (List·Memᴰ·head {x = z} {xs = zs} p) (List·Memᴰ·tail m) tx ty = absurd (two t z zs h (ap t (sym p) ∙ tx) (count-pos t m ty))
-  count-one-same t h (List·Memᴰ·tail {x = z} {xs = zs} m) (List·Memᴰ·head q) tx ty = absurd (two t z zs h (ap t (sym q) ∙ ty) (count-pos t m tx))
-  count-one-same t h (List·Memᴰ·tail {x = z} {xs = zs} m) (List·Memᴰ·tail k) tx ty = count-one-same t (rest t z zs h (count-pos t m tx)) m k tx ty
+  count-one-same t h (List·Memᴰ·head {x = z} {xs = zs} p) (List·Memᴰ·tail m) tx ty = absurd
+      (two t z zs h (ap t (sym p) ∙ tx) (count-pos t m ty))
+  count-one-same t h (List·Memᴰ·tail {x = z} {xs = zs} m) (List·Memᴰ·head q) tx ty = absurd
+      (two t z zs h (ap t (sym q) ∙ ty) (count-pos t m tx))
+  count-one-same t h (List·Memᴰ·tail {x = z} {xs = zs} m) (List·Memᴰ·tail k) tx ty = count-one-same t
+      (rest t z zs h (count-pos t m tx)) m k tx ty
 
   -- ---- a list without repetition: no element equals an earlier one
 
@@ -120,7 +125,8 @@ module _ {A : Type 0} where
   distinct-earlier d (distinct-cons new rest) zero lt m = List·Memᴰ·not-nil m
   distinct-earlier d (distinct-cons {x = x} {xs = xs} new rest) (suc i) lt (List·Memᴰ·head e) =
       new (subst (λ y. y ∈ xs) e (getD-in xs i d (le-of-suc-le-suc lt)))
-  distinct-earlier d (distinct-cons new rest) (suc i) lt (List·Memᴰ·tail m) = distinct-earlier d rest i (le-of-suc-le-suc lt) m
+  distinct-earlier d (distinct-cons new rest) (suc i) lt (List·Memᴰ·tail m) = distinct-earlier d rest i
+      (le-of-suc-le-suc lt) m
 
 -- ---- a number in a range
 
@@ -133,10 +139,13 @@ count-eqb-range v a zero lo hi = absurd (none a v lo hi)
     none a v lo hi = omega arith
 count-eqb-range v a (suc k) lo hi = by (ℕ-discrete v a) (count-eqb-range v (suc a) k)
   where
-    by : Dec (v ≡ a) → (suc a ≤ v → v < suc a + k → count (eqb v) (range (suc a) k) ≡ 1) → cond (eqb v a) 1 0 + count (eqb v) (range (suc a) k) ≡ 1
+    by : Dec (v ≡ a) → (suc a ≤ v → v < suc a + k → count (eqb v) (range (suc a) k) ≡ 1)
+        → cond (eqb v a) 1 0 + count (eqb v) (range (suc a) k) ≡ 1
     by (yes e) ih =
         let one : _≡_ {A = ℕ} (cond (eqb v a) 1 0) 1 = ap (λ (b : Bool). cond {A = ℕ} b 1 0) (eq-eqb v a e) in
-        let nothing : count (eqb v) (range (suc a) k) ≡ 0 = count-none (eqb v) (range (suc a) k) (λ x m. let w = range-out (suc a) k x m in ne-eqb v x (λ q. let z : ⊥ = omega arith in z)) in
+        let nothing : count (eqb v) (range (suc a) k)
+        ≡ 0 = count-none (eqb v) (range (suc a) k) (λ x m. let w = range-out (suc a) k x m in ne-eqb v x
+        (λ q. let z : ⊥ = omega arith in z)) in
         omega arith
     by (no ne) ih =
         let zero-here : _≡_ {A = ℕ} (cond (eqb v a) 1 0) 0 = ap (λ (b : Bool). cond {A = ℕ} b 1 0) (ne-eqb v a ne) in
@@ -152,7 +161,8 @@ pub all-passing-below : (t : ℕ → Bool) (k : ℕ) → ((i : ℕ) → i < k �
 all-passing-below t k h = all-passing t (below k) (λ i m. h i (rw zero-add at (range-out 0 k i m .1)))
 
 -- tests that agree on every index below k fail first at the same
-pub same-failing-below : (t u : ℕ → Bool) (k : ℕ) → ((i : ℕ) → i < k → t i ≡ u i) → firstFailing t (below k) ≡ firstFailing u (below k)
+pub same-failing-below : (t u : ℕ → Bool) (k : ℕ) → ((i : ℕ) → i < k → t i ≡ u i)
+    → firstFailing t (below k) ≡ firstFailing u (below k)
 unfolding firstFailing
 same-failing-below t u k h = same (below k) (λ i m. h i (rw zero-add at (range-out 0 k i m .1)))
   where

@@ -1,5 +1,5 @@
--- Laws of a loop that walks a list by its index: what is left of a test over the whole list at index i is the test over the list from i on.
--- Assumes nothing.
+-- Laws of a loop that walks a list by its index: what is left of a test over the whole list at index i is the test over
+-- the list from i on. Assumes nothing.
 use mathlib.Core.Bool.{Bool, true, false, _&&_, _||_}
 use mathlib.Core.List.{List, _∷_}
 use mathlib.Core.Path.{_≡_, refl, sym, ap, _∙_}
@@ -60,14 +60,16 @@ module _ {A : Type 0} (t : A → Bool) (xs : List A) (d : A) where
   pub failing-stops : (i : ℕ) → i < length xs → t (getD xs i d) ≡ false → onFrom i (firstFailing t (drop i xs)) ≡ i + 1
   unfolding onFrom firstFailing
   failing-stops i h e =
-      ap (λ l. onFrom i (firstFailing t l)) (next i h) ∙ ap (λ b. onFrom i (failingAt b (firstFailing t (drop (i + 1) xs)))) e
+      ap (λ l. onFrom i (firstFailing t l)) (next i h)
+      ∙ ap (λ b. onFrom i (failingAt b (firstFailing t (drop (i + 1) xs)))) e
       ∙ ap suc (add-zero i) ∙ sym (add-one i)
 
   pub failing-goes-on : (i : ℕ) → i < length xs → t (getD xs i d) ≡ true
       → onFrom i (firstFailing t (drop i xs)) ≡ onFrom (i + 1) (firstFailing t (drop (i + 1) xs))
   unfolding onFrom firstFailing
   failing-goes-on i h e =
-      ap (λ l. onFrom i (firstFailing t l)) (next i h) ∙ ap (λ b. onFrom i (failingAt b (firstFailing t (drop (i + 1) xs)))) e
+      ap (λ l. onFrom i (firstFailing t l)) (next i h)
+      ∙ ap (λ b. onFrom i (failingAt b (firstFailing t (drop (i + 1) xs)))) e
       ∙ by (firstFailing t (drop (i + 1) xs))
     where
       by : (k : ℕ) → onFrom i (failingAt true k) ≡ onFrom (i + 1) k
@@ -96,4 +98,5 @@ module _ (t : ℕ → Bool) (k : ℕ) where
 
 -- an element of the first k of a list is that of the list
 pub getD-prefix : {A : Type 0} (l : List A) (k i : ℕ) (d : A) → i < length (take k l) → getD (take k l) i d ≡ getD l i d
-getD-prefix l k i d h = getD-take k l i d (lt-of-lt-of-le h (le-trans (le-of-eq (length-take k l)) (min-le-left k (length l))))
+getD-prefix l k i d h = getD-take k l i d (lt-of-lt-of-le h
+    (le-trans (le-of-eq (length-take k l)) (min-le-left k (length l))))

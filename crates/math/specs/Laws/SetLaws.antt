@@ -1,5 +1,5 @@
--- Laws of a number as a set of numbers: the count of ones is its size, the trailing zeros are its lowest member, and its members come
--- one by one, lowest first. Assumes nothing.
+-- Laws of a number as a set of numbers: the count of ones is its size, the trailing zeros are its lowest member, and
+-- its members come one by one, lowest first. Assumes nothing.
 use mathlib.Core.Bool.{Bool, true, false, cond, xor}
 use mathlib.Core.List.{List, [], _∷_}
 use mathlib.Core.Path.{_≡_, refl, sym, ap, ap₂, _∙_}
@@ -14,15 +14,18 @@ use lib.ListN.{length}
 use borrow.Author.Tests.{eq-eqb, ne-eqb}
 use Rattle.math.specs.Laws.BitLaws.{bit-zero, bit-suc, bit-of-zero, bit-flip, digit-lt}
 use Rattle.math.specs.Bits.{bit, flip, members, Lowest}
-use Rattle.math.specs.Laws.ListLaws.{count-ext, count-le, count-map, length-range, length-select, range-suc, range-out, select-ext}
+use Rattle.math.specs.Laws.ListLaws.{count-ext, count-le, count-map, length-range, length-select, range-suc}
+use Rattle.math.specs.Laws.ListLaws.{range-out, select-ext}
 use Rattle.math.specs.Lists.{count, select, range, below}
 
 -- ---- the count of ones
 
 -- a test over the numbers below n + 1: at 0, and then one further on
-pub count-below-suc : (t : ℕ → Bool) (n : ℕ) → count t (below (suc n)) ≡ cond (t 0) 1 0 + count (λ i. t (suc i)) (below n)
+pub count-below-suc : (t : ℕ → Bool) (n : ℕ)
+    → count t (below (suc n)) ≡ cond (t 0) 1 0 + count (λ i. t (suc i)) (below n)
 unfolding count range
-count-below-suc t n = ap (λ l. cond (t 0) 1 0 + count t l) (range-suc 0 n) ∙ ap (λ k. cond (t 0) 1 0 + k) (count-map suc t (range 0 n))
+count-below-suc t n = ap (λ l. cond (t 0) 1 0 + count t l) (range-suc 0 n)
+    ∙ ap (λ k. cond (t 0) 1 0 + k) (count-map suc t (range 0 n))
 
 digit-count : (u : ℕ) → u < 2 → u ≡ cond (eqb u 1) 1 0
 digit-count zero h = refl
@@ -48,7 +51,8 @@ unfolding trailingZeros
 trailing-least zero s j h = absurd (not-suc-le-zero h)
 trailing-least (suc k) s j h = by (s % 2) refl (digit-lt s) j h (trailing-least k (s / 2))
   where
-    by : (u : ℕ) → s % 2 ≡ u → u < 2 → (j : ℕ) → j < under u (trailingZeros k (s / 2)) → ((i : ℕ) → i < trailingZeros k (s / 2) → bit (s / 2) i ≡ false) → bit s j ≡ false
+    by : (u : ℕ) → s % 2 ≡ u → u < 2 → (j : ℕ) → j < under u (trailingZeros k (s / 2))
+        → ((i : ℕ) → i < trailingZeros k (s / 2) → bit (s / 2) i ≡ false) → bit s j ≡ false
     by zero e lt zero h ih = bit-zero s ∙ ap (λ u. eqb u 1) e
     by zero e lt (suc j) h ih = bit-suc s j ∙ ih j (le-of-suc-le-suc h)
     by (suc u) e lt j h ih = absurd (not-suc-le-zero h)
@@ -59,7 +63,8 @@ unfolding trailingZeros
 trailing-member zero s h = absurd (not-suc-le-zero h)
 trailing-member (suc k) s h = by (s % 2) refl (digit-lt s) h (trailing-member k (s / 2))
   where
-    by : (u : ℕ) → s % 2 ≡ u → u < 2 → under u (trailingZeros k (s / 2)) < suc k → (trailingZeros k (s / 2) < k → bit (s / 2) (trailingZeros k (s / 2)) ≡ true)
+    by : (u : ℕ) → s % 2 ≡ u → u < 2 → under u (trailingZeros k (s / 2)) < suc k
+        → (trailingZeros k (s / 2) < k → bit (s / 2) (trailingZeros k (s / 2)) ≡ true)
         → bit s (under u (trailingZeros k (s / 2))) ≡ true
     by zero e lt h ih = bit-suc s (trailingZeros k (s / 2)) ∙ ih (le-of-suc-le-suc h)
     by (suc zero) e lt h ih = bit-zero s ∙ ap (λ u. eqb u 1) e
@@ -71,7 +76,8 @@ unfolding trailingZeros
 trailing-lt zero s h ne = absurd (ne (lt-one h))
 trailing-lt (suc k) s h ne = by (s % 2) refl (λ half. trailing-lt k (s / 2) half)
   where
-    by : (u : ℕ) → s % 2 ≡ u → (s / 2 < 2 ^ k → (s / 2 ≡ 0 → ⊥) → trailingZeros k (s / 2) < k) → under u (trailingZeros k (s / 2)) < suc k
+    by : (u : ℕ) → s % 2 ≡ u → (s / 2 < 2 ^ k → (s / 2 ≡ 0 → ⊥) → trailingZeros k (s / 2) < k)
+        → under u (trailingZeros k (s / 2)) < suc k
     by zero e ih =
         let p : 2 ^ suc k ≡ 2 * 2 ^ k = pow-succ' 2 k in
         suc-le-suc (ih (omega arith) (λ z. ne (let w : s ≡ 0 = omega arith in w)))
@@ -82,9 +88,11 @@ trailing-lowest k s h ne = record { member = trailing-member k s (trailing-lt k 
 
 -- ---- the members, lowest first
 
--- of two tests that differ at v alone, the one that passes there selects v and then what the other selects, if nothing below v passes
+-- of two tests that differ at v alone, the one that passes there selects v and then what the other selects, if nothing
+-- below v passes
 select-lowest : (t u : ℕ → Bool) (v : ℕ) → t v ≡ true → u v ≡ false → ((j : ℕ) → (j ≡ v → ⊥) → u j ≡ t j)
-    → (a k : ℕ) → ((j : ℕ) → a ≤ j → j < v → t j ≡ false) → a ≤ v → v < a + k → select t (range a k) ≡ v ∷ select u (range a k)
+    → (a k : ℕ) → ((j : ℕ) → a ≤ j → j < v → t j ≡ false) → a ≤ v → v < a + k
+    → select t (range a k) ≡ v ∷ select u (range a k)
 unfolding select range
 select-lowest t u v at off same a zero low lo hi = absurd (z a v lo hi)
   where
@@ -93,11 +101,14 @@ select-lowest t u v at off same a zero low lo hi = absurd (z a v lo hi)
 select-lowest t u v at off same a (suc k) low lo hi = by (ℕ-discrete a v) (select-lowest t u v at off same (suc a) k)
   where
     by : Dec (a ≡ v)
-        → (((j : ℕ) → suc a ≤ j → j < v → t j ≡ false) → suc a ≤ v → v < suc a + k → select t (range (suc a) k) ≡ v ∷ select u (range (suc a) k))
-        → cond (t a) (a ∷ select t (range (suc a) k)) (select t (range (suc a) k)) ≡ v ∷ cond (u a) (a ∷ select u (range (suc a) k)) (select u (range (suc a) k))
+        → (((j : ℕ) → suc a ≤ j → j < v → t j ≡ false) → suc a ≤ v → v < suc a + k
+        → select t (range (suc a) k) ≡ v ∷ select u (range (suc a) k))
+        → cond (t a) (a ∷ select t (range (suc a) k)) (select t (range (suc a) k))
+        ≡ v ∷ cond (u a) (a ∷ select u (range (suc a) k)) (select u (range (suc a) k))
     by (yes e) ih =
         rw (ap t e ∙ at, ap u e ∙ off)
-        (ap₂ _∷_ e (select-ext t u (range (suc a) k) (λ j m. sym (same j (λ p. let w = range-out (suc a) k j m in omega arith)))))
+        (ap₂ _∷_ e (select-ext t u (range (suc a) k) (λ j m. sym
+        (same j (λ p. let w = range-out (suc a) k j m in omega arith)))))
     by (no ne) ih =
         let f : t a ≡ false = low a (le-refl a) (omega arith) in
         rw (f, same a ne ∙ f) (ih (λ j ge lt. low j (omega arith) lt) (omega arith) (omega arith))
@@ -124,7 +135,8 @@ members-next n s v l h =
 -- at most n numbers are below n
 pub members-few : (n s : ℕ) → length (members n s) ≤ n
 unfolding members
-members-few n s = le-trans (le-of-eq (length-select (bit s) (below n))) (le-trans (count-le (bit s) (below n)) (le-of-eq (length-range 0 n)))
+members-few n s = le-trans (le-of-eq (length-select (bit s) (below n)))
+    (le-trans (count-le (bit s) (below n)) (le-of-eq (length-range 0 n)))
 
 -- the empty set has no members
 pub members-none : (n : ℕ) → members n 0 ≡ []

@@ -14,14 +14,16 @@ module _ {A : Type 0} where
   pub spliced-none : (i : ℕ) (old : List A) → spliced i [] old ≡ old
   unfolding spliced
   spliced-none i old =
-      ap (λ (j : ℕ). take i old ++ [] ++ drop j old) (add-zero i) ∙ ap (λ l. l ++ drop i old) (append-nil (take i old)) ∙ take-append-drop i old
+      ap (λ (j : ℕ). take i old ++ [] ++ drop j old) (add-zero i) ∙ ap (λ l. l ++ drop i old) (append-nil (take i old))
+      ∙ take-append-drop i old
 
   -- in front it is contents over what was there
   pub spliced-front : (new old : List A) → spliced 0 new old ≡ over new old
   unfolding spliced over
   spliced-front new old = ap (λ (j : ℕ). new ++ drop j old) (zero-add (length new))
 
-  pub length-spliced : (i : ℕ) (new old : List A) → i + length new ≤ length old → length (spliced i new old) ≡ length old
+  pub length-spliced : (i : ℕ) (new old : List A) → i + length new ≤ length old
+      → length (spliced i new old) ≡ length old
   unfolding spliced
   length-spliced i new old h =
       omega (
@@ -36,23 +38,30 @@ module _ {A : Type 0} where
   pub spliced-one : (i : ℕ) (a : A) (old : List A) → i < length old → set old i a ≡ spliced i (a ∷ []) old
   unfolding spliced
   spliced-one i a old h =
-      set-split old i a h ∙ ap (λ (j : ℕ). take i old ++ a ∷ drop j old) (sym (add-one i)) ∙ sym (append-snoc (take i old) a (drop (i + 1) old))
+      set-split old i a h ∙ ap (λ (j : ℕ). take i old ++ a ∷ drop j old) (sym (add-one i))
+      ∙ sym (append-snoc (take i old) a (drop (i + 1) old))
 
   -- one part, and the next behind it
-  pub spliced-next : (i : ℕ) (a b old : List A) → i ≤ length old → spliced (i + length a) b (spliced i a old) ≡ spliced i (a ++ b) old
+  pub spliced-next : (i : ℕ) (a b old : List A) → i ≤ length old
+      → spliced (i + length a) b (spliced i a old) ≡ spliced i (a ++ b) old
   unfolding spliced
   spliced-next i a b old h =
       let front : List A = take i old ++ a in
-      let long : length front ≡ i + length a = length-append (take i old) a ∙ ap (λ (j : ℕ). j + length a) (length-take-le i old h) in
+      let long : length front ≡ i + length a = length-append (take i old) a
+      ∙ ap (λ (j : ℕ). j + length a) (length-take-le i old h) in
       ap₂ (λ (l r : List A). l ++ b ++ r) (take-at front (drop (i + length a) old) (i + length a) long)
-      (ap (λ (j : ℕ). drop (j + length b) (front ++ drop (i + length a) old)) (sym long) ∙ drop-append-add front (drop (i + length a) old) (length b)
+      (ap (λ (j : ℕ). drop (j + length b) (front ++ drop (i + length a) old)) (sym long)
+      ∙ drop-append-add front (drop (i + length a) old) (length b)
       ∙ drop-drop (length b) (i + length a) old)
-      ∙ ap₂ (λ (l : List A) (j : ℕ). l ++ drop j old) (append-assoc (take i old) a b) (add-assoc i (length a) (length b) ∙ ap (λ (j : ℕ). i + j) (sym (length-append a b)))
+      ∙ ap₂ (λ (l : List A) (j : ℕ). l ++ drop j old) (append-assoc (take i old) a b)
+      (add-assoc i (length a) (length b) ∙ ap (λ (j : ℕ). i + j) (sym (length-append a b)))
 
   -- the element behind what is spliced in becomes the last of it
-  pub spliced-snoc : (i : ℕ) (new old : List A) (a : A) → i + length new < length old → set (spliced i new old) (i + length new) a ≡ spliced i (new ++ a ∷ []) old
+  pub spliced-snoc : (i : ℕ) (new old : List A) (a : A) → i + length new < length old
+      → set (spliced i new old) (i + length new) a ≡ spliced i (new ++ a ∷ []) old
   spliced-snoc i new old a h =
-      spliced-one (i + length new) a (spliced i new old) (lt-of-lt-of-le h (le-of-eq (sym (length-spliced i new old (le-of-lt h)))))
+      spliced-one (i + length new) a (spliced i new old)
+      (lt-of-lt-of-le h (le-of-eq (sym (length-spliced i new old (le-of-lt h)))))
       ∙ spliced-next i new (a ∷ []) old (omega arith)
 
   -- copying another list element by element: after j come j + 1

@@ -1,5 +1,5 @@
--- Laws of lists taken apart and put together: selecting along a list, the list that a map came from, lists joined end to end.
--- Assumes nothing.
+-- Laws of lists taken apart and put together: selecting along a list, the list that a map came from, lists joined end
+-- to end. Assumes nothing.
 use mathlib.Core.Bool.{Bool, true, false, cond}
 use mathlib.Core.List.{List, [], _∷_, _++_, map, flatMap, append-assoc, nil≢cons, List·Memᴰ·tail}
 use mathlib.Core.Path.{_≡_, refl, sym, ap, ap₂, _∙_}
@@ -24,7 +24,8 @@ module _ {A : Type 0} where
   select-append t (x ∷ xs) ys = by (t x) (select-append t xs ys)
     where
       by : (b : Bool) → select t (xs ++ ys) ≡ select t xs ++ select t ys
-          → cond b (x ∷ select t (xs ++ ys)) (select t (xs ++ ys)) ≡ cond b (x ∷ select t xs) (select t xs) ++ select t ys
+          → cond b (x ∷ select t (xs ++ ys)) (select t (xs ++ ys))
+          ≡ cond b (x ∷ select t xs) (select t xs) ++ select t ys
       by true ih = ap (λ l. x ∷ l) ih
       by false ih = ih
 
@@ -35,7 +36,8 @@ module _ {A B : Type 0} (f : A → B) where
   map-nil (x ∷ xs) e = absurd (nil≢cons (sym e))
 
   -- a map that yields a first element had a first one
-  pub map-cons : (xs : List A) {y : B} {ys : List B} → map f xs ≡ y ∷ ys → (x : A) × (rest : List A) × (xs ≡ x ∷ rest) × (f x ≡ y) × (map f rest ≡ ys)
+  pub map-cons : (xs : List A) {y : B} {ys : List B} → map f xs ≡ y ∷ ys
+      → (x : A) × (rest : List A) × (xs ≡ x ∷ rest) × (f x ≡ y) × (map f rest ≡ ys)
   map-cons [] e = absurd (nil≢cons e)
   map-cons (x ∷ xs) e = (x, xs, refl, cc, cc)
 
@@ -47,12 +49,15 @@ module _ {A B : Type 0} (f : A → List B) where
   pub flatMap-append : (xs ys : List A) → flatMap f (xs ++ ys) ≡ flatMap f xs ++ flatMap f ys
   unfolding flatMap
   flatMap-append [] ys = refl
-  flatMap-append (x ∷ xs) ys = ap (λ l. f x ++ l) (flatMap-append xs ys) ∙ sym (append-assoc (f x) (flatMap f xs) (flatMap f ys))
+  flatMap-append (x ∷ xs) ys = ap (λ l. f x ++ l) (flatMap-append xs ys)
+      ∙ sym (append-assoc (f x) (flatMap f xs) (flatMap f ys))
 
   -- lists of one length, joined
-  pub length-flatMap : (k : ℕ) (xs : List A) → ((x : A) → x ∈ xs → length (f x) ≡ k) → length (flatMap f xs) ≡ length xs * k
+  pub length-flatMap : (k : ℕ) (xs : List A) → ((x : A) → x ∈ xs → length (f x) ≡ k)
+      → length (flatMap f xs) ≡ length xs * k
   unfolding flatMap
   length-flatMap k [] h = sym (zero-mul k)
   length-flatMap k (x ∷ xs) h =
-      length-append (f x) (flatMap f xs) ∙ ap₂ _+_ (h x (here x xs)) (length-flatMap k xs (λ y m. h y (List·Memᴰ·tail m)))
+      length-append (f x) (flatMap f xs)
+      ∙ ap₂ _+_ (h x (here x xs)) (length-flatMap k xs (λ y m. h y (List·Memᴰ·tail m)))
       ∙ add-comm k (length xs * k) ∙ sym (suc-mul (length xs) k)

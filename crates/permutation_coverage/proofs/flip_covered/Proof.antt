@@ -1,5 +1,5 @@
--- `permutation_coverage::flip_covered` meets its contract: whether the flip is covered is, at index i, whether an image under the permutations from i on
--- is among the points. Assumes nothing.
+-- `permutation_coverage::flip_covered` meets its contract: whether the flip is covered is, at index i, whether an image
+-- under the permutations from i on is among the points. Assumes nothing.
 use mathlib.Core.Path.{_≡_}
 use Prim.Native.Nat.{_-_}
 use native.Mathlib.Nat.{lt-of-lt-of-le}
@@ -8,7 +8,8 @@ use borrow.Author.Needs.{needs}
 use Rattle.math.specs.Bits.{flip}
 use Rattle.math.specs.Lists.{any}
 use Rattle.permutation_theory.specs.Permutations.{imageIn, covered, permutationsIn}
-use Rattle.permutation_coverage.specs.Laws.CoverageLaws.{flip-askable, flip-found, flip-not-found, flip-sends, image-askable, image-found, image-not-found, none-found}
+use Rattle.permutation_coverage.specs.Laws.CoverageLaws.{flip-askable, flip-found, flip-not-found, flip-sends}
+use Rattle.permutation_coverage.specs.Laws.CoverageLaws.{image-askable, image-found, image-not-found, none-found}
 use Rattle.permutation_coverage.proofs.flip_covered.Statement.{statement}
 use Rattle.permutation_coverage.proofs.flip_covered.Tie as tie
 

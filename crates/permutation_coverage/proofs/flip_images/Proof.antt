@@ -1,7 +1,9 @@
--- `permutation_coverage::flip_images` meets its contract: before index i the images are those of the flipped point. Assumes nothing.
+-- `permutation_coverage::flip_images` meets its contract: before index i the images are those of the flipped point.
+-- Assumes nothing.
 use Prim.Native.Nat.{_-_}
 use Rattle.permutation_coverage.specs.Laws.Coverage.{Turning}
-use Rattle.permutation_coverage.specs.Laws.CoverageLaws.{flip-sends, turning-begins, turning-goes-on, turning-ends}
+use Rattle.permutation_coverage.specs.Laws.CoverageLaws.{flip-sends, turning-begins, turning-goes-on}
+use Rattle.permutation_coverage.specs.Laws.CoverageLaws.{turning-ends}
 use borrow.Author.Needs.{needs}
 use Rattle.permutation_coverage.proofs.flip_images.Statement.{statement}
 use Rattle.permutation_coverage.proofs.flip_images.Tie as tie

@@ -1,4 +1,5 @@
--- `permutation_coverage::move_images` meets its contract: a law of CoverageLaws for each event of the loop. Assumes nothing.
+-- `permutation_coverage::move_images` meets its contract: a law of CoverageLaws for each event of the loop. Assumes
+-- nothing.
 use mathlib.Core.Path.{_≡_, refl, sym, _∙_}
 use native.Mathlib.Nat.{le-of-eq, le-trans, lt-of-lt-of-le}
 use lib.ListN.{length}

@@ -35,12 +35,14 @@ pub record Coverable (heads n k : ℕ) (points links : List ℕ) (count : ℕ) (
 
 -- what was the images of some point is those of the point with the variable v flipped
 abbrev pub Turns : ℕ → ℕ → List ℕ → ℕ → List ℕ → List ℕ → Type 0
-Turns n count images v old new = (x : ℕ) → take count old ≡ imagesOf (permutationsIn n count images) x → take count new ≡ imagesOf (permutationsIn n count images) (flip x v)
+Turns n count images v old new = (x : ℕ) → take count old ≡ imagesOf (permutationsIn n count images) x
+    → take count new ≡ imagesOf (permutationsIn n count images) (flip x v)
 
 -- before index i the images are flipped, whichever the point is; those from i on are as they were
 pub record Turning (n count : ℕ) (images : List ℕ) (v : ℕ) (old : List ℕ) (i : ℕ) (moved : List ℕ) : Type 0 where
   pub lengths : length moved ≡ length old
-  pub turned : (x : ℕ) → take count old ≡ imagesOf (permutationsIn n count images) x → moved ≡ over (take i (imagesOf (permutationsIn n count images) (flip x v))) old
+  pub turned : (x : ℕ) → take count old ≡ imagesOf (permutationsIn n count images) x
+      → moved ≡ over (take i (imagesOf (permutationsIn n count images) (flip x v))) old
   pub rest : (j : ℕ) → i ≤ j → getD moved j 0 ≡ getD old j 0
 
 -- `moved` has the images of a point of n digits, which differs from y in the variables of `left`, v the lowest of them

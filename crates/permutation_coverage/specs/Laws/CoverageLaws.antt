@@ -1,4 +1,5 @@
--- Laws of the images that are stored, of their change from one point to another, and of look-ups of a flipped point and its images. Assumes nothing.
+-- Laws of the images that are stored, of their change from one point to another, and of look-ups of a flipped point and
+-- its images. Assumes nothing.
 use mathlib.Core.Bool.{Bool, true, false, xor, _||_}
 use mathlib.Core.List.{List, [], _∷_}
 use mathlib.Core.Path.{_≡_, refl, sym, ap, ap₂, _∙_, subst}
@@ -21,34 +22,43 @@ use Rattle.math.specs.Laws.SetLaws.{members-next}
 use Rattle.points.specs.Laws.Contracts.{NextVariable}
 use Rattle.points.specs.Laws.NextLaws.{next-lowest, next-empty}
 use Rattle.permutation_theory.specs.Laws.ImageLaws.{image-flip, image-sound, moved-none, sent-range}
-use Rattle.permutation_theory.specs.Permutations.{Permutation, IsPermutation, imageOfPoint, imageIn, covered, permutationsIn}
+use Rattle.permutation_theory.specs.Permutations.{Permutation, IsPermutation, imageOfPoint, imageIn, covered}
+use Rattle.permutation_theory.specs.Permutations.{permutationsIn}
 use Rattle.permutation_images.specs.Laws.LoopLaws.{noPermutation, length-permutations, permutation-at, listed-room}
 use Rattle.point_index.specs.Laws.Looking.{Askable}
-use Rattle.permutation_coverage.specs.Laws.Coverage.{imagesOf, Permuting, Imaged, Coverable, Turns, Turning, Moving, Sends}
+use Rattle.permutation_coverage.specs.Laws.Coverage.{imagesOf, Permuting, Imaged, Coverable, Turns, Turning}
+use Rattle.permutation_coverage.specs.Laws.Coverage.{Moving, Sends}
 
 -- ---- the images of a point, stored one by one
 
 module _ (n count : ℕ) (images : List ℕ) (x : ℕ) where
   length-images : length (imagesOf (permutationsIn n count images) x) ≡ count
-  length-images = length-map (permutationsIn n count images) (λ (e : Permutation). imageOfPoint e x) ∙ length-permutations n count images
+  length-images = length-map (permutationsIn n count images) (λ (e : Permutation). imageOfPoint e x)
+      ∙ length-permutations n count images
 
   -- the image of index i is that under the permutation of index i
-  image-at : (i : ℕ) → getD (imagesOf (permutationsIn n count images) x) i 0 ≡ imageOfPoint (getD (permutationsIn n count images) i noPermutation) x
+  image-at : (i : ℕ) → getD (imagesOf (permutationsIn n count images) x) i 0
+      ≡ imageOfPoint (getD (permutationsIn n count images) i noPermutation) x
   unfolding imageOfPoint
   image-at i = List·getD-map (λ (e : Permutation). imageOfPoint e x) (permutationsIn n count images) i noPermutation
 
   -- after i images come i + 1
-  pub images-next : (old : List ℕ) (i y : ℕ) → i < count → i < length old → y ≡ imageOfPoint (getD (permutationsIn n count images) i noPermutation) x
-      → set (over (take i (imagesOf (permutationsIn n count images) x)) old) i y ≡ over (take (i + 1) (imagesOf (permutationsIn n count images) x)) old
+  pub images-next : (old : List ℕ) (i y : ℕ) → i < count → i < length old
+      → y ≡ imageOfPoint (getD (permutationsIn n count images) i noPermutation) x
+      → set (over (take i (imagesOf (permutationsIn n count images) x)) old) i y
+      ≡ over (take (i + 1) (imagesOf (permutationsIn n count images) x)) old
   images-next old i y lt room is =
       ap (set (over (take i (imagesOf (permutationsIn n count images) x)) old) i) (is ∙ sym (image-at i))
-      ∙ over-take-next i (imagesOf (permutationsIn n count images) x) old 0 (lt-of-lt-of-le lt (le-of-eq (sym length-images))) room
+      ∙ over-take-next i (imagesOf (permutationsIn n count images) x) old 0
+      (lt-of-lt-of-le lt (le-of-eq (sym length-images))) room
 
   -- the last leaves all in front
-  pub images-end : (new old : List ℕ) (i : ℕ) → count ≤ i → new ≡ over (take i (imagesOf (permutationsIn n count images) x)) old
+  pub images-end : (new old : List ℕ) (i : ℕ) → count ≤ i
+      → new ≡ over (take i (imagesOf (permutationsIn n count images) x)) old
       → take count new ≡ imagesOf (permutationsIn n count images) x
   images-end new old i ge is =
-      ap (take count) (is ∙ ap (λ (l : List ℕ). over l old) (take-all i (imagesOf (permutationsIn n count images) x) (le-trans (le-of-eq length-images) ge)))
+      ap (take count) (is ∙ ap (λ (l : List ℕ). over l old)
+      (take-all i (imagesOf (permutationsIn n count images) x) (le-trans (le-of-eq length-images) ge)))
       ∙ over-front count (imagesOf (permutationsIn n count images) x) old length-images
 
 -- an array of zeros has the images of the empty point, which are empty
@@ -58,7 +68,8 @@ imaged-none n count size images le =
     record {
       enough = le-trans le (le-of-eq (sym (length-replicate {A = ℕ} size 0)));
       narrow = pow-pos n;
-      imaged = take-replicate count size 0 le ∙ ap (λ (k : ℕ). replicate k 0) (sym (length-permutations n count images)) ∙ sym (each (permutationsIn n count images));
+      imaged = take-replicate count size 0 le ∙ ap (λ (k : ℕ). replicate k 0) (sym (length-permutations n count images))
+          ∙ sym (each (permutationsIn n count images));
     }
   where
     each : (es : List Permutation) → imagesOf es 0 ≡ replicate (length es) 0
@@ -67,7 +78,8 @@ imaged-none n count size images le =
 
 -- ---- the image of a flipped point under one permutation
 
-module _ {n count : ℕ} {images : List ℕ} (g : Permuting n count images) (v : ℕ) (inside : v < n) (i : ℕ) (lt : i < count) where
+module _ {n count : ℕ} {images : List ℕ} (g : Permuting n count images) (v : ℕ) (inside : v < n) (i : ℕ)
+    (lt : i < count) where
   inside-all : i < length (permutationsIn n count images)
   inside-all = lt-of-lt-of-le lt (le-of-eq (sym (length-permutations n count images)))
 
@@ -88,12 +100,20 @@ module _ {n count : ℕ} {images : List ℕ} (g : Permuting n count images) (v :
       let room = listed-room n count i images (g .listed) lt in
       let range = sent-range n own own-proper v inside in
       let few = g .few in
-      record { within = lt-of-lt-of-le inside few; room = omega arith; low = omega (arith, byte, range .0); high = omega (arith, byte, range .1, few) }
+      record {
+        within = lt-of-lt-of-le inside few;
+        room = omega arith;
+        low = omega (arith, byte, range .0);
+        high = omega
+            (arith, byte, range .1, few);
+      }
 
   -- it is the image, flipped where v is sent
-  pub image-flipped : (moved : List ℕ) (x y : ℕ) → take count moved ≡ imagesOf (permutationsIn n count images) x → y ≡ flip (getD moved i 0) (getD images (i * n + v) 0 - 1)
+  pub image-flipped : (moved : List ℕ) (x y : ℕ) → take count moved ≡ imagesOf (permutationsIn n count images) x
+      → y ≡ flip (getD moved i 0) (getD images (i * n + v) 0 - 1)
       → y ≡ imageOfPoint own (flip x v)
-  image-flipped moved x y imaged is = is ∙ ap₂ (λ (z u : ℕ). flip z (u - 1)) at byte ∙ sym (image-flip n own own-proper x v inside)
+  image-flipped moved x y imaged is = is ∙ ap₂ (λ (z u : ℕ). flip z (u - 1)) at byte
+      ∙ sym (image-flip n own own-proper x v inside)
     where
       at : getD moved i 0 ≡ imageOfPoint own x
       at = sym (getD-take count moved i 0 lt) ∙ ap (λ (l : List ℕ). getD l i 0) imaged ∙ image-at n count images x i
@@ -104,20 +124,25 @@ module _ (n count : ℕ) (images : List ℕ) (v : ℕ) (old : List ℕ) where
   pub turning-begins : Turning n count images v old 0 old
   turning-begins = record { lengths = refl; turned = λ x e. sym (over-none old); rest = λ j le. refl }
 
-  pub turning-goes-on : Permuting n count images → v < n → count ≤ length old → {i : ℕ} {moved : List ℕ} → Turning n count images v old i moved → i < count
-      → (y : ℕ) → y ≡ flip (getD moved i 0) (getD images (i * n + v) 0 - 1) → (moved′ : List ℕ) → moved′ ≡ set moved i y → Turning n count images v old (i + 1) moved′
+  pub turning-goes-on : Permuting n count images → v < n → count ≤ length old → {i : ℕ} {moved : List ℕ}
+      → Turning n count images v old i moved → i < count
+      → (y : ℕ) → y ≡ flip (getD moved i 0) (getD images (i * n + v) 0 - 1) → (moved′ : List ℕ) → moved′ ≡ set moved i y
+      → Turning n count images v old (i + 1) moved′
   turning-goes-on g inside enough {i} {moved} t lt y is moved′ stored =
       record {
         lengths = ap length stored ∙ length-set moved i y ∙ t .lengths;
         turned = λ x e.
             stored ∙ ap (λ (l : List ℕ). set l i y) (t .turned x e)
             ∙ images-next n count images (flip x v) old i y lt (lt-of-lt-of-le lt enough)
-            (image-flipped g v inside i lt old x y e (is ∙ ap (λ (z : ℕ). flip z (getD images (i * n + v) 0 - 1)) (t .rest i (le-refl i))));
+            (image-flipped g v inside i lt old x y e (is
+            ∙ ap (λ (z : ℕ). flip z (getD images (i * n + v) 0 - 1)) (t .rest i (le-refl i))));
         rest = λ j le.
-            ap (λ (l : List ℕ). getD l j 0) stored ∙ getD-set-other moved i j y 0 (λ e. let z : ⊥ = omega arith in z) ∙ t .rest j (omega arith);
+            ap (λ (l : List ℕ). getD l j 0) stored ∙ getD-set-other moved i j y 0 (λ e. let z : ⊥ = omega arith in z)
+            ∙ t .rest j (omega arith);
       }
 
-  pub turning-ends : {i : ℕ} {moved : List ℕ} → Turning n count images v old i moved → count ≤ i → Turns n count images v old moved
+  pub turning-ends : {i : ℕ} {moved : List ℕ} → Turning n count images v old i moved → count ≤ i
+      → Turns n count images v old moved
   turning-ends {i} {moved} t ge x e = images-end n count images (flip x v) moved old i ge (t .turned x e)
 
 -- ---- from the images of one point to those of another
@@ -144,7 +169,8 @@ no-difference false true e = e
 no-difference false false e = refl
 
 module _ {n count : ℕ} {images : List ℕ} (few : n ≤ 64) (y : ℕ) (small : y < 2 ^ n) where
-  pub moving-begins : (x left v : ℕ) (moved : List ℕ) → Imaged n count images x moved → left ≡ bitXor x y → NextVariable left v → Moving n count images y left v moved
+  pub moving-begins : (x left v : ℕ) (moved : List ℕ) → Imaged n count images x moved → left ≡ bitXor x y
+      → NextVariable left v → Moving n count images y left v moved
   moving-begins x left v moved m is next =
       record {
         reached = x;
@@ -157,9 +183,11 @@ module _ {n count : ℕ} {images : List ℕ} (few : n ≤ 64) (y : ℕ) (small :
 
   module _ {left v : ℕ} {moved : List ℕ} (m : Moving n count images y left v moved) where
     pub moving-less : (left′ : ℕ) → v < n → left′ ≡ flip left v → length (members n left′) < length (members n left)
-    moving-less left′ lt q = le-of-eq (ap (λ (z : ℕ). suc (length (members n z))) q ∙ sym (ap length (members-next n left v (next-lowest n left v few (m .next) lt) lt)))
+    moving-less left′ lt q = le-of-eq (ap (λ (z : ℕ). suc (length (members n z))) q
+        ∙ sym (ap length (members-next n left v (next-lowest n left v few (m .next) lt) lt)))
 
-    pub moving-goes-on : v < n → {moved′ : List ℕ} → Turns n count images v moved moved′ → (left′ v′ : ℕ) → left′ ≡ flip left v → NextVariable left′ v′ → Moving n count images y left′ v′ moved′
+    pub moving-goes-on : v < n → {moved′ : List ℕ} → Turns n count images v moved moved′ → (left′ v′ : ℕ)
+        → left′ ≡ flip left v → NextVariable left′ v′ → Moving n count images y left′ v′ moved′
     moving-goes-on lt turned left′ v′ q next =
         record {
           reached = flip (m .reached) v;
@@ -167,13 +195,19 @@ module _ {n count : ℕ} {images : List ℕ} (few : n ≤ 64) (y : ℕ) (small :
           within = subst (λ (z : ℕ). z < 2 ^ n) (sym q) (flip-lt n left v (m .within) lt);
           next = next;
           differ = λ i.
-              ap (λ (z : ℕ). bit z i) q ∙ bit-flip left v i ∙ differs-less (bit left i) (bit (m .reached) i) (bit y i) (eqb v i) (m .differ i)
+              ap (λ (z : ℕ). bit z i) q ∙ bit-flip left v i
+              ∙ differs-less (bit left i) (bit (m .reached) i) (bit y i) (eqb v i) (m .differ i)
               ∙ ap (λ (b : Bool). xor b (bit y i)) (sym (bit-flip (m .reached) v i));
           imaged = turned (m .reached) (m .imaged);
         }
 
     pub moving-ends : n ≤ v → count ≤ length moved → Imaged n count images y moved
-    moving-ends ge enough = record { enough = enough; narrow = small; imaged = m .imaged ∙ ap (imagesOf (permutationsIn n count images)) same }
+    moving-ends ge enough = record {
+      enough = enough;
+      narrow = small;
+      imaged = m .imaged
+          ∙ ap (imagesOf (permutationsIn n count images)) same;
+    }
       where
         none : left ≡ 0
         none = next-empty n left v (m .next) (m .within) ge
@@ -181,11 +215,13 @@ module _ {n count : ℕ} {images : List ℕ} (few : n ≤ 64) (y : ℕ) (small :
         same : m .reached ≡ y
         same =
             bits-ext-below n (m .reached) y (m .narrow) small (λ i lt.
-            no-difference (bit (m .reached) i) (bit y i) (sym (bit-of-zero i) ∙ ap (λ (z : ℕ). bit z i) (sym none) ∙ m .differ i))
+            no-difference (bit (m .reached) i) (bit y i)
+            (sym (bit-of-zero i) ∙ ap (λ (z : ℕ). bit z i) (sym none) ∙ m .differ i))
 
 -- ---- the look-ups of a flipped point and of its images
 
-module _ {heads n k : ℕ} {points links : List ℕ} {count : ℕ} {images moved : List ℕ} {x : ℕ} (c : Coverable heads n k points links count images moved x) (v : ℕ) (inside : v < n) where
+module _ {heads n k : ℕ} {points links : List ℕ} {count : ℕ} {images moved : List ℕ} {x : ℕ}
+    (c : Coverable heads n k points links count images moved x) (v : ℕ) (inside : v < n) where
   abbrev es : List Permutation
   es = permutationsIn n count images
 
@@ -198,7 +234,12 @@ module _ {heads n k : ℕ} {points links : List ℕ} {count : ℕ} {images moved
 
   -- whatever has n digits can be looked up
   asks : (y z : ℕ) → y ≡ z → z < 2 ^ n → Askable heads n (take k points) links y
-  asks y z same lt = record { few = c .askable .few; indexed = c .askable .indexed; narrow = subst (λ (w : ℕ). w < 2 ^ n) (sym same) lt }
+  asks y z same lt = record {
+    few = c .askable .few;
+    indexed = c .askable .indexed;
+    narrow = subst
+        (λ (w : ℕ). w < 2 ^ n) (sym same) lt;
+  }
 
   module _ (y : ℕ) (is : y ≡ flip x v) where
     pub flip-askable : Askable heads n (take k points) links y
@@ -228,18 +269,22 @@ module _ {heads n k : ℕ} {points links : List ℕ} {count : ℕ} {images moved
 
       pub image-askable : Askable heads n (take k points) links y
       image-askable =
-          asks y (imageOfPoint sender (flip x v)) image-is (image-sound n sender (c .permuting .proper sender (getD-in es i noPermutation among)) (flip x v) .within)
+          asks y (imageOfPoint sender (flip x v)) image-is
+          (image-sound n sender (c .permuting .proper sender (getD-in es i noPermutation among)) (flip x v) .within)
 
       module _ (left : whole ≡ from i) (found : Bool) (told : found ≡ has y (take k points)) where
         tested : imageIn (take k points) (flip x v) sender ≡ found
         tested = sym (told ∙ ap (λ (z : ℕ). has z (take k points)) image-is)
 
         pub image-found : found ≡ true → true ≡ whole
-        image-found e = sym (left ∙ any-stops (imageIn (take k points) (flip x v)) es noPermutation i among (tested ∙ e))
+        image-found e = sym (left ∙ any-stops (imageIn (take k points) (flip x v)) es noPermutation i among
+            (tested ∙ e))
 
         pub image-not-found : found ≡ false → whole ≡ from (i + 1)
-        image-not-found e = left ∙ any-goes-on (imageIn (take k points) (flip x v)) es noPermutation i among (tested ∙ e)
+        image-not-found e = left ∙ any-goes-on (imageIn (take k points) (flip x v)) es noPermutation i among
+            (tested ∙ e)
 
   pub none-found : (i : ℕ) → count ≤ i → whole ≡ from i → false ≡ whole
   none-found i ge left =
-      sym (left ∙ any-ends (imageIn (take k points) (flip x v)) es noPermutation i (le-trans (le-of-eq (length-permutations n count images)) ge))
+      sym (left ∙ any-ends (imageIn (take k points) (flip x v)) es noPermutation i
+      (le-trans (le-of-eq (length-permutations n count images)) ge))

@@ -1,4 +1,5 @@
--- `permutation_symmetry::has_clause` meets its contract: a right guess says so; else whether the clause is among them is, at an index, whether it is among those from there on. Assumes nothing.
+-- `permutation_symmetry::has_clause` meets its contract: a right guess says so; else whether the clause is among them
+-- is, at an index, whether it is among those from there on. Assumes nothing.
 use mathlib.Core.Path.{_≡_, refl, sym, ap, _∙_}
 use Prim.Native.Nat.{_-_}
 use native.Mathlib.Omega.{arith}

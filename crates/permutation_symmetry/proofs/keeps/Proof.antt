@@ -1,4 +1,5 @@
--- `permutation_symmetry::keeps` meets its contract: whether every image is among the clauses is, at index i, whether those of the clauses from i on are. Assumes nothing.
+-- `permutation_symmetry::keeps` meets its contract: whether every image is among the clauses is, at index i, whether
+-- those of the clauses from i on are. Assumes nothing.
 use mathlib.Core.Path.{_≡_, refl, sym, ap, _∙_}
 use Prim.Native.Nat.{_-_}
 use native.Mathlib.Omega.{arith}

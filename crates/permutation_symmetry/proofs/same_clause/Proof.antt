@@ -1,4 +1,5 @@
--- `permutation_symmetry::same_clause` meets its contract: the second test is reached where the first passes. Assumes nothing.
+-- `permutation_symmetry::same_clause` meets its contract: the second test is reached where the first passes. Assumes
+-- nothing.
 use mathlib.Core.Path.{sym, _∙_}
 use borrow.Author.Needs.{needs}
 use Rattle.permutation_theory.specs.Permutations.{sameClause}

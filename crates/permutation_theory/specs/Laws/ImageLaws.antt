@@ -1,22 +1,25 @@
--- Laws of images under a permutation: the computed image is the one that the sentence fixes, and that of a flipped point is the flipped image.
--- Assumes nothing.
+-- Laws of images under a permutation: the computed image is the one that the sentence fixes, and that of a flipped
+-- point is the flipped image. Assumes nothing.
 use mathlib.Core.Bool.{false, _&&_, _||_, and-true, and-false, or-false, xor}
 use mathlib.Core.List.{List, [], _∷_, List·Memᴰ·head, List·Memᴰ·tail}
 use mathlib.Core.Path.{_≡_, refl, sym, ap, ap₂, _∙_, subst}
 use Prim.Native.Nat.{ℕ, zero, suc, _-_, _*_, _/_, _%_, _^_, _≤_, _<_}
-use native.Mathlib.Nat.{zero-mul, one-mul, not-suc-le-zero, le-of-suc-le-suc, lt-of-le-of-lt, mul-le-mul-right, le-of-eq}
+use native.Mathlib.Nat.{zero-mul, one-mul, not-suc-le-zero, le-of-suc-le-suc, lt-of-le-of-lt, mul-le-mul-right}
+use native.Mathlib.Nat.{le-of-eq}
 use native.Mathlib.Omega.{arith}
 use lib.Bits.{bitOr, or-lt, or-zero-r}
 use lib.Dec.{eqb}
 use lib.ListN.{length, getD}
 use lib.Pow.{pow-pos, pow-lt}
 use borrow.Author.Tests.{eqb-true, eq-eqb, ne-eqb}
-use Rattle.math.specs.Laws.BitLaws.{digit-lt, bit-zero, bit-suc, bit-of-zero, bit-or, bit-pow, bit-flip, flip-lt, bits-ext-below}
+use Rattle.math.specs.Laws.BitLaws.{digit-lt, bit-zero, bit-suc, bit-of-zero, bit-or, bit-pow, bit-flip, flip-lt}
+use Rattle.math.specs.Laws.BitLaws.{bits-ext-below}
 use Rattle.math.specs.Bits.{bit, flip}
 use Rattle.math.specs.Laws.CountLaws.{distinct-index}
 use Rattle.math.specs.Laws.ListLaws.{here, getD-in, in-getD, or-none, same-tests}
 use Rattle.math.specs.Lists.{_∈_, Distinct, distinct-cons}
-use Rattle.permutation_theory.specs.Laws.PermutationLaws.{permutation-within, permutation-distinct, permutation-onto}
+use Rattle.permutation_theory.specs.Laws.PermutationLaws.{permutation-within, permutation-distinct}
+use Rattle.permutation_theory.specs.Laws.PermutationLaws.{permutation-onto}
 use Rattle.permutation_theory.specs.Permutations.{Permutation, IsPermutation, moved, IsImage, imageOfPoint}
 
 -- a digit put at place k
@@ -29,15 +32,18 @@ bit-digit (suc (suc d)) k j h = absurd (not-suc-le-zero (le-of-suc-le-suc (le-of
 abbrev Positive : List ℕ → Type 0
 Positive vs = (v : ℕ) → v ∈ vs → 1 ≤ v
 
-step : (v : ℕ) (vs : List ℕ) (s j : ℕ) → bit (moved (v ∷ vs) s) j ≡ (eqb (s % 2) 1 && eqb (v - 1) j) || bit (moved vs (s / 2)) j
+step : (v : ℕ) (vs : List ℕ) (s j : ℕ)
+    → bit (moved (v ∷ vs) s) j ≡ (eqb (s % 2) 1 && eqb (v - 1) j) || bit (moved vs (s / 2)) j
 unfolding moved
-step v vs s j = bit-or (s % 2 * 2 ^ (v - 1)) (moved vs (s / 2)) j ∙ ap (λ b. b || bit (moved vs (s / 2)) j) (bit-digit (s % 2) (v - 1) j (digit-lt s))
+step v vs s j = bit-or (s % 2 * 2 ^ (v - 1)) (moved vs (s / 2)) j
+    ∙ ap (λ b. b || bit (moved vs (s / 2)) j) (bit-digit (s % 2) (v - 1) j (digit-lt s))
 
 -- of the empty set nothing is sent
 pub moved-none : (vs : List ℕ) → moved vs 0 ≡ 0
 unfolding moved
 moved-none [] = refl
-moved-none (v ∷ vs) = ap (bitOr (0 * 2 ^ (v - 1))) (moved-none vs) ∙ or-zero-r (0 * 2 ^ (v - 1)) ∙ zero-mul (2 ^ (v - 1))
+moved-none (v ∷ vs) = ap (bitOr (0 * 2 ^ (v - 1))) (moved-none vs) ∙ or-zero-r (0 * 2 ^ (v - 1))
+    ∙ zero-mul (2 ^ (v - 1))
 
 -- nothing is sent where no number of the list points
 pub moved-off : (vs : List ℕ) (s j : ℕ) → Positive vs → (suc j ∈ vs → ⊥) → bit (moved vs s) j ≡ false
@@ -46,19 +52,22 @@ moved-off [] s j pos out = bit-of-zero j
 moved-off (v ∷ vs) s j pos out =
     step v vs s j
     ∙ or-none (eqb (s % 2) 1 && eqb (v - 1) j) (bit (moved vs (s / 2)) j)
-    (ap (λ b. eqb (s % 2) 1 && b) (ne-eqb (v - 1) j (λ e. out (List·Memᴰ·head (same e (pos v (here v vs)))))) ∙ and-false (eqb (s % 2) 1))
+    (ap (λ b. eqb (s % 2) 1 && b) (ne-eqb (v - 1) j (λ e. out (List·Memᴰ·head (same e (pos v (here v vs))))))
+    ∙ and-false (eqb (s % 2) 1))
     (moved-off vs (s / 2) j (λ u m. pos u (List·Memᴰ·tail m)) (λ m. out (List·Memᴰ·tail m)))
   where
     same : v - 1 ≡ j → 1 ≤ v → suc j ≡ v
     same e h = omega arith
 
 -- variable i goes where the i-th number points
-pub moved-at : (vs : List ℕ) (s i : ℕ) → Distinct vs → Positive vs → i < length vs → bit (moved vs s) (getD vs i 0 - 1) ≡ bit s i
+pub moved-at : (vs : List ℕ) (s i : ℕ) → Distinct vs → Positive vs → i < length vs
+    → bit (moved vs s) (getD vs i 0 - 1) ≡ bit s i
 moved-at [] s i d pos h = absurd (not-suc-le-zero h)
 moved-at (v ∷ vs) s zero (distinct-cons new d) pos h =
     step v vs s (v - 1)
     ∙ ap₂ _||_ (ap (λ b. eqb (s % 2) 1 && b) (eq-eqb (v - 1) (v - 1) refl) ∙ and-true (eqb (s % 2) 1))
-    (moved-off vs (s / 2) (v - 1) (λ u m. pos u (List·Memᴰ·tail m)) (λ m. new (subst (λ u. u ∈ vs) (same (pos v (here v vs))) m)))
+    (moved-off vs (s / 2) (v - 1) (λ u m. pos u (List·Memᴰ·tail m))
+    (λ m. new (subst (λ u. u ∈ vs) (same (pos v (here v vs))) m)))
     ∙ or-false (eqb (s % 2) 1) ∙ sym (bit-zero s)
   where
     same : 1 ≤ v → suc (v - 1) ≡ v
@@ -68,7 +77,8 @@ moved-at (v ∷ vs) s (suc i) (distinct-cons new d) pos h =
     step v vs s (getD vs i 0 - 1)
     ∙ ap₂ _||_
     (ap (λ b. eqb (s % 2) 1 && b)
-    (ne-eqb (v - 1) (getD vs i 0 - 1) (λ e. new (subst (λ u. u ∈ vs) (same (getD vs i 0) e (pos v (here v vs)) (pos (getD vs i 0) (List·Memᴰ·tail m))) m)))
+    (ne-eqb (v - 1) (getD vs i 0 - 1) (λ e. new (subst (λ u. u ∈ vs)
+    (same (getD vs i 0) e (pos v (here v vs)) (pos (getD vs i 0) (List·Memᴰ·tail m))) m)))
     ∙ and-false (eqb (s % 2) 1))
     (moved-at vs (s / 2) i d (λ u k. pos u (List·Memᴰ·tail k)) (le-of-suc-le-suc h))
     ∙ sym (bit-suc s i)
@@ -81,7 +91,8 @@ unfolding moved
 moved-lt n [] s h = pow-pos n
 moved-lt n (v ∷ vs) s h =
     or-lt n (s % 2 * 2 ^ (v - 1)) (moved vs (s / 2))
-    (lt-of-le-of-lt (mul-le-mul-right (2 ^ (v - 1)) (le-of-suc-le-suc (digit-lt s))) (lt-of-le-of-lt (le-of-eq (one-mul (2 ^ (v - 1)))) (pow-lt (low (h v (here v vs))))))
+    (lt-of-le-of-lt (mul-le-mul-right (2 ^ (v - 1)) (le-of-suc-le-suc (digit-lt s)))
+    (lt-of-le-of-lt (le-of-eq (one-mul (2 ^ (v - 1)))) (pow-lt (low (h v (here v vs))))))
     (moved-lt n vs (s / 2) (λ u m. h u (List·Memᴰ·tail m)))
   where
     low : (1 ≤ v) × (v ≤ n) → v - 1 < n
@@ -117,7 +128,8 @@ module _ (n : ℕ) (e : Permutation) (p : IsPermutation n e) (x : ℕ) where
   image-sound =
       record {
         within = moved-lt n (e .images) x (permutation-within n e p);
-        value = λ i h. moved-at (e .images) x i (permutation-distinct n e p) (λ v m. permutation-within n e p v m .0) (index-lt n e p i h);
+        value = λ i h. moved-at (e .images) x i (permutation-distinct n e p) (λ v m. permutation-within n e p v m .0)
+            (index-lt n e p i h);
       }
 
   pub image-complete : (y : ℕ) → IsImage n e x y → y ≡ imageOfPoint e x
@@ -142,7 +154,8 @@ image-flip n e p x v h =
     (record {
       within = flip-lt n (imageOfPoint e x) (sentTo e v) (image-sound n e p x .within) (sent-lt n e p v h);
       value = λ i lt.
-          bit-flip (imageOfPoint e x) (sentTo e v) (sentTo e i) ∙ ap₂ xor (image-sound n e p x .value i lt) (same i lt) ∙ sym (bit-flip x v i);
+          bit-flip (imageOfPoint e x) (sentTo e v) (sentTo e i) ∙ ap₂ xor (image-sound n e p x .value i lt) (same i lt)
+          ∙ sym (bit-flip x v i);
     }))
   where
     -- variable i is flipped in the one exactly if it is in the other

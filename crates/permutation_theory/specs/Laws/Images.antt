@@ -1,4 +1,5 @@
--- What a permutation of the variables does to points and clauses: these facts are all that the theory knows of images. Assumes nothing.
+-- What a permutation of the variables does to points and clauses: these facts are all that the theory knows of images.
+-- Assumes nothing.
 use mathlib.Core.Bool.{Bool, true, false, xor}
 use mathlib.Core.List.{[], _∷_, map}
 use mathlib.Core.Logic.{_↔_}
@@ -12,8 +13,10 @@ use Rattle.math.specs.Laws.CountLaws.{below-in, below-out, bit-below, count-car
 use Rattle.math.specs.Laws.ListLaws.{in-getD, map-in, count-ext, distinct-range}
 use Rattle.math.specs.Lists.{_∈_, count, below}
 use Rattle.points.specs.Points.{Clause, Satisfies, by-yes, by-no, satisfies, distance}
-use Rattle.permutation_theory.specs.Laws.ImageLaws.{sentTo, index-lt, sent-lt, sent-injective, moved-at, moved-lt, image-sound}
-use Rattle.permutation_theory.specs.Laws.PermutationLaws.{permutation-within, permutation-distinct, permutation-onto}
+use Rattle.permutation_theory.specs.Laws.ImageLaws.{sentTo, index-lt, sent-lt, sent-injective, moved-at, moved-lt}
+use Rattle.permutation_theory.specs.Laws.ImageLaws.{image-sound}
+use Rattle.permutation_theory.specs.Laws.PermutationLaws.{permutation-within, permutation-distinct}
+use Rattle.permutation_theory.specs.Laws.PermutationLaws.{permutation-onto}
 use Rattle.permutation_theory.specs.Permutations.{Permutation, IsPermutation, moved, imageOfPoint, imageOfClause}
 use Rattle.point_theory.specs.Laws.Notions.{ClauseBelow}
 
@@ -23,7 +26,8 @@ pub record Faithful (n : ℕ) (e : Permutation) : Type 0 where
   pub isometric : (x y : ℕ) → distance n (imageOfPoint e x) (imageOfPoint e y) ≡ distance n x y
   -- the image of a clause is satisfied by the image of a point exactly if the clause is by the point
   -- T5: "Reversing e for points but not for rules.": then this does not hold, as `reversed` shows
-  pub exactly : (c : Clause) (x : ℕ) → ClauseBelow n c → Satisfies c x ↔ Satisfies (imageOfClause e c) (imageOfPoint e x)
+  pub exactly : (c : Clause) (x : ℕ) → ClauseBelow n c
+      → Satisfies c x ↔ Satisfies (imageOfClause e c) (imageOfPoint e x)
   -- clauses with the same image are the same
   pub injective : (c d : Clause) → ClauseBelow n c → ClauseBelow n d → imageOfClause e c ≡ imageOfClause e d → c ≡ d
 
@@ -39,9 +43,11 @@ module _ (n : ℕ) (e : Permutation) (p : IsPermutation n e) where
   -- so a test counts as often where the variables are sent
   count-sent : (t : ℕ → Bool) → count (λ i. t (sentTo e i)) (below n) ≡ count t (below n)
   count-sent t =
-      count-carried (sentTo e) t (distinct-range 0 n) (distinct-range 0 n) (λ i m. below-in n (sentTo e i) (sent-lt n e p i (below-out n i m)))
+      count-carried (sentTo e) t (distinct-range 0 n) (distinct-range 0 n)
+      (λ i m. below-in n (sentTo e i) (sent-lt n e p i (below-out n i m)))
       (λ i j mi mj. sent-injective n e p i j (below-out n i mi) (below-out n j mj))
-      (λ j m. let w = sent-onto j (below-out n j m) in subst (λ k. k ∈ map (sentTo e) (below n)) (w .2) (map-in (sentTo e) (below-in n (w .0) (w .1))))
+      (λ j m. let w = sent-onto j (below-out n j m) in subst (λ k. k ∈ map (sentTo e) (below n)) (w .2)
+      (map-in (sentTo e) (below-in n (w .0) (w .1))))
 
   -- ---- its images keep distances
 
@@ -49,25 +55,29 @@ module _ (n : ℕ) (e : Permutation) (p : IsPermutation n e) where
   unfolding distance
   isometric x y =
       sym (count-sent (λ j. xor (bit (imageOfPoint e x) j) (bit (imageOfPoint e y) j)))
-      ∙ count-ext (λ i. xor (bit (imageOfPoint e x) (sentTo e i)) (bit (imageOfPoint e y) (sentTo e i))) (λ i. xor (bit x i) (bit y i)) (below n)
+      ∙ count-ext (λ i. xor (bit (imageOfPoint e x) (sentTo e i)) (bit (imageOfPoint e y) (sentTo e i)))
+      (λ i. xor (bit x i) (bit y i)) (below n)
       (λ i m. let h = below-out n i m in ap₂ xor (image-sound n e p x .value i h) (image-sound n e p y .value i h))
 
   -- ---- the image of a clause is satisfied by the image of a point exactly if the clause is by the point
 
   moved-value : (s i : ℕ) → i < n → bit (moved (e .images) s) (sentTo e i) ≡ bit s i
   moved-value s i h =
-      moved-at (e .images) s i (permutation-distinct n e p) (λ v m. permutation-within n e p v m .0) (index-lt n e p i h)
+      moved-at (e .images) s i (permutation-distinct n e p) (λ v m. permutation-within n e p v m .0)
+      (index-lt n e p i h)
 
   moved-below : (s : ℕ) → moved (e .images) s < 2 ^ n
   moved-below s = moved-lt n (e .images) s (permutation-within n e p)
 
   -- a variable of the set s is sent to one of the moved set, where the image of x has the value that x has at it
-  sent : (s x i : ℕ) → s < 2 ^ n → bit s i ≡ true → (j : ℕ) × (bit (moved (e .images) s) j ≡ true) × (bit (imageOfPoint e x) j ≡ bit x i)
+  sent : (s x i : ℕ) → s < 2 ^ n → bit s i ≡ true
+      → (j : ℕ) × (bit (moved (e .images) s) j ≡ true) × (bit (imageOfPoint e x) j ≡ bit x i)
   sent s x i hs h =
       let lt = bit-below n s i hs h in (sentTo e i, moved-value s i lt ∙ h, image-sound n e p x .value i lt)
 
   -- and every variable of the moved set is so sent
-  came : (s x j : ℕ) → bit (moved (e .images) s) j ≡ true → (i : ℕ) × (bit s i ≡ true) × (bit x i ≡ bit (imageOfPoint e x) j)
+  came : (s x j : ℕ) → bit (moved (e .images) s) j ≡ true
+      → (i : ℕ) × (bit s i ≡ true) × (bit x i ≡ bit (imageOfPoint e x) j)
   came s x j h =
       let w = sent-onto j (bit-below n (moved (e .images) s) j (moved-below s) h) in (
         w .0,
@@ -75,10 +85,13 @@ module _ (n : ℕ) (e : Permutation) (p : IsPermutation n e) where
         sym (image-sound n e p x .value (w .0) (w .1)) ∙ ap (bit (imageOfPoint e x)) (w .2),
       )
 
-  image-satisfies : (c : Clause) (x : ℕ) → ClauseBelow n c → Satisfies c x → Satisfies (imageOfClause e c) (imageOfPoint e x)
+  image-satisfies : (c : Clause) (x : ℕ) → ClauseBelow n c → Satisfies c x
+      → Satisfies (imageOfClause e c) (imageOfPoint e x)
   unfolding imageOfClause
-  image-satisfies c x b (by-yes i h q) = let w = sent (c .positive) x i (b .positive-below) h in by-yes (w .0) (w .1) (w .2 ∙ q)
-  image-satisfies c x b (by-no i h q) = let w = sent (c .negative) x i (b .negative-below) h in by-no (w .0) (w .1) (w .2 ∙ q)
+  image-satisfies c x b (by-yes i h q) = let w = sent (c .positive) x i (b .positive-below) h in by-yes (w .0) (w .1)
+      (w .2 ∙ q)
+  image-satisfies c x b (by-no i h q) = let w = sent (c .negative) x i (b .negative-below) h in by-no (w .0) (w .1)
+      (w .2 ∙ q)
 
   satisfies-image : (c : Clause) (x : ℕ) → Satisfies (imageOfClause e c) (imageOfPoint e x) → Satisfies c x
   unfolding imageOfClause
@@ -95,8 +108,10 @@ module _ (n : ℕ) (e : Permutation) (p : IsPermutation n e) where
   unfolding imageOfClause
   clause-injective c d bc bd q =
       ap₂ (λ u v. let k : Clause = record { positive = u; negative = v } in k)
-      (moved-injective (c .positive) (d .positive) (bc .positive-below) (bd .positive-below) (ap (λ (k : Clause). k .positive) q))
-      (moved-injective (c .negative) (d .negative) (bc .negative-below) (bd .negative-below) (ap (λ (k : Clause). k .negative) q))
+      (moved-injective (c .positive) (d .positive) (bc .positive-below) (bd .positive-below)
+      (ap (λ (k : Clause). k .positive) q))
+      (moved-injective (c .negative) (d .negative) (bc .negative-below) (bd .negative-below)
+      (ap (λ (k : Clause). k .negative) q))
 
   pub permutation-faithful : Faithful n e
   permutation-faithful =
@@ -109,8 +124,8 @@ module _ (n : ℕ) (e : Permutation) (p : IsPermutation n e) where
 
 -- ---- T5: "Reversing e for points but not for rules."
 
--- the clause that wants variable 1 is satisfied by the point 100; under e = 2 3 1 its image wants variable 2, and 100 goes to 010; e reversed,
--- 3 1 2, takes 100 to 001, which falsifies the image
+-- the clause that wants variable 1 is satisfied by the point 100; under e = 2 3 1 its image wants variable 2, and 100
+-- goes to 010; e reversed, 3 1 2, takes 100 to 001, which falsifies the image
 abbrev wanted : Clause
 wanted = record { positive = 1; negative = 0 }
 

@@ -1,5 +1,5 @@
--- Laws of permutations: what the computed tests say, and that n numbers of 1 to n without repetition are each of them once.
--- Assumes nothing.
+-- Laws of permutations: what the computed tests say, and that n numbers of 1 to n without repetition are each of them
+-- once. Assumes nothing.
 use mathlib.Core.Bool.{true}
 use mathlib.Core.List.{List}
 use mathlib.Core.Logic.{⊎-elim}
@@ -10,10 +10,14 @@ use native.Mathlib.Omega.{arith}
 use lib.Dec.{eqb}
 use lib.ListN.{length}
 use borrow.Author.Tests.{eqb-true, eq-eqb}
-use Rattle.math.specs.Laws.ListLaws.{and-split, and-join, or-split, or-left, or-right, any-found, any-of, all-at, all-of, has-in, in-has, decIn, count-found, count-pos, count-distinct, distinct-count, distinct-onto, distinct-range, length-range, range-in, range-out}
+use Rattle.math.specs.Laws.ListLaws.{and-split, and-join, or-split, or-left, or-right, any-found, any-of, all-at}
+use Rattle.math.specs.Laws.ListLaws.{all-of, has-in, in-has, decIn, count-found, count-pos, count-distinct}
+use Rattle.math.specs.Laws.ListLaws.{distinct-count, distinct-onto, distinct-range, length-range, range-in, range-out}
 use Rattle.math.specs.Lists.{_∈_, any, all, count, Distinct, range, has}
 use Rattle.points.specs.Points.{Clause, Numbered}
-use Rattle.permutation_theory.specs.Permutations.{Permutation, IsPermutation, isPermutation, imageOfPoint, imageOfClause, clausesIn, Keeps, imageAmong, keeps, sameClause, Covered, itself, by-image, imageIn, covered}
+use Rattle.permutation_theory.specs.Permutations.{Permutation, IsPermutation, isPermutation, imageOfPoint}
+use Rattle.permutation_theory.specs.Permutations.{imageOfClause, clausesIn, Keeps, imageAmong, keeps, sameClause}
+use Rattle.permutation_theory.specs.Permutations.{Covered, itself, by-image, imageIn, covered}
 
 -- ---- the computed tests and the sentences agree
 
@@ -23,13 +27,15 @@ isPermutation-sound n e h =
     let both = and-split (eqb (length (e .images)) n) (all (λ v. eqb (count (eqb v) (e .images)) 1) (range 1 n)) h in
     record {
       size = eqb-true (length (e .images)) n (both .0);
-      once = λ v lo hi. eqb-true (count (eqb v) (e .images)) 1 (all-at (λ v. eqb (count (eqb v) (e .images)) 1) (both .1) (range-in 1 n v lo (omega arith)));
+      once = λ v lo hi. eqb-true (count (eqb v) (e .images)) 1
+          (all-at (λ v. eqb (count (eqb v) (e .images)) 1) (both .1) (range-in 1 n v lo (omega arith)));
     }
 
 pub isPermutation-complete : (n : ℕ) (e : Permutation) → IsPermutation n e → isPermutation n e ≡ true
 unfolding isPermutation
 isPermutation-complete n e p =
-    and-join (eqb (length (e .images)) n) (all (λ v. eqb (count (eqb v) (e .images)) 1) (range 1 n)) (eq-eqb (length (e .images)) n (p .size))
+    and-join (eqb (length (e .images)) n) (all (λ v. eqb (count (eqb v) (e .images)) 1) (range 1 n))
+    (eq-eqb (length (e .images)) n (p .size))
     (all-of (λ v. eqb (count (eqb v) (e .images)) 1) (range 1 n)
     (λ v m. let w = range-out 1 n v m in eq-eqb (count (eqb v) (e .images)) 1 (p .once v (w .0) (omega arith))))
 
@@ -37,13 +43,15 @@ pub sameClause-sound : (c d : Clause) → sameClause c d ≡ true → c ≡ d
 unfolding sameClause
 sameClause-sound c d h =
     let both = and-split (eqb (c .positive) (d .positive)) (eqb (c .negative) (d .negative)) h in
-    ap₂ (λ p n. let k : Clause = record { positive = p; negative = n } in k) (eqb-true (c .positive) (d .positive) (both .0)) (eqb-true (c .negative) (d .negative) (both .1))
+    ap₂ (λ p n. let k : Clause = record { positive = p; negative = n } in k)
+    (eqb-true (c .positive) (d .positive) (both .0)) (eqb-true (c .negative) (d .negative) (both .1))
 
 pub sameClause-complete : (c d : Clause) → c ≡ d → sameClause c d ≡ true
 unfolding sameClause
 sameClause-complete c d e =
     and-join (eqb (c .positive) (d .positive)) (eqb (c .negative) (d .negative))
-    (eq-eqb (c .positive) (d .positive) (ap (λ (c : Clause). c .positive) e)) (eq-eqb (c .negative) (d .negative) (ap (λ (c : Clause). c .negative) e))
+    (eq-eqb (c .positive) (d .positive) (ap (λ (c : Clause). c .positive) e))
+    (eq-eqb (c .negative) (d .negative) (ap (λ (c : Clause). c .negative) e))
 
 pub keeps-sound : (cs : List Numbered) (e : Permutation) → keeps cs e ≡ true → Keeps e cs
 unfolding keeps
@@ -55,7 +63,8 @@ pub keeps-complete : (cs : List Numbered) (e : Permutation) → Keeps e cs → k
 unfolding keeps
 keeps-complete cs e k =
     all-of (imageAmong (clausesIn cs) e) (clausesIn cs)
-    (λ c m. any-of (sameClause (imageOfClause e c)) (k c m) (sameClause-complete (imageOfClause e c) (imageOfClause e c) refl))
+    (λ c m. any-of (sameClause (imageOfClause e c)) (k c m)
+    (sameClause-complete (imageOfClause e c) (imageOfClause e c) refl))
 
 pub covered-sound : (es : List Permutation) (ps : List ℕ) (x : ℕ) → covered es ps x ≡ true → Covered es ps x
 unfolding covered
@@ -82,17 +91,20 @@ module _ (n : ℕ) (e : Permutation) where
 
     pub permutation-within : (v : ℕ) → v ∈ e .images → (1 ≤ v) × (v ≤ n)
     permutation-within v m =
-        let w = range-out 1 n v (distinct-onto decIn (distinct-range 1 n) (e .images) each (le-of-eq (p .size ∙ sym (length-range 1 n))) v m) in
+        let w = range-out 1 n v (distinct-onto decIn (distinct-range 1 n) (e .images) each
+        (le-of-eq (p .size ∙ sym (length-range 1 n))) v m) in
         (w .0, omega arith)
 
     pub permutation-distinct : Distinct (e .images)
-    permutation-distinct = count-distinct (e .images) (λ v m. let w = permutation-within v m in le-of-eq (p .once v (w .0) (w .1)))
+    permutation-distinct = count-distinct (e .images) (λ v m. let w = permutation-within v m in le-of-eq
+        (p .once v (w .0) (w .1)))
 
     -- every variable is the image of one
     pub permutation-onto : (v : ℕ) → 1 ≤ v → v ≤ n → v ∈ e .images
     permutation-onto v lo hi = each v (range-in 1 n v lo (omega arith))
 
-  pub permutation-of : length (e .images) ≡ n → ((v : ℕ) → v ∈ e .images → (1 ≤ v) × (v ≤ n)) → Distinct (e .images) → IsPermutation n e
+  pub permutation-of : length (e .images) ≡ n → ((v : ℕ) → v ∈ e .images → (1 ≤ v) × (v ≤ n)) → Distinct (e .images)
+      → IsPermutation n e
   permutation-of size within distinct = record { size = size; once = once }
     where
       in-range : (v : ℕ) → v ∈ e .images → v ∈ range 1 n
@@ -100,5 +112,6 @@ module _ (n : ℕ) (e : Permutation) where
 
       once : (v : ℕ) → 1 ≤ v → v ≤ n → count (eqb v) (e .images) ≡ 1
       once v lo hi =
-          let m = distinct-onto decIn distinct (range 1 n) in-range (le-of-eq (length-range 1 n ∙ sym size)) v (range-in 1 n v lo (omega arith)) in
+          let m = distinct-onto decIn distinct (range 1 n) in-range (le-of-eq (length-range 1 n ∙ sym size)) v
+          (range-in 1 n v lo (omega arith)) in
           le-antisymm (distinct-count distinct v) (count-pos (eqb v) m (eq-eqb v v refl))

@@ -3,7 +3,8 @@ use mathlib.Core.Path.{sym, _∙_}
 use Prim.Native.Nat.{_<_, _-_}
 use native.Mathlib.Omega.{arith}
 use borrow.Author.Needs.{needs}
-use Rattle.point_index.specs.Laws.IndexLaws.{seeking-begins, seeking-ends, seeking-within, seeking-stops, seeking-less, seeking-goes-on}
+use Rattle.point_index.specs.Laws.IndexLaws.{seeking-begins, seeking-ends, seeking-within, seeking-stops}
+use Rattle.point_index.specs.Laws.IndexLaws.{seeking-less, seeking-goes-on}
 use Rattle.point_index.specs.Laws.Looking.{Seeking}
 use Rattle.point_index.proofs.find.Statement.{statement}
 use Rattle.point_index.proofs.find.Tie as tie

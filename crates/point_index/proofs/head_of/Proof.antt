@@ -1,4 +1,5 @@
--- `point_index::head_of` meets its contract: neither the products nor their sum wrap, and the quotient loses nothing as a `usize`. Assumes nothing.
+-- `point_index::head_of` meets its contract: neither the products nor their sum wrap, and the quotient loses nothing as
+-- a `usize`. Assumes nothing.
 use mathlib.Core.Path.{refl}
 use borrow.Author.Needs.{needs}
 use Rattle.point_index.specs.Laws.Index.{headOf}

@@ -1,6 +1,6 @@
--- A digital search tree over points, in one list of links: first the heads, then two links for each point. A link is 0, or 1 more than the number
--- of a point, numbered from 0. A point at depth d has the d lowest digits of every point below it, so that no path is longer than points have digits.
--- Assumes nothing.
+-- A digital search tree over points, in one list of links: first the heads, then two links for each point. A link is 0,
+-- or 1 more than the number of a point, numbered from 0. A point at depth d has the d lowest digits of every point
+-- below it, so that no path is longer than points have digits. Assumes nothing.
 use mathlib.Core.Bool.{Bool, true, false}
 use mathlib.Core.List.{List}
 use mathlib.Core.Path.{_≡_}
@@ -25,15 +25,18 @@ Agree d x y = (i : ℕ) → i < d → bit x i ≡ bit y i
 abbrev pub entry : List ℕ → ℕ → ℕ
 entry l i = getD l i 0
 
--- a point x may stand at link s, at depth d: at its own head, or at its side of one of the k points, whose lowest digits it has
+-- a point x may stand at link s, at depth d: at its own head, or at its side of one of the k points, whose lowest
+-- digits it has
 pub data MayStand (heads k : ℕ) (point depth : ℕ → ℕ) (x s d : ℕ) : Type 0 where
   at-head : s ≡ headOf heads x → d ≡ 0 → MayStand heads k point depth x s d
-  at-child : (j : ℕ) → j < k → s ≡ childOf heads j (bit x (depth j)) → d ≡ suc (depth j) → Agree (depth j) x (point j) → MayStand heads k point depth x s d
+  at-child : (j : ℕ) → j < k → s ≡ childOf heads j (bit x (depth j)) → d ≡ suc (depth j) → Agree (depth j) x (point j)
+      → MayStand heads k point depth x s d
 
 -- a look-up of x at link s and depth d ends at point j
 pub data Finds (heads : ℕ) (point link : ℕ → ℕ) (x j : ℕ) : ℕ → ℕ → Type 0 where
   found-here : {s d : ℕ} → link s ≡ suc j → point j ≡ x → Finds heads point link x j s d
-  found-below : {s d : ℕ} (i : ℕ) → link s ≡ suc i → (point i ≡ x → ⊥) → Finds heads point link x j (childOf heads i (bit x d)) (suc d) → Finds heads point link x j s d
+  found-below : {s d : ℕ} (i : ℕ) → link s ≡ suc i → (point i ≡ x → ⊥)
+      → Finds heads point link x j (childOf heads i (bit x d)) (suc d) → Finds heads point link x j s d
 
 -- the links hold the k points, each at its depth: whatever a link names may stand there, and every point is found
 pub record Indexes (heads n k : ℕ) (point depth link : ℕ → ℕ) : Type 0 where

@@ -1,4 +1,5 @@
--- What the functions on an index cite beside its definition: the loop of a look-up, and what a look-up and an addition answer. Assumes nothing.
+-- What the functions on an index cite beside its definition: the loop of a look-up, and what a look-up and an addition
+-- answer. Assumes nothing.
 use mathlib.Core.Bool.{Bool, true, false}
 use mathlib.Core.List.{List, [], _∷_, _++_}
 use mathlib.Core.Path.{_≡_}
@@ -15,13 +16,15 @@ AllZero links = (s : ℕ) → entry links s ≡ 0
 abbrev pub Extends : (ℕ → ℕ) → (ℕ → ℕ) → (ℕ → ℕ) → (ℕ → ℕ) → Type 0
 Extends point link point′ link′ = (s j : ℕ) → link s ≡ suc j → (link′ s ≡ suc j) × (point′ j ≡ point j)
 
--- a look-up of x has come to link s at depth d: what is found from the head is found from here, and back, in whatever extends the index
+-- a look-up of x has come to link s at depth d: what is found from the head is found from here, and back, in whatever
+-- extends the index
 pub record Looking (heads n k : ℕ) (point link : ℕ → ℕ) (x s d : ℕ) : Type 0 where
   pub depth : ℕ → ℕ
   pub indexes : Indexes heads n k point depth link
   pub stands : MayStand heads k point depth x s d
   pub ahead : (j : ℕ) → Finds heads point link x j (headOf heads x) 0 → Finds heads point link x j s d
-  pub back : (point′ link′ : ℕ → ℕ) → Extends point link point′ link′ → (j : ℕ) → Finds heads point′ link′ x j s d → Finds heads point′ link′ x j (headOf heads x) 0
+  pub back : (point′ link′ : ℕ → ℕ) → Extends point link point′ link′ → (j : ℕ) → Finds heads point′ link′ x j s d
+      → Finds heads point′ link′ x j (headOf heads x) 0
 
 -- the same among the first k points of a list, with the value of the link
 pub record Seeking (heads n k : ℕ) (points links : List ℕ) (x s d value : ℕ) : Type 0 where
@@ -42,12 +45,15 @@ pub record Addable (heads n k : ℕ) (points links : List ℕ) (x : ℕ) : Type 
   pub small : k + 1 < 4294967296
   pub room : heads + 2 * (k + 1) ≤ length links
 
--- a look-up of x ended: it tells whether x is among the points; where it is not, the next number at link s adds x, if there is room
+-- a look-up of x ended: it tells whether x is among the points; where it is not, the next number at link s adds x, if
+-- there is room
 pub record Ends (heads n : ℕ) (points links : List ℕ) (x : ℕ) (held : Bool) (s : ℕ) : Type 0 where
   pub tells : held ≡ has x points
-  pub free : held ≡ false → heads + 2 * suc (length points) ≤ length links → Indexed heads n (points ++ x ∷ []) (set links s (suc (length points)))
+  pub free : held ≡ false → heads + 2 * suc (length points) ≤ length links
+      → Indexed heads n (points ++ x ∷ []) (set links s (suc (length points)))
 
--- an addition of x tells whether x was there; then the links stay as they were, else they are an index of the points and x behind them
+-- an addition of x tells whether x was there; then the links stay as they were, else they are an index of the points
+-- and x behind them
 pub record Adds (heads n : ℕ) (points links : List ℕ) (x : ℕ) (held : Bool) (links′ : List ℕ) : Type 0 where
   pub tells : held ≡ has x points
   pub same : held ≡ true → links′ ≡ links

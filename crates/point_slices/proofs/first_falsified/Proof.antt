@@ -1,4 +1,5 @@
--- `point_slices::first_falsified` meets its contract: the answer is, at index i, that over the clauses from i on. Assumes nothing.
+-- `point_slices::first_falsified` meets its contract: the answer is, at index i, that over the clauses from i on.
+-- Assumes nothing.
 use mathlib.Core.Path.{_≡_, refl, sym, ap, _∙_}
 use Prim.Native.Nat.{_-_}
 use native.Mathlib.Omega.{arith}
@@ -6,7 +7,8 @@ use lib.ListN.{length, getD}
 use borrow.Author.Needs.{needs}
 use borrow.Author.Tests.{not-true, not-false}
 use Rattle.points.specs.Points.{satisfies}
-use Rattle.point_slices.specs.Laws.SliceLaws.{clauses-le, falsifiedFrom, falsified-ends, falsified-stops, falsified-goes-on}
+use Rattle.point_slices.specs.Laws.SliceLaws.{clauses-le, falsifiedFrom, falsified-ends, falsified-stops}
+use Rattle.point_slices.specs.Laws.SliceLaws.{falsified-goes-on}
 use Rattle.point_slices.specs.Slices.{clausesOf, noLiterals}
 use Rattle.point_slices.proofs.first_falsified.Statement.{statement}
 use Rattle.point_slices.proofs.first_falsified.Tie as tie

@@ -5,7 +5,8 @@ use mathlib.Core.Logic.{_⊎_, inl, inr}
 use mathlib.Core.Option.{some}
 use mathlib.Core.Path.{_≡_, refl, sym, ap, _∙_}
 use Prim.Native.Nat.{ℕ, zero, suc, _+_, _≤_, _<_, min, zero-le}
-use native.Mathlib.Nat.{zero-min, min-zero, suc-min-suc, min-le-left, min-le-right, le-trans, le-of-eq, le-of-suc-le-suc, not-suc-le-zero}
+use native.Mathlib.Nat.{zero-min, min-zero, suc-min-suc, min-le-left, min-le-right, le-trans, le-of-eq}
+use native.Mathlib.Nat.{le-of-suc-le-suc, not-suc-le-zero}
 use native.Mathlib.Omega.{arith}
 use native.Mathlib.Numerals.{add-one}
 use lib.ListN.{length, getD, drop, drop-of-length-le, List·getD-eq-default}
@@ -31,7 +32,8 @@ clause-at (p ∷ ps) [] i hp hn = absurd (not-suc-le-zero hn)
 clause-at (p ∷ ps) (n ∷ ns) zero hp hn = refl
 clause-at (p ∷ ps) (n ∷ ns) (suc i) hp hn = clause-at ps ns i (le-of-suc-le-suc hp) (le-of-suc-le-suc hn)
 
-pub clause-past : (ps ns : List ℕ) (i : ℕ) → (length ps ≤ i) ⊎ (length ns ≤ i) → noLiterals ≡ getD (clausesOf ps ns) i noLiterals
+pub clause-past : (ps ns : List ℕ) (i : ℕ) → (length ps ≤ i) ⊎ (length ns ≤ i)
+    → noLiterals ≡ getD (clausesOf ps ns) i noLiterals
 clause-past ps ns i h = sym (List·getD-eq-default (clausesOf ps ns) noLiterals (past h))
   where
     past : (length ps ≤ i) ⊎ (length ns ≤ i) → length (clausesOf ps ns) ≤ i
@@ -43,8 +45,12 @@ pub clause-sets : (ps ns : List ℕ) (c : Clause) → c ∈ clausesOf ps ns → 
 unfolding clausesOf
 clause-sets [] ns c m = absurd (List·Memᴰ·not-nil m)
 clause-sets (p ∷ ps) [] c m = absurd (List·Memᴰ·not-nil m)
-clause-sets (p ∷ ps) (n ∷ ns) c (List·Memᴰ·head e) = (List·Memᴰ·head (ap (λ (c : Clause). c .positive) e), List·Memᴰ·head (ap (λ (c : Clause). c .negative) e))
-clause-sets (p ∷ ps) (n ∷ ns) c (List·Memᴰ·tail m) = let w = clause-sets ps ns c m in (List·Memᴰ·tail (w .0), List·Memᴰ·tail (w .1))
+clause-sets (p ∷ ps) (n ∷ ns) c (List·Memᴰ·head e) = (
+  List·Memᴰ·head (ap (λ (c : Clause). c .positive) e),
+  List·Memᴰ·head (ap (λ (c : Clause). c .negative) e),
+)
+clause-sets (p ∷ ps) (n ∷ ns) c (List·Memᴰ·tail m) = let w = clause-sets ps ns c m in
+    (List·Memᴰ·tail (w .0), List·Memᴰ·tail (w .1))
 
 -- the number of the first clause that the point falsifies, of those from index i on
 unfoldable pub falsifiedFrom : List Clause → ℕ → ℕ → ℕ
@@ -59,11 +65,14 @@ module _ (cs : List Clause) (x : ℕ) where
   unfolding falsifiedFrom
   falsified-ends i h = ap (λ l. numberOf (firstFalsified (numberedFrom (suc i) l) x)) (drop-of-length-le cs h)
 
-  pub falsified-stops : (i : ℕ) → i < length cs → satisfies (getD cs i noLiterals) x ≡ false → falsifiedFrom cs x i ≡ i + 1
+  pub falsified-stops : (i : ℕ) → i < length cs → satisfies (getD cs i noLiterals) x ≡ false
+      → falsifiedFrom cs x i ≡ i + 1
   unfolding falsifiedFrom
-  falsified-stops i h e = ap (λ l. numberOf (firstFalsified (numberedFrom (suc i) l) x)) (next i h) ∙ rw e (sym (add-one i))
+  falsified-stops i h e = ap (λ l. numberOf (firstFalsified (numberedFrom (suc i) l) x)) (next i h)
+      ∙ rw e (sym (add-one i))
 
-  pub falsified-goes-on : (i : ℕ) → i < length cs → satisfies (getD cs i noLiterals) x ≡ true → falsifiedFrom cs x i ≡ falsifiedFrom cs x (i + 1)
+  pub falsified-goes-on : (i : ℕ) → i < length cs → satisfies (getD cs i noLiterals) x ≡ true
+      → falsifiedFrom cs x i ≡ falsifiedFrom cs x (i + 1)
   unfolding falsifiedFrom
   falsified-goes-on i h e =
       ap (λ l. numberOf (firstFalsified (numberedFrom (suc i) l) x)) (next i h)
@@ -76,6 +85,7 @@ falsified-le [] x k = zero-le
 falsified-le (c ∷ cs) x k = by (satisfies c x) (falsified-le cs x (suc k))
   where
     by : (b : Bool) → numberOf (firstFalsified (numberedFrom (suc (suc k)) cs) x) ≤ suc k + length cs
-        → numberOf (cond b (firstFalsified (numberedFrom (suc (suc k)) cs) x) (some (record { number = suc k; clause = c }))) ≤ k + suc (length cs)
+        → numberOf (cond b (firstFalsified (numberedFrom (suc (suc k)) cs) x)
+        (some (record { number = suc k; clause = c }))) ≤ k + suc (length cs)
     by true ih = omega arith
     by false ih = omega arith

@@ -1,5 +1,5 @@
--- One step towards a satisfying point, which stable set and search share: where the flip of a point is covered by a set, the set has a
--- point that is one closer to some satisfying point. Assumes nothing.
+-- One step towards a satisfying point, which stable set and search share: where the flip of a point is covered by a
+-- set, the set has a point that is one closer to some satisfying point. Assumes nothing.
 use mathlib.Core.List.{List}
 use mathlib.Core.Path.{_≡_, ap, _∙_}
 use Prim.Native.Nat.{ℕ, suc, _<_, _^_}
@@ -29,7 +29,8 @@ pub record Nearer (n : ℕ) (Sat : ℕ → Type 0) (P : ℕ → Type 0) (p s : �
   pub one-less : suc (distance n point solution) ≡ distance n p s
 
 -- a point that falsifies a clause moves, if the flips of that clause's variables are covered
-pub clause-moves : (n : ℕ) (fs : List (ℕ → ℕ)) (P : ℕ → Type 0) (c : Clause) (p s : ℕ) → ClauseBelow n c → (Satisfies c p → ⊥) → Satisfies c s
+pub clause-moves : (n : ℕ) (fs : List (ℕ → ℕ)) (P : ℕ → Type 0) (c : Clause) (p s : ℕ) → ClauseBelow n c
+    → (Satisfies c p → ⊥) → Satisfies c s
     → ((v : ℕ) → v ∈ variables n c → CoveredBy fs P (flip p v)) → Moves n fs P p s
 clause-moves n fs P c p s b fails sat flips =
     let d = closer n c p s b fails sat in

@@ -1,5 +1,5 @@
--- A clause that one point falsifies and another satisfies lists a variable in which the two differ: to flip it brings the one closer to
--- the other. Assumes nothing.
+-- A clause that one point falsifies and another satisfies lists a variable in which the two differ: to flip it brings
+-- the one closer to the other. Assumes nothing.
 use mathlib.Core.Bool.{true, xor, _||_}
 use mathlib.Core.Logic.{⊎-elim}
 use mathlib.Core.Path.{_≡_, ap₂, _∙_}
@@ -21,11 +21,13 @@ pub record Differing (n : ℕ) (c : Clause) (x s : ℕ) : Type 0 where
 
 -- ---- a clause's variables
 
-pub variable-in : (n : ℕ) (c : Clause) (v : ℕ) → v < n → bit (c .positive) v || bit (c .negative) v ≡ true → v ∈ variables n c
+pub variable-in : (n : ℕ) (c : Clause) (v : ℕ) → v < n → bit (c .positive) v || bit (c .negative) v ≡ true
+    → v ∈ variables n c
 unfolding variables
 variable-in n c v lt h = select-in (bit (listed c)) (below-in n v lt) (bit-or (c .positive) (c .negative) v ∙ h)
 
--- ---- "A choice meets a rule if some listed name has the listed value.": there the point that falsifies it has the other value
+-- ---- "A choice meets a rule if some listed name has the listed value.": there the point that falsifies it has the
+-- other value
 
 pub closer : (n : ℕ) (c : Clause) (x s : ℕ) → ClauseBelow n c → (Satisfies c x → ⊥) → Satisfies c s → Differing n c x s
 unfolding xor

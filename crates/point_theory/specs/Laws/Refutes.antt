@@ -1,5 +1,5 @@
--- A set of points that moves towards every satisfying point, and never leaves itself, means that no point satisfies: the theorem behind
--- stable sets, over any list of maps and any notion of satisfaction. Assumes nothing.
+-- A set of points that moves towards every satisfying point, and never leaves itself, means that no point satisfies:
+-- the theorem behind stable sets, over any list of maps and any notion of satisfaction. Assumes nothing.
 use mathlib.Core.List.{List}
 use mathlib.Core.Path.{_≡_, refl, _∙_}
 use Prim.Native.Nat.{ℕ, zero, suc, _<_, _^_}
@@ -17,7 +17,8 @@ pub record ClosedSet (n : ℕ) (Sat : ℕ → Type 0) (fs : List (ℕ → ℕ)) 
   pub within : (p : ℕ) → P p → p < 2 ^ n
   pub moves : (p s : ℕ) → P p → s < 2 ^ n → Sat s → Moves n fs P p s
 
-module _ (n : ℕ) (Sat : ℕ → Type 0) (fs : List (ℕ → ℕ)) (P : ℕ → Type 0) (each : Automorphisms n Sat fs) (c : ClosedSet n Sat fs P) where
+module _ (n : ℕ) (Sat : ℕ → Type 0) (fs : List (ℕ → ℕ)) (P : ℕ → Type 0) (each : Automorphisms n Sat fs)
+    (c : ClosedSet n Sat fs P) where
   -- no point of the set is at distance k from a satisfying point: one at distance k - 1 would be
   never : (k p s : ℕ) → P p → s < 2 ^ n → Sat s → distance n p s ≡ k → ⊥
   never zero p s m hs sat e =

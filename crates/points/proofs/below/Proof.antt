@@ -1,4 +1,5 @@
--- `points::below` meets its contract: from 64 on every word is below 2 ^ n, and else the shift leaves 0 exactly where it is. Assumes nothing.
+-- `points::below` meets its contract: from 64 on every word is below 2 ^ n, and else the shift leaves 0 exactly where
+-- it is. Assumes nothing.
 use mathlib.Core.Path.{sym}
 use native.Mathlib.Nat.{lt-of-lt-of-le}
 use lib.Pow.{pow-mono}

@@ -1,4 +1,5 @@
--- Laws of the next variable of a set: one below n is the lowest, and where there is none below n the set of n has none. Assumes nothing.
+-- Laws of the next variable of a set: one below n is the lowest, and where there is none below n the set of n has none.
+-- Assumes nothing.
 use mathlib.Core.Bool.{true≢false}
 use mathlib.Core.List.{[]}
 use mathlib.Core.Path.{_≡_, sym, ap, _∙_}

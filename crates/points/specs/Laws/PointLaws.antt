@@ -11,17 +11,20 @@ use lib.Dec.{eqb}
 use borrow.Author.Tests.{ne-eqb, eqb-false, not-true}
 use Rattle.math.specs.Laws.BitLaws.{bit-and, bit-xor, bit-of-zero, some-bit, differing-bit}
 use Rattle.math.specs.Bits.{bit}
-use Rattle.math.specs.Laws.ListLaws.{count-ext, or-split, or-left, or-right, and-split, and-join, not-true-false, true-or-false, here}
+use Rattle.math.specs.Laws.ListLaws.{count-ext, or-split, or-left, or-right, and-split, and-join, not-true-false}
+use Rattle.math.specs.Laws.ListLaws.{true-or-false, here}
 use Rattle.math.specs.Lists.{_∈_, below}
 use Rattle.math.specs.Laws.SetLaws.{ones-count}
-use Rattle.points.specs.Points.{Clause, Satisfies, by-yes, by-no, satisfies, distance, Numbered, SatisfiesAll, FirstFalsified, firstFalsified}
+use Rattle.points.specs.Points.{Clause, Satisfies, by-yes, by-no, satisfies, distance, Numbered, SatisfiesAll}
+use Rattle.points.specs.Points.{FirstFalsified, firstFalsified}
 
 -- ---- distance
 
 pub ones-distance : (n x y : ℕ) → x < 2 ^ n → y < 2 ^ n → ones (bitXor x y) ≡ distance n x y
 unfolding distance
 ones-distance n x y hx hy =
-    ones-count n (bitXor x y) (xor-lt n x y hx hy) ∙ count-ext (bit (bitXor x y)) (λ i. xor (bit x i) (bit y i)) (below n) (λ i m. bit-xor x y i)
+    ones-count n (bitXor x y) (xor-lt n x y hx hy)
+    ∙ count-ext (bit (bitXor x y)) (λ i. xor (bit x i) (bit y i)) (below n) (λ i m. bit-xor x y i)
 
 -- ---- a point satisfies a clause: the computed test and the sentence agree
 
@@ -36,12 +39,14 @@ satisfies-complete c x (by-yes i p q) =
 satisfies-complete c x (by-no i p q) =
     or-right (not (eqb (bitAnd x (c .positive)) 0)) (not (eqb (bitAnd x (c .negative)) (c .negative)))
     (ap not (ne-eqb (bitAnd x (c .negative)) (c .negative)
-    (λ e. true≢false (sym p ∙ ap (λ s. bit s i) (sym e) ∙ bit-and x (c .negative) i ∙ ap (λ b. b && bit (c .negative) i) q))))
+    (λ e. true≢false (sym p ∙ ap (λ s. bit s i) (sym e) ∙ bit-and x (c .negative) i
+    ∙ ap (λ b. b && bit (c .negative) i) q))))
 
 pub satisfies-sound : (c : Clause) (x : ℕ) → satisfies c x ≡ true → Satisfies c x
 unfolding satisfies xor
 satisfies-sound c x h =
-    ⊎-elim positive negative (or-split (not (eqb (bitAnd x (c .positive)) 0)) (not (eqb (bitAnd x (c .negative)) (c .negative))) h)
+    ⊎-elim positive negative (or-split (not (eqb (bitAnd x (c .positive)) 0))
+    (not (eqb (bitAnd x (c .negative)) (c .negative))) h)
   where
     positive : not (eqb (bitAnd x (c .positive)) 0) ≡ true → Satisfies c x
     positive e =
@@ -58,8 +63,10 @@ satisfies-sound c x h =
 
     negative : not (eqb (bitAnd x (c .negative)) (c .negative)) ≡ true → Satisfies c x
     negative e =
-        let w = differing-bit (bitAnd x (c .negative)) (c .negative) (eqb-false (bitAnd x (c .negative)) (c .negative) (not-true _ e)) in
-        let m = missing (bit x (w .0)) (bit (c .negative) (w .0)) (ap (λ b. xor b (bit (c .negative) (w .0))) (sym (bit-and x (c .negative) (w .0))) ∙ w .1) in
+        let w = differing-bit (bitAnd x (c .negative)) (c .negative)
+        (eqb-false (bitAnd x (c .negative)) (c .negative) (not-true _ e)) in
+        let m = missing (bit x (w .0)) (bit (c .negative) (w .0))
+        (ap (λ b. xor b (bit (c .negative) (w .0))) (sym (bit-and x (c .negative) (w .0))) ∙ w .1) in
         by-no (w .0) (m .0) (m .1)
 
 pub falsifies : (c : Clause) (x : ℕ) → satisfies c x ≡ false → Satisfies c x → ⊥
@@ -79,30 +86,35 @@ first-complete cs x c f = ap (λ l. firstFalsified l x) (f .place) ∙ passes (f
 
     passes : (b : List Numbered) → SatisfiesAll b x → firstFalsified (b ++ c ∷ f .after) x ≡ some c
     passes [] s = unmet
-    passes (d ∷ ds) s = rw (satisfies-complete (d .clause) x (s d (here d ds))) (passes ds (λ e m. s e (List·Memᴰ·tail m)))
+    passes (d ∷ ds) s = rw (satisfies-complete (d .clause) x (s d (here d ds)))
+        (passes ds (λ e m. s e (List·Memᴰ·tail m)))
 
 pub first-none : (cs : List Numbered) (x : ℕ) → firstFalsified cs x ≡ none → SatisfiesAll cs x
 unfolding firstFalsified
 first-none [] x h c m = absurd (List·Memᴰ·not-nil m)
 first-none (d ∷ ds) x h c m = by (satisfies (d .clause) x) refl h (first-none ds x) m
   where
-    by : (b : Bool) → satisfies (d .clause) x ≡ b → cond b (firstFalsified ds x) (some d) ≡ none → (firstFalsified ds x ≡ none → SatisfiesAll ds x)
+    by : (b : Bool) → satisfies (d .clause) x ≡ b → cond b (firstFalsified ds x) (some d) ≡ none
+        → (firstFalsified ds x ≡ none → SatisfiesAll ds x)
         → c ∈ (d ∷ ds) → Satisfies (c .clause) x
-    by true e h ih (List·Memᴰ·head p) = satisfies-sound (c .clause) x (ap (λ (c : Numbered). satisfies (c .clause) x) p ∙ e)
+    by true e h ih (List·Memᴰ·head p) = satisfies-sound (c .clause) x
+        (ap (λ (c : Numbered). satisfies (c .clause) x) p ∙ e)
     by true e h ih (List·Memᴰ·tail m) = ih h c m
     by false e h ih m = absurd (Option·some-ne-none d h)
 
 pub none-first : (cs : List Numbered) (x : ℕ) → SatisfiesAll cs x → firstFalsified cs x ≡ none
 unfolding firstFalsified
 none-first [] x s = refl
-none-first (d ∷ ds) x s = rw (satisfies-complete (d .clause) x (s d (here d ds))) (none-first ds x (λ c m. s c (List·Memᴰ·tail m)))
+none-first (d ∷ ds) x s = rw (satisfies-complete (d .clause) x (s d (here d ds)))
+    (none-first ds x (λ c m. s c (List·Memᴰ·tail m)))
 
 pub first-sound : (cs : List Numbered) (x : ℕ) (c : Numbered) → firstFalsified cs x ≡ some c → FirstFalsified cs x c
 unfolding firstFalsified
 first-sound [] x c h = absurd (Option·none-ne-some c h)
 first-sound (d ∷ ds) x c h = by (satisfies (d .clause) x) refl h (first-sound ds x c)
   where
-    by : (b : Bool) → satisfies (d .clause) x ≡ b → cond b (firstFalsified ds x) (some d) ≡ some c → (firstFalsified ds x ≡ some c → FirstFalsified ds x c)
+    by : (b : Bool) → satisfies (d .clause) x ≡ b → cond b (firstFalsified ds x) (some d) ≡ some c
+        → (firstFalsified ds x ≡ some c → FirstFalsified ds x c)
         → FirstFalsified (d ∷ ds) x c
     by true e h ih =
         let f = ih h in
@@ -115,7 +127,8 @@ first-sound (d ∷ ds) x c h = by (satisfies (d .clause) x) refl h (first-sound 
         }
       where
         sooner : satisfies (d .clause) x ≡ true → {b : List Numbered} → SatisfiesAll b x → SatisfiesAll (d ∷ b) x
-        sooner e s c (List·Memᴰ·head p) = satisfies-sound (c .clause) x (ap (λ (c : Numbered). satisfies (c .clause) x) p ∙ e)
+        sooner e s c (List·Memᴰ·head p) = satisfies-sound (c .clause) x
+            (ap (λ (c : Numbered). satisfies (c .clause) x) p ∙ e)
         sooner e s c (List·Memᴰ·tail m) = s c m
     by false e h ih =
         let same : d ≡ c = Option·some-injective d c h in
@@ -127,7 +140,8 @@ first-sound (d ∷ ds) x c h = by (satisfies (d .clause) x) refl h (first-sound 
           earlier = λ c m. absurd (List·Memᴰ·not-nil m);
         }
 
--- ---- S5: "So a rule without names is met by none, one that lists a name both ways by all, and a repeated entry counts once."
+-- ---- S5: "So a rule without names is met by none, one that lists a name both ways by all, and a repeated entry counts
+-- once."
 
 pub no-names : (x : ℕ) → Satisfies (record { positive = 0; negative = 0 }) x → ⊥
 no-names x (by-yes i p q) = true≢false (sym p ∙ bit-of-zero i)

@@ -1,4 +1,5 @@
--- `program::read_sheet` meets its contract: a refusal is put, any other text is searched as its formula is. Assumes nothing.
+-- `program::read_sheet` meets its contract: a refusal is put, any other text is searched as its formula is. Assumes
+-- nothing.
 use mathlib.Core.Path.{sym, ap, _∙_}
 use Prim.Native.Nat.{ℕ}
 use native.Mathlib.Nat.{le-trans, le-of-eq}

@@ -23,16 +23,21 @@ unfolding printed blank readReply readFormula readPositive readNegative searchRe
 prints-example = refl
 
 -- P4: `s UNSATISFIABLE` and `c slots 10`
-pub prints-unsatisfiable : reportOf 3 (unsatisfiable 10) ≡ 115 ∷ 32 ∷ 85 ∷ 78 ∷ 83 ∷ 65 ∷ 84 ∷ 73 ∷ 83 ∷ 70 ∷ 73 ∷ 65 ∷ 66 ∷ 76 ∷ 69 ∷ 10 ∷ 99 ∷ 32 ∷ 115 ∷ 108 ∷ 111 ∷ 116 ∷ 115 ∷ 32 ∷ 49 ∷ 48 ∷ 10 ∷ []
+pub prints-unsatisfiable : reportOf 3 (unsatisfiable 10)
+    ≡ 115 ∷ 32 ∷ 85 ∷ 78 ∷ 83 ∷ 65 ∷ 84 ∷ 73 ∷ 83 ∷ 70 ∷ 73 ∷ 65 ∷ 66 ∷ 76 ∷ 69 ∷ 10 ∷ 99 ∷ 32 ∷ 115 ∷ 108 ∷ 111 ∷ 116
+    ∷ 115 ∷ 32 ∷ 49 ∷ 48 ∷ 10 ∷ []
 unfolding reportOf
 prints-unsatisfiable = refl
 
 -- P4: `s UNKNOWN` and `c room 8 4096`
-pub prints-unknown : reportOf 3 (unknown 8 4096) ≡ 115 ∷ 32 ∷ 85 ∷ 78 ∷ 75 ∷ 78 ∷ 79 ∷ 87 ∷ 78 ∷ 10 ∷ 99 ∷ 32 ∷ 114 ∷ 111 ∷ 111 ∷ 109 ∷ 32 ∷ 56 ∷ 32 ∷ 52 ∷ 48 ∷ 57 ∷ 54 ∷ 10 ∷ []
+pub prints-unknown : reportOf 3 (unknown 8 4096)
+    ≡ 115 ∷ 32 ∷ 85 ∷ 78 ∷ 75 ∷ 78 ∷ 79 ∷ 87 ∷ 78 ∷ 10 ∷ 99 ∷ 32 ∷ 114 ∷ 111 ∷ 111 ∷ 109 ∷ 32 ∷ 56 ∷ 32 ∷ 52 ∷ 48 ∷ 57
+    ∷ 54 ∷ 10 ∷ []
 unfolding reportOf
 prints-unknown = refl
 
 -- P4: `c refused 1 65536`
-pub prints-refusal : reportOf 0 (refused 1 65536) ≡ 99 ∷ 32 ∷ 114 ∷ 101 ∷ 102 ∷ 117 ∷ 115 ∷ 101 ∷ 100 ∷ 32 ∷ 49 ∷ 32 ∷ 54 ∷ 53 ∷ 53 ∷ 51 ∷ 54 ∷ 10 ∷ []
+pub prints-refusal : reportOf 0 (refused 1 65536)
+    ≡ 99 ∷ 32 ∷ 114 ∷ 101 ∷ 102 ∷ 117 ∷ 115 ∷ 101 ∷ 100 ∷ 32 ∷ 49 ∷ 32 ∷ 54 ∷ 53 ∷ 53 ∷ 51 ∷ 54 ∷ 10 ∷ []
 unfolding reportOf
 prints-refusal = refl

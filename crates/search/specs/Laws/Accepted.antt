@@ -1,4 +1,5 @@
--- A formula that refusals 10 to 13 let pass is ready to be searched, and the builder's reply is then that of the search. Assumes nothing.
+-- A formula that refusals 10 to 13 let pass is ready to be searched, and the builder's reply is then that of the
+-- search. Assumes nothing.
 use mathlib.Core.List.{List, [], _∷_}
 use mathlib.Core.Path.{_≡_, sym, _∙_, subst}
 use Prim.Native.Nat.{ℕ, zero, suc, _≤_, zero-le, suc-le-suc}
@@ -31,7 +32,8 @@ pub lent-few : (points falsified depths : ℕ) → capacity points falsified dep
 unfolding capacity
 lent-few points falsified depths = omega arith
 
-pub lent-enough : (k points falsified depths : ℕ) → k ≤ maxSlots → k ≤ points → k ≤ falsified → k ≤ depths → k ≤ capacity points falsified depths
+pub lent-enough : (k points falsified depths : ℕ) → k ≤ maxSlots → k ≤ points → k ≤ falsified → k ≤ depths
+    → k ≤ capacity points falsified depths
 unfolding capacity
 lent-enough k points falsified depths few a b c = omega arith
 
@@ -48,7 +50,8 @@ module _ (f : Formula) (positive negative : List ℕ) (lent : ℕ) where
   row12 = symmetryFault (numbered (clausesOf positive negative)) perms
 
   pub rows : searchFault f positive negative lent ≡ no-fault
-      → (formulaFault f positive negative ≡ no-fault) × (row11 ≡ no-fault) × (row12 ≡ no-fault) × (slotFault lent ≡ no-fault)
+      → (formulaFault f positive negative ≡ no-fault) × (row11 ≡ no-fault) × (row12 ≡ no-fault)
+      × (slotFault lent ≡ no-fault)
   unfolding searchFault
   rows h =
       let a = first-split (formulaFault f positive negative) (row11 ∷ row12 ∷ slotFault lent ∷ []) h in
@@ -66,7 +69,8 @@ module _ (f : Formula) (positive negative : List ℕ) (lent : ℕ) where
       record {
         target-below = g .1;
         clauses-below = below;
-        symmetric = λ e m. symmetry-automorphism (f .variables) e (numbered (clausesOf positive negative)) (permutation-passes (f .variables) perms (r .1) .1 e m)
+        symmetric = λ e m. symmetry-automorphism (f .variables) e (numbered (clausesOf positive negative))
+            (permutation-passes (f .variables) perms (r .1) .1 e m)
             (symmetry-passes (numbered (clausesOf positive negative)) perms (r .2) e m) below;
       }
 
@@ -74,7 +78,8 @@ module _ (f : Formula) (positive negative : List ℕ) (lent : ℕ) where
   lent-of-faults h = lent-slot lent (rows h .3)
 
   -- a reply that is no refusal is the search's
-  pub answered : (r : Reply) → searchReply f positive negative lent ≡ r → ((code place : ℕ) → r ≡ refused code place → ⊥) → WalkAnswers f positive negative lent r
+  pub answered : (r : Reply) → searchReply f positive negative lent ≡ r
+      → ((code place : ℕ) → r ≡ refused code place → ⊥) → WalkAnswers f positive negative lent r
   unfolding searchReply searchSlots
   answered r e ok =
       let pb = problemOf f positive negative in
@@ -83,6 +88,7 @@ module _ (f : Formula) (positive negative : List ℕ) (lent : ℕ) where
       record {
         ready = ready-of-faults s;
         room = room;
-        walks = subst (λ r. Walks pb lent (start pb) r (walked pb lent .slots)) (sym (unless-sound (searchFault f positive negative lent) s (walked pb lent .reply)) ∙ e)
+        walks = subst (λ r. Walks pb lent (start pb) r (walked pb lent .slots))
+            (sym (unless-sound (searchFault f positive negative lent) s (walked pb lent .reply)) ∙ e)
             (walked-walks pb lent room);
       }

@@ -1,5 +1,5 @@
--- The sentences of demand 3 about the builder's result, in terms of what a call of `search` returns and leaves in the lent slices: each
--- follows from the call's contract, the record `Searched`. Assumes nothing.
+-- The sentences of demand 3 about the builder's result, in terms of what a call of `search` returns and leaves in the
+-- lent slices: each follows from the call's contract, the record `Searched`. Assumes nothing.
 use mathlib.Core.List.{List, map}
 use mathlib.Core.Path.{_≡_, refl, sym, ap, _∙_}
 use Prim.Native.Nat.{ℕ, _≤_, _^_}
@@ -10,7 +10,8 @@ use Rattle.point_slices.specs.Slices.{pointsOf}
 use Rattle.formula.specs.declared.Formula.{Formula}
 use Rattle.formula.specs.Limits.{maxSlots}
 use Rattle.formula.specs.Problem.{problemOf, Unsatisfiable as NoneSatisfies}
-use Rattle.formula.specs.Reply.{Reply, refused, satisfiable, unsatisfiable, unknown, parsed, written, opened, accepted, no-fault}
+use Rattle.formula.specs.Reply.{Reply, refused, satisfiable, unsatisfiable, unknown, parsed, written, opened, accepted}
+use Rattle.formula.specs.Reply.{no-fault}
 use Rattle.formula.specs.Laws.ReplyLaws.{not-refused}
 use Rattle.search_theory.specs.Laws.Promised.{LowerBound, Nearest, HandedBack, ClosedSlots, reported}
 use Rattle.search_theory.specs.Walk.{Slot, walked}
@@ -19,7 +20,8 @@ use Rattle.search.specs.Search.{lentBy, searchFault, searchReply, search
 use Rattle.search.specs.Contract.{replyOfOutcome, Searched}
 use Rattle.search.specs.declared.Outcome.{Outcome}
 use Rattle.search.specs.declared.Outcome.the-variants.{Satisfiable, Unsatisfiable, Unknown, Refused}
-use Rattle.search.specs.Laws.Theorems.{slots-reported, search-nearest, search-slot, search-exactly, search-closed, search-bound, search-room-lent}
+use Rattle.search.specs.Laws.Theorems.{slots-reported, search-nearest, search-slot, search-exactly, search-closed}
+use Rattle.search.specs.Laws.Theorems.{search-bound, search-room-lent}
 
 -- ---- an outcome is known by its reply
 
@@ -50,17 +52,24 @@ pub record Left (part : Slot → ℕ) (l : List Slot) (k : ℕ) (old new : List 
   pub front : take k new ≡ map part l
   pub behind : drop k new ≡ drop k old
 
-left-of : (part : Slot → ℕ) (l : List Slot) (k : ℕ) (old new : List ℕ) → k ≡ length l → new ≡ over (map part l) old → Left part l k old new
+left-of : (part : Slot → ℕ) (l : List Slot) (k : ℕ) (old new : List ℕ) → k ≡ length l → new ≡ over (map part l) old
+    → Left part l k old new
 left-of part l k old new e h =
     let n : length (map part l) ≡ k = length-map l part ∙ sym e in
-    record { front = ap (take k) h ∙ over-front k (map part l) old n; behind = ap (drop k) h ∙ over-rest k (map part l) old n }
+    record {
+      front = ap (take k) h ∙ over-front k (map part l) old n;
+      behind = ap (drop k) h
+          ∙ over-rest k (map part l) old n;
+    }
 
-kept-slice : (part : Slot → ℕ) (f : Formula) (positive negative : List ℕ) (lent : ℕ) (old : List ℕ) → searchFault f positive negative lent ≡ no-fault
+kept-slice : (part : Slot → ℕ) (f : Formula) (positive negative : List ℕ) (lent : ℕ) (old : List ℕ)
+    → searchFault f positive negative lent ≡ no-fault
     → searchSlice part f positive negative lent old ≡ over (map part (searchSlots f positive negative lent)) old
 unfolding searchSlice
 kept-slice part f positive negative lent old h = rw h
 
-module _ (f : Formula) (positive negative points₀ falsified₀ depths₀ : List ℕ) (r : Outcome) (points₁ falsified₁ depths₁ : List ℕ)
+module _ (f : Formula) (positive negative points₀ falsified₀ depths₀ : List ℕ) (r : Outcome)
+    (points₁ falsified₁ depths₁ : List ℕ)
     (call : Searched f positive negative points₀ falsified₀ depths₀ r points₁ falsified₁ depths₁) where
   -- the number of slots lent, and the slots that the search fills
   abbrev pub lent : ℕ
@@ -84,7 +93,8 @@ module _ (f : Formula) (positive negative points₀ falsified₀ depths₀ : Lis
     clean : searchFault f positive negative lent ≡ no-fault
     unfolding searchReply
     clean =
-        not-refused (searchFault f positive negative lent) (walked (problemOf f positive negative) lent .reply) (replyOfOutcome r)
+        not-refused (searchFault f positive negative lent) (walked (problemOf f positive negative) lent .reply)
+        (replyOfOutcome r)
         (sym (call .reply)) not-refusal
 
     -- the number reported is that of the slots filled
@@ -93,11 +103,14 @@ module _ (f : Formula) (positive negative points₀ falsified₀ depths₀ : Lis
         let a = answered f positive negative lent (replyOfOutcome r) (sym (call .reply)) not-refusal in
         slots-reported (problemOf f positive negative) lent (a .ready) (a .room) (a .walks)
 
-    left : (part : Slot → ℕ) (old new : List ℕ) → new ≡ searchSlice part f positive negative lent old → Left part slotsOf (reported (replyOfOutcome r)) old new
-    left part old new e = left-of part slotsOf (reported (replyOfOutcome r)) old new outcome-reported (e ∙ kept-slice part f positive negative lent old clean)
+    left : (part : Slot → ℕ) (old new : List ℕ) → new ≡ searchSlice part f positive negative lent old
+        → Left part slotsOf (reported (replyOfOutcome r)) old new
+    left part old new e = left-of part slotsOf (reported (replyOfOutcome r)) old new outcome-reported
+        (e ∙ kept-slice part f positive negative lent old clean)
 
     -- and each slice holds its part of them
-    pub points-left : Left (λ (s : Slot). s .point) slotsOf (reported (replyOfOutcome r)) (pointsOf points₀) (pointsOf points₁)
+    pub points-left : Left (λ (s : Slot). s .point) slotsOf (reported (replyOfOutcome r)) (pointsOf points₀)
+        (pointsOf points₁)
     points-left = left (λ (s : Slot). s .point) (pointsOf points₀) (pointsOf points₁) (call .points)
 
     pub falsified-left : Left (λ (s : Slot). s .falsified) slotsOf (reported (replyOfOutcome r)) falsified₀ falsified₁
@@ -108,14 +121,16 @@ module _ (f : Formula) (positive negative points₀ falsified₀ depths₀ : Lis
 
     -- D3.3: "Unless 'no room' is said, 'cannot be met' is said exactly when none of the 2^n choices meets the rules."
     pub outcome-exactly : ((b k : ℕ) → r ≡ Unknown b k → ⊥)
-        → ((k : ℕ) → r ≡ Unsatisfiable k → NoneSatisfies (problemOf f positive negative)) × (NoneSatisfies (problemOf f positive negative) → r ≡ Unsatisfiable (length slotsOf))
+        → ((k : ℕ) → r ≡ Unsatisfiable k → NoneSatisfies (problemOf f positive negative))
+        × (NoneSatisfies (problemOf f positive negative) → r ≡ Unsatisfiable (length slotsOf))
     outcome-exactly known =
         let w = search-exactly f positive negative lent (replyOfOutcome r) (sym (call .reply)) not-refusal
         (λ b k e. known b k (same-outcome r (Unknown b k) e)) in
         (λ k e. w .0 k (ap replyOfOutcome e), λ none. same-outcome r (Unsatisfiable (length slotsOf)) (w .1 none))
 
-  -- D3.1: "A choice handed back meets the rules, and every other choice that meets them differs from the client's wish in at least as many
-  -- names." D3.2: "The reported changes are the number of names in which the one handed back differs."
+  -- D3.1: "A choice handed back meets the rules, and every other choice that meets them differs from the client's wish
+  -- in at least as many names." D3.2: "The reported changes are the number of names in which the one handed back
+  -- differs."
   pub outcome-nearest : (x d k : ℕ) → r ≡ Satisfiable x d k → Nearest (problemOf f positive negative) x d
   outcome-nearest x d k e = search-nearest f positive negative lent x d k (replied (Satisfiable x d k) e)
 
@@ -124,15 +139,19 @@ module _ (f : Formula) (positive negative points₀ falsified₀ depths₀ : Lis
   outcome-slot x d k e = search-slot f positive negative lent x d k (replied (Satisfiable x d k) e)
 
   -- the slots of an unsatisfiable formula are a stable set, as many as reported
-  pub outcome-closed : (k : ℕ) → r ≡ Unsatisfiable k → ClosedSlots (problemOf f positive negative) slotsOf × (k ≡ length slotsOf)
+  pub outcome-closed : (k : ℕ) → r ≡ Unsatisfiable k
+      → ClosedSlots (problemOf f positive negative) slotsOf × (k ≡ length slotsOf)
   outcome-closed k e = search-closed f positive negative lent k (replied (Unsatisfiable k) e)
 
-  -- D3.7: "'No room' carries a number d, and every choice that meets the rules differs from the wish in at least d names."
+  -- D3.7: "'No room' carries a number d, and every choice that meets the rules differs from the wish in at least d
+  -- names."
   pub outcome-bound : (b k : ℕ) → r ≡ Unknown b k → LowerBound (problemOf f positive negative) b
   outcome-bound b k e = search-bound f positive negative lent b k (replied (Unknown b k) e)
 
   -- D3.8: "Where 2^n is at most 65,536 and at least 2^n slots are lent, it is never said."
-  pub outcome-room : 2 ^ f .variables ≤ maxSlots → 2 ^ f .variables ≤ length (pointsOf points₀) → 2 ^ f .variables ≤ length falsified₀ → 2 ^ f .variables ≤ length depths₀
+  pub outcome-room : 2 ^ f .variables ≤ maxSlots → 2 ^ f .variables ≤ length (pointsOf points₀)
+      → 2 ^ f .variables ≤ length falsified₀ → 2 ^ f .variables ≤ length depths₀
       → (b k : ℕ) → r ≡ Unknown b k → ⊥
   unfolding problemOf
-  outcome-room few p n d b k e = search-room-lent f positive negative points₀ falsified₀ depths₀ few p n d b k (replied (Unknown b k) e)
+  outcome-room few p n d b k e = search-room-lent f positive negative points₀ falsified₀ depths₀ few p n d b k
+      (replied (Unknown b k) e)

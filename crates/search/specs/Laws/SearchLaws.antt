@@ -36,27 +36,38 @@ use Rattle.search_theory.specs.Laws.WalkLaws.{walks-walked}
 abbrev pub frameOf : Formula → ℕ → Frame
 frameOf f lent = record { variables = f .variables; permutations = f .permutations; room = lent; target = f .target }
 
-pub lent-room : (points falsified depths : List ℕ) → Lends (lentBy points falsified depths) (memory points falsified depths)
+pub lent-room : (points falsified depths : List ℕ)
+    → Lends (lentBy points falsified depths) (memory points falsified depths)
 unfolding capacity
-lent-room points falsified depths = record { points-room = omega arith; falsified-room = omega arith; depths-room = omega arith }
+lent-room points falsified depths = record {
+  points-room = omega arith;
+  falsified-room = omega arith;
+  depths-room =
+      omega arith;
+}
 
 module _ (f : Formula) (positive negative : List ℕ) where
   -- N4: rows 10 to 12, and then row 13
   abbrev tests : List Fault
   tests =
-      formulaFault f positive negative ∷ permutationFault (f .variables) (permutationsIn (f .variables) (f .permutations) (f .images))
-      ∷ symmetryFault (numbered (clausesOf positive negative)) (permutationsIn (f .variables) (f .permutations) (f .images)) ∷ []
+      formulaFault f positive negative
+      ∷ permutationFault (f .variables) (permutationsIn (f .variables) (f .permutations) (f .images))
+      ∷ symmetryFault (numbered (clausesOf positive negative))
+      (permutationsIn (f .variables) (f .permutations) (f .images)) ∷ []
 
-  fault-refused : (lent code place : ℕ) → problemFault f positive negative ≡ fault code place → searchFault f positive negative lent ≡ fault code place
+  fault-refused : (lent code place : ℕ) → problemFault f positive negative ≡ fault code place
+      → searchFault f positive negative lent ≡ fault code place
   unfolding searchFault problemFault problemOf
   fault-refused lent code place h = first-before tests (slotFault lent ∷ []) code place h
 
-  fault-passed : (lent : ℕ) → problemFault f positive negative ≡ no-fault → searchFault f positive negative lent ≡ slotFault lent
+  fault-passed : (lent : ℕ) → problemFault f positive negative ≡ no-fault
+      → searchFault f positive negative lent ≡ slotFault lent
   unfolding searchFault problemFault problemOf
   fault-passed lent h = first-after tests (slotFault lent ∷ []) h ∙ first-last (slotFault lent)
 
   -- the rows 10 to 12 passed, and a slot lent
-  fault-none : (lent : ℕ) → problemFault f positive negative ≡ no-fault → (lent ≡ 0 → ⊥) → searchFault f positive negative lent ≡ no-fault
+  fault-none : (lent : ℕ) → problemFault f positive negative ≡ no-fault → (lent ≡ 0 → ⊥)
+      → searchFault f positive negative lent ≡ no-fault
   unfolding slotFault
   fault-none lent h ne = fault-passed lent h ∙ by lent ne
     where
@@ -65,7 +76,8 @@ module _ (f : Formula) (positive negative : List ℕ) where
       by (suc k) ne = refl
 
   -- the problem of the frame is the formula's, once refusal 10 has passed
-  framed-is : (lent : ℕ) → formulaFault f positive negative ≡ no-fault → framed (frameOf f lent) (f .images) positive negative ≡ problemOf f positive negative
+  framed-is : (lent : ℕ) → formulaFault f positive negative ≡ no-fault
+      → framed (frameOf f lent) (f .images) positive negative ≡ problemOf f positive negative
   unfolding problemOf
   framed-is lent h =
       ap (λ t. record {
@@ -77,11 +89,14 @@ module _ (f : Formula) (positive negative : List ℕ) where
       }) (formula-passes f positive negative h .0 .positive-length)
 
   -- where no row refuses, the reply and each slice are those of the walk
-  reply-of : (lent : ℕ) (r : Reply) → searchFault f positive negative lent ≡ no-fault → walked (problemOf f positive negative) lent .reply ≡ r → r ≡ searchReply f positive negative lent
+  reply-of : (lent : ℕ) (r : Reply) → searchFault f positive negative lent ≡ no-fault
+      → walked (problemOf f positive negative) lent .reply ≡ r → r ≡ searchReply f positive negative lent
   unfolding searchReply
-  reply-of lent r h e = sym (unless-sound (searchFault f positive negative lent) h (walked (problemOf f positive negative) lent .reply) ∙ e)
+  reply-of lent r h e = sym (unless-sound (searchFault f positive negative lent) h
+      (walked (problemOf f positive negative) lent .reply) ∙ e)
 
-  slice-of : (part : Slot → ℕ) (lent : ℕ) (l : List Slot) (old now : List ℕ) → searchFault f positive negative lent ≡ no-fault → walked (problemOf f positive negative) lent .slots ≡ l
+  slice-of : (part : Slot → ℕ) (lent : ℕ) (l : List Slot) (old now : List ℕ)
+      → searchFault f positive negative lent ≡ no-fault → walked (problemOf f positive negative) lent .slots ≡ l
       → now ≡ over (map part l) old → now ≡ searchSlice part f positive negative lent old
   unfolding searchSlice searchSlots
   slice-of part lent l old now h e q = q ∙ ap (λ u. over (map part u) old) (sym e) ∙ rw h refl
@@ -98,7 +113,8 @@ module _ (f : Formula) (positive negative : List ℕ) where
 
     module _ (checked : Checked) (tested : faultOf checked ≡ problemFault f positive negative) where
       -- refusals 10 to 12
-      pub searched-faulty : (code place : ℕ) → checked ≡ Faulty code place → Searched f positive negative points falsified depths (Refused code place) points falsified depths
+      pub searched-faulty : (code place : ℕ) → checked ≡ Faulty code place
+          → Searched f positive negative points falsified depths (Refused code place) points falsified depths
       searched-faulty code place e = refused-by code place (fault-refused lent code place (sym tested ∙ ap faultOf e))
 
       module _ (passed : checked ≡ Passed) (k : ℕ) (room : k ≡ lentBy points falsified depths) where
@@ -106,7 +122,8 @@ module _ (f : Formula) (positive negative : List ℕ) where
         none = sym tested ∙ ap faultOf passed
 
         -- R13
-        pub searched-none-lent : k ≡ 0 → Searched f positive negative points falsified depths (Refused 13 0) points falsified depths
+        pub searched-none-lent : k ≡ 0
+            → Searched f positive negative points falsified depths (Refused 13 0) points falsified depths
         unfolding slotFault
         searched-none-lent z = refused-by 13 0 (fault-passed lent none ∙ ap slotFault (sym room ∙ z))
 
@@ -125,29 +142,44 @@ module _ (f : Formula) (positive negative : List ℕ) where
                     record {
                       few = fits .few-variables;
                       listed = formula-listed f positive negative (r .0) (r .1) size;
-                      proper = permutation-passes (f .variables) (permutationsIn (f .variables) (f .permutations) (f .images)) (r .1) .1;
+                      proper = permutation-passes (f .variables)
+                          (permutationsIn (f .variables) (f .permutations) (f .images)) (r .1) .1;
                     };
-                clauses = le-trans (clauses-le positive negative) (le-trans (le-of-eq (fits .positive-length)) (fits .few-clauses));
+                clauses = le-trans (clauses-le positive negative)
+                    (le-trans (le-of-eq (fits .positive-length)) (fits .few-clauses));
                 ready = subst Ready (sym (framed-is k (r .0))) (ready-of-faults f positive negative k clean);
                 some = lent-of-faults f positive negative k clean;
-                most = le-trans (le-of-eq room) (lent-few (length (pointsOf points)) (length falsified) (length depths));
+                most = le-trans (le-of-eq room) (lent-few (length (pointsOf points)) (length falsified)
+                    (length depths));
               }
 
           -- what `start` requires
-          pub startable-of : length (f .images) ≡ 1024 → Searchable (frameOf f k) (f .images) positive negative × Lends k (memory points falsified depths)
-          startable-of size = (searchable-of size, subst (λ j. Lends j (memory points falsified depths)) (sym room) (lent-room points falsified depths))
+          pub startable-of : length (f .images) ≡ 1024
+              → Searchable (frameOf f k) (f .images) positive negative × Lends k (memory points falsified depths)
+          startable-of size = (
+            searchable-of size,
+            subst (λ j. Lends j (memory points falsified depths)) (sym room)
+                (lent-room points falsified depths),
+          )
 
           pub searched-of : (q : Reply) (r : Outcome) (m : Memory) → replyOfOutcome r ≡ q
-              → Ended (framed (frameOf f k) (f .images) positive negative) k (memory points falsified depths) [] (slot (f .target) 0 0 ∷ []) q m
+              → Ended (framed (frameOf f k) (f .images) positive negative) k (memory points falsified depths) []
+              (slot (f .target) 0 0 ∷ []) q m
               → Searched f positive negative points falsified depths r (m .points) (m .falsified) (m .depths)
           searched-of q r m same e =
               let passed-here = subst (λ j. searchFault f positive negative j ≡ no-fault) room clean in
-              let in-problem = subst (λ pb. Walks pb k (start pb) q (e .slots)) (framed-is k (rows f positive negative k clean .0)) (e .walks) in
-              let in-room = subst (λ j. Walks (problemOf f positive negative) j (start (problemOf f positive negative)) q (e .slots)) room in-problem in
-              let w = walks-walked (problemOf f positive negative) lent (lent-of-faults f positive negative lent passed-here) in-room in
+              let in-problem = subst (λ pb. Walks pb k (start pb) q (e .slots))
+              (framed-is k (rows f positive negative k clean .0)) (e .walks) in
+              let in-room = subst (λ j. Walks (problemOf f positive negative) j (start (problemOf f positive negative))
+              q (e .slots)) room in-problem in
+              let w = walks-walked (problemOf f positive negative) lent
+              (lent-of-faults f positive negative lent passed-here) in-room in
               record {
                 reply = same ∙ reply-of lent q passed-here (w .0);
-                points = slice-of (λ (s : Slot). s .point) lent (e .slots) (pointsOf points) (m .points) passed-here (w .1) (e .holds .points-held);
-                falsified = slice-of (λ (s : Slot). s .falsified) lent (e .slots) falsified (m .falsified) passed-here (w .1) (e .holds .falsified-held);
-                depths = slice-of (λ (s : Slot). s .depth) lent (e .slots) depths (m .depths) passed-here (w .1) (e .holds .depths-held);
+                points = slice-of (λ (s : Slot). s .point) lent (e .slots) (pointsOf points) (m .points) passed-here
+                    (w .1) (e .holds .points-held);
+                falsified = slice-of (λ (s : Slot). s .falsified) lent (e .slots) falsified (m .falsified) passed-here
+                    (w .1) (e .holds .falsified-held);
+                depths = slice-of (λ (s : Slot). s .depth) lent (e .slots) depths (m .depths) passed-here (w .1)
+                    (e .holds .depths-held);
               }

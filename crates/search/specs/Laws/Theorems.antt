@@ -1,5 +1,5 @@
--- What is promised of the search, a line each: first of the slots, for any problem and however it ends; then of the builder's reply to a
--- formula by value. Assumes nothing.
+-- What is promised of the search, a line each: first of the slots, for any problem and however it ends; then of the
+-- builder's reply to a formula by value. Assumes nothing.
 use mathlib.Core.List.{List}
 use mathlib.Core.Path.{_≡_, refl}
 use Prim.Native.Nat.{ℕ, _≤_, _<_, _^_}
@@ -31,7 +31,8 @@ use Rattle.search_theory.specs.Walk.{Slot, pointsIn, start, Walks}
 
 -- ---- the slots l that a search leaves, whatever it answers
 
-module _ (pb : Problem) (capacity : ℕ) (ready : Ready pb) (room : 1 ≤ capacity) {r : Reply} {l : List Slot} (t : Walks pb capacity (start pb) r l) where
+module _ (pb : Problem) (capacity : ℕ) (ready : Ready pb) (room : 1 ≤ capacity) {r : Reply} {l : List Slot}
+    (t : Walks pb capacity (start pb) r l) where
   filled : Filled pb capacity l
   filled = ended-filled pb capacity (search-ends pb capacity ready room t)
 
@@ -72,7 +73,8 @@ module _ (pb : Problem) (capacity : ℕ) (ready : Ready pb) (room : 1 ≤ capaci
 
   -- each slot but the first was filled from an earlier one: by a flip of a variable of that one's clause, one deeper
   pub parents : (i : ℕ) → i < length l → 1 ≤ i → (j : ℕ) × (j < i) × Parent pb (slotAt l j) (slotAt l i)
-  parents i lt one = let c = ended-family pb capacity (search-ends pb capacity ready room t) .1 i lt one in (c .index, c .earlier, c .parent)
+  parents i lt one = let c = ended-family pb capacity (search-ends pb capacity ready room t) .1 i lt one in
+      (c .index, c .earlier, c .parent)
 
 -- ---- the builder's reply
 
@@ -83,58 +85,85 @@ module _ (f : Formula) (positive negative : List ℕ) (lent : ℕ) where
   abbrev slots : List Slot
   slots = searchSlots f positive negative lent
 
-  satisfiable-answered : (x d k : ℕ) → searchReply f positive negative lent ≡ satisfiable x d k → WalkAnswers f positive negative lent (satisfiable x d k)
-  satisfiable-answered x d k e = answered f positive negative lent (satisfiable x d k) e (λ code place p. let z : _≡_ {A = ℕ} 0 1 = cc in omega arith)
+  satisfiable-answered : (x d k : ℕ) → searchReply f positive negative lent ≡ satisfiable x d k
+      → WalkAnswers f positive negative lent (satisfiable x d k)
+  satisfiable-answered x d k e = answered f positive negative lent (satisfiable x d k) e
+      (λ code place p. let z : _≡_ {A = ℕ} 0 1 = cc in omega arith)
 
-  unsatisfiable-answered : (k : ℕ) → searchReply f positive negative lent ≡ unsatisfiable k → WalkAnswers f positive negative lent (unsatisfiable k)
-  unsatisfiable-answered k e = answered f positive negative lent (unsatisfiable k) e (λ code place p. let z : _≡_ {A = ℕ} 0 1 = cc in omega arith)
+  unsatisfiable-answered : (k : ℕ) → searchReply f positive negative lent ≡ unsatisfiable k
+      → WalkAnswers f positive negative lent (unsatisfiable k)
+  unsatisfiable-answered k e = answered f positive negative lent (unsatisfiable k) e
+      (λ code place p. let z : _≡_ {A = ℕ} 0 1 = cc in omega arith)
 
-  unknown-answered : (b k : ℕ) → searchReply f positive negative lent ≡ unknown b k → WalkAnswers f positive negative lent (unknown b k)
-  unknown-answered b k e = answered f positive negative lent (unknown b k) e (λ code place p. let z : _≡_ {A = ℕ} 0 1 = cc in omega arith)
+  unknown-answered : (b k : ℕ) → searchReply f positive negative lent ≡ unknown b k
+      → WalkAnswers f positive negative lent (unknown b k)
+  unknown-answered b k e = answered f positive negative lent (unknown b k) e
+      (λ code place p. let z : _≡_ {A = ℕ} 0 1 = cc in omega arith)
 
-  -- D3.1: "A choice handed back meets the rules, and every other choice that meets them differs from the client's wish in at least as many names."
+  -- D3.1: "A choice handed back meets the rules, and every other choice that meets them differs from the client's wish
+  -- in at least as many names."
   -- D3.2: "The reported changes are the number of names in which the one handed back differs."
-  pub search-nearest : (x d k : ℕ) → searchReply f positive negative lent ≡ satisfiable x d k → Nearest (problemOf f positive negative) x d
+  pub search-nearest : (x d k : ℕ) → searchReply f positive negative lent ≡ satisfiable x d k
+      → Nearest (problemOf f positive negative) x d
   search-nearest x d k e = let a = satisfiable-answered x d k e in found-nearest pb lent (a .ready) (a .room) (a .walks)
 
   -- the depth of its slot equals its distance
-  pub search-slot : (x d k : ℕ) → searchReply f positive negative lent ≡ satisfiable x d k → HandedBack (searchSlots f positive negative lent) x d
+  pub search-slot : (x d k : ℕ) → searchReply f positive negative lent ≡ satisfiable x d k
+      → HandedBack (searchSlots f positive negative lent) x d
   search-slot x d k e = let a = satisfiable-answered x d k e in found-slot pb lent (a .ready) (a .room) (a .walks)
 
   -- D3.3: "Unless 'no room' is said, 'cannot be met' is said exactly when none of the 2^n choices meets the rules."
-  pub search-exactly : (r : Reply) → searchReply f positive negative lent ≡ r → ((code place : ℕ) → r ≡ refused code place → ⊥) → ((b k : ℕ) → r ≡ unknown b k → ⊥)
+  pub search-exactly : (r : Reply) → searchReply f positive negative lent ≡ r
+      → ((code place : ℕ) → r ≡ refused code place → ⊥) → ((b k : ℕ) → r ≡ unknown b k → ⊥)
       → ((k : ℕ) → r ≡ unsatisfiable k → Unsatisfiable (problemOf f positive negative))
-      × (Unsatisfiable (problemOf f positive negative) → r ≡ unsatisfiable (length (searchSlots f positive negative lent)))
+      × (Unsatisfiable (problemOf f positive negative)
+      → r ≡ unsatisfiable (length (searchSlots f positive negative lent)))
   search-exactly r e ok known =
-      let a = answered f positive negative lent r e ok in unsatisfiable-exactly pb lent (a .ready) (a .room) (a .walks) known
+      let a = answered f positive negative lent r e ok in unsatisfiable-exactly pb lent (a .ready) (a .room) (a .walks)
+      known
 
-  pub search-refutes : (k : ℕ) → searchReply f positive negative lent ≡ unsatisfiable k → Unsatisfiable (problemOf f positive negative)
+  pub search-refutes : (k : ℕ) → searchReply f positive negative lent ≡ unsatisfiable k
+      → Unsatisfiable (problemOf f positive negative)
   search-refutes k e = let a = unsatisfiable-answered k e in refuted pb lent (a .ready) (a .room) (a .walks)
 
   -- the slots are then a stable set, and as many as reported
   pub search-closed : (k : ℕ) → searchReply f positive negative lent ≡ unsatisfiable k
-      → ClosedSlots (problemOf f positive negative) (searchSlots f positive negative lent) × (k ≡ length (searchSlots f positive negative lent))
+      → ClosedSlots (problemOf f positive negative) (searchSlots f positive negative lent)
+      × (k ≡ length (searchSlots f positive negative lent))
   search-closed k e =
-      let a = unsatisfiable-answered k e in (refuted-closed pb lent (a .ready) (a .room) (a .walks), slots-reported pb lent (a .ready) (a .room) (a .walks))
+      let a = unsatisfiable-answered k e in (
+        refuted-closed pb lent (a .ready) (a .room) (a .walks),
+        slots-reported pb
+            lent (a .ready) (a .room) (a .walks),
+      )
 
-  -- D3.7: "'No room' carries a number d, and every choice that meets the rules differs from the wish in at least d names."
-  pub search-bound : (b k : ℕ) → searchReply f positive negative lent ≡ unknown b k → LowerBound (problemOf f positive negative) b
+  -- D3.7: "'No room' carries a number d, and every choice that meets the rules differs from the wish in at least d
+  -- names."
+  pub search-bound : (b k : ℕ) → searchReply f positive negative lent ≡ unknown b k
+      → LowerBound (problemOf f positive negative) b
   search-bound b k e = let a = unknown-answered b k e in unknown-bound pb lent (a .ready) (a .room) (a .walks)
 
   -- with a slot for each of the 2 ^ n points it is never said
-  pub search-room : 2 ^ (problemOf f positive negative .variables) ≤ lent → (b k : ℕ) → searchReply f positive negative lent ≡ unknown b k → ⊥
-  search-room large b k e = let a = unknown-answered b k e in never-unknown pb lent (a .ready) (a .room) large (a .walks) b k refl
+  pub search-room : 2 ^ (problemOf f positive negative .variables) ≤ lent → (b k : ℕ)
+      → searchReply f positive negative lent ≡ unknown b k → ⊥
+  search-room large b k e = let a = unknown-answered b k e in never-unknown pb lent (a .ready) (a .room) large
+      (a .walks) b k refl
 
--- D3.8: "Where 2^n is at most 65,536 and at least 2^n slots are lent, it is never said.": in each of the three lent slices
-pub search-room-lent : (f : Formula) (positive negative points falsified depths : List ℕ) → 2 ^ (problemOf f positive negative .variables) ≤ maxSlots
-    → 2 ^ (problemOf f positive negative .variables) ≤ length (pointsOf points) → 2 ^ (problemOf f positive negative .variables) ≤ length falsified
-    → 2 ^ (problemOf f positive negative .variables) ≤ length depths → (b k : ℕ) → searchReply f positive negative (lentBy points falsified depths) ≡ unknown b k → ⊥
+-- D3.8: "Where 2^n is at most 65,536 and at least 2^n slots are lent, it is never said.": in each of the three lent
+-- slices
+pub search-room-lent : (f : Formula) (positive negative points falsified depths : List ℕ)
+    → 2 ^ (problemOf f positive negative .variables) ≤ maxSlots
+    → 2 ^ (problemOf f positive negative .variables) ≤ length (pointsOf points)
+    → 2 ^ (problemOf f positive negative .variables) ≤ length falsified
+    → 2 ^ (problemOf f positive negative .variables) ≤ length depths → (b k : ℕ)
+    → searchReply f positive negative (lentBy points falsified depths) ≡ unknown b k → ⊥
 search-room-lent f positive negative points falsified depths few a b c =
     search-room f positive negative (lentBy points falsified depths)
-    (lent-enough (2 ^ (problemOf f positive negative .variables)) (length (pointsOf points)) (length falsified) (length depths) few a b c)
+    (lent-enough (2 ^ (problemOf f positive negative .variables)) (length (pointsOf points)) (length falsified)
+    (length depths) few a b c)
 
--- "the reader makes unused bytes 0 and nothing else reads them": the reply and the slots depend on n, C, the target and the listed
--- permutations alone
+-- "the reader makes unused bytes 0 and nothing else reads them": the reply and the slots depend on n, C, the target and
+-- the listed permutations alone
 module _ (f g : Formula) (positive negative : List ℕ) (lent : ℕ) (a : Alike f g) where
   pub search-same-reply : searchReply f positive negative lent ≡ searchReply g positive negative lent
   search-same-reply = same-reply f g positive negative lent (same-problem f g positive negative a)
@@ -142,5 +171,6 @@ module _ (f g : Formula) (positive negative : List ℕ) (lent : ℕ) (a : Alike 
   pub search-same-slots : searchSlots f positive negative lent ≡ searchSlots g positive negative lent
   search-same-slots = same-slots f g positive negative lent (same-problem f g positive negative a)
 
-  pub search-same-slice : (part : Slot → ℕ) (old : List ℕ) → searchSlice part f positive negative lent old ≡ searchSlice part g positive negative lent old
+  pub search-same-slice : (part : Slot → ℕ) (old : List ℕ)
+      → searchSlice part f positive negative lent old ≡ searchSlice part g positive negative lent old
   search-same-slice = same-slice f g positive negative lent (same-problem f g positive negative a)

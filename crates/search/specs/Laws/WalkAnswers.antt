@@ -12,4 +12,5 @@ use Rattle.search.specs.Search.{searchSlots}
 pub record WalkAnswers (f : Formula) (positive negative : List ℕ) (lent : ℕ) (r : Reply) : Type 0 where
   pub ready : Ready (problemOf f positive negative)
   pub room : 1 ≤ lent
-  pub walks : Walks (problemOf f positive negative) lent (start (problemOf f positive negative)) r (searchSlots f positive negative lent)
+  pub walks : Walks (problemOf f positive negative) lent (start (problemOf f positive negative)) r
+      (searchSlots f positive negative lent)

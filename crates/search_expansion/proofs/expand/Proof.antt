@@ -8,7 +8,8 @@ use Rattle.math.specs.Bits.{members}
 use Rattle.permutation_theory.specs.Permutations.{permutationsIn}
 use Rattle.search_expansion.specs.Laws.Trying.{Trying}
 use Rattle.search_expansion.specs.Laws.Memory.{memory}
-use Rattle.search_expansion.specs.Laws.TryingLaws.{trying-begins, trying-fillable, trying-headed, trying-less, trying-goes-on, trying-stops, trying-ends}
+use Rattle.search_expansion.specs.Laws.TryingLaws.{trying-begins, trying-fillable, trying-headed, trying-less}
+use Rattle.search_expansion.specs.Laws.TryingLaws.{trying-goes-on, trying-stops, trying-ends}
 use borrow.Author.Needs.{needs}
 use Rattle.search_expansion.proofs.expand.Statement.{statement}
 use Rattle.search_expansion.proofs.expand.Tie as tie

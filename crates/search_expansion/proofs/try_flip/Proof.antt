@@ -3,7 +3,8 @@ use mathlib.Core.Path.{sym, ap, _∙_}
 use native.Mathlib.Nat.{lt-of-lt-of-le}
 use borrow.Author.Needs.{needs}
 use Rattle.permutation_theory.specs.Permutations.{covered}
-use Rattle.search_expansion.specs.Laws.FillingLaws.{flip-covered, flip-full, flip-filled, follows-same, follows-added, fillable-addable}
+use Rattle.search_expansion.specs.Laws.FillingLaws.{flip-covered, flip-full, flip-filled, follows-same}
+use Rattle.search_expansion.specs.Laws.FillingLaws.{follows-added, fillable-addable}
 use Rattle.search_expansion.proofs.try_flip.Statement.{statement}
 use Rattle.search_expansion.proofs.try_flip.Tie as tie
 

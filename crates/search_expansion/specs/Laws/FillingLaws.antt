@@ -1,4 +1,5 @@
--- Laws of filling flips: it begins, one flip is covered, fills a slot or finds no room, and such steps follow one another. Assumes nothing.
+-- Laws of filling flips: it begins, one flip is covered, fills a slot or finds no room, and such steps follow one
+-- another. Assumes nothing.
 use mathlib.Core.Bool.{Bool, true, false, true≢false}
 use mathlib.Core.List.{List, [], _∷_, _++_, map, append-assoc}
 use mathlib.Core.Path.{_≡_, refl, sym, ap, _∙_, subst}
@@ -22,7 +23,8 @@ use Rattle.point_index.specs.Laws.IndexLaws.{index-stored}
 use Rattle.point_index.specs.Laws.Looking.{Addable, Adds}
 use Rattle.search_expansion.specs.Laws.Filling.{Fillable, Headed, Follows, Reaches, Advances}
 use Rattle.search_expansion.specs.Laws.Memory.{Memory, Holds, Lends, SameLengths, Stored}
-use Rattle.search_theory.specs.Walk.{Slot, slot, pointsIn, Expansion, complete, full, Fills, no-more, skipped, filled-next, no-room}
+use Rattle.search_theory.specs.Walk.{Slot, slot, pointsIn, Expansion, complete, full, Fills, no-more, skipped}
+use Rattle.search_theory.specs.Walk.{filled-next, no-room}
 
 -- ---- the memory
 
@@ -47,21 +49,36 @@ lends-still a b =
 
 -- fewer slots have room too
 pub lends-fewer : {j filled : ℕ} {m : Memory} → j ≤ filled → Lends filled m → Lends j m
-lends-fewer le r = record { points-room = le-trans le (r .points-room); falsified-room = le-trans le (r .falsified-room); depths-room = le-trans le (r .depths-room) }
+lends-fewer le r = record {
+  points-room = le-trans le (r .points-room);
+  falsified-room = le-trans le
+      (r .falsified-room);
+  depths-room = le-trans le (r .depths-room);
+}
 
 -- the points of the slots are the first of the slice
-pub held-points : {old : Memory} {l : List Slot} {m : Memory} (filled : ℕ) → Holds old l m → length l ≡ filled → take filled (m .points) ≡ pointsIn l
-held-points {old} {l} filled h e = ap (take filled) (h .points-held) ∙ over-front filled (pointsIn l) (old .points) (length-map l (λ (s : Slot). s .point) ∙ e)
+pub held-points : {old : Memory} {l : List Slot} {m : Memory} (filled : ℕ) → Holds old l m → length l ≡ filled
+    → take filled (m .points) ≡ pointsIn l
+held-points {old} {l} filled h e = ap (take filled) (h .points-held)
+    ∙ over-front filled (pointsIn l) (old .points) (length-map l (λ (s : Slot). s .point) ∙ e)
 
 -- one of the slices has the same length before and after, and so room for a slot more
-slice-room : (part : Slot → ℕ) (l : List Slot) (old now : List ℕ) (filled : ℕ) → now ≡ over (map part l) old → length l ≡ filled → filled < length now → filled < length old
+slice-room : (part : Slot → ℕ) (l : List Slot) (old now : List ℕ) (filled : ℕ) → now ≡ over (map part l) old
+    → length l ≡ filled → filled < length now → filled < length old
 unfolding over
 slice-room part l old now filled e n lt =
     let m = length-map l part in
-    omega (arith, ap length e, length-append (map part l) (drop (length (map part l)) old), length-drop (length (map part l)) old)
+    omega (
+      arith,
+      ap length e,
+      length-append (map part l) (drop (length (map part l)) old),
+      length-drop
+          (length (map part l)) old,
+    )
 
 -- one of the slices, with a slot more
-slice-more : (part : Slot → ℕ) (l : List Slot) (s : Slot) (old now : List ℕ) (filled : ℕ) → now ≡ over (map part l) old → length l ≡ filled → filled < length now
+slice-more : (part : Slot → ℕ) (l : List Slot) (s : Slot) (old now : List ℕ) (filled : ℕ) → now ≡ over (map part l) old
+    → length l ≡ filled → filled < length now
     → set now filled (part s) ≡ over (map part (l ++ s ∷ [])) old
 slice-more part l s old now filled e n lt =
     ap (λ xs. set xs filled (part s)) e
@@ -69,19 +86,31 @@ slice-more part l s old now filled e n lt =
     ∙ ap (λ xs. over xs old) (sym (map-append part l (s ∷ [])))
 
 -- a slot stored behind those held is held too
-pub held-more : {old : Memory} {l : List Slot} {m m′ : Memory} {s : Slot} (filled : ℕ) → Holds old l m → length l ≡ filled → Lends (suc filled) m → Stored m filled s m′
+pub held-more : {old : Memory} {l : List Slot} {m m′ : Memory} {s : Slot} (filled : ℕ) → Holds old l m
+    → length l ≡ filled → Lends (suc filled) m → Stored m filled s m′
     → Holds old (l ++ s ∷ []) m′
 held-more {old} {l} {m} {s = s} filled h n room st =
     record {
-      points-held = st .points-stored ∙ slice-more (λ (s : Slot). s .point) l s (old .points) (m .points) filled (h .points-held) n (room .points-room);
-      falsified-held = st .falsified-stored ∙ slice-more (λ (s : Slot). s .falsified) l s (old .falsified) (m .falsified) filled (h .falsified-held) n (room .falsified-room);
-      depths-held = st .depths-stored ∙ slice-more (λ (s : Slot). s .depth) l s (old .depths) (m .depths) filled (h .depths-held) n (room .depths-room);
+      points-held = st .points-stored
+          ∙ slice-more (λ (s : Slot). s .point) l s (old .points) (m .points) filled (h .points-held) n
+          (room .points-room);
+      falsified-held = st .falsified-stored
+          ∙ slice-more (λ (s : Slot). s .falsified) l s (old .falsified) (m .falsified) filled (h .falsified-held) n
+          (room .falsified-room);
+      depths-held = st .depths-stored
+          ∙ slice-more (λ (s : Slot). s .depth) l s (old .depths) (m .depths) filled (h .depths-held) n
+          (room .depths-room);
     }
 
 -- the first slot stored, nothing is held but it
 pub held-first : {m m′ : Memory} {s : Slot} → Lends 1 m → Stored m 0 s m′ → Holds m (s ∷ []) m′
 held-first {m} room st =
-    held-more {l = []} 0 (record { points-held = sym (over-none (m .points)); falsified-held = sym (over-none (m .falsified)); depths-held = sym (over-none (m .depths)) }) refl room st
+    held-more {l = []} 0 (record {
+      points-held = sym (over-none (m .points));
+      falsified-held = sym
+          (over-none (m .falsified));
+      depths-held = sym (over-none (m .depths));
+    }) refl room st
 
 -- ---- the index
 
@@ -96,25 +125,35 @@ module _ (heads n filled : ℕ) (points links : List ℕ) where
   follows-same t = record { indexed = t; one = omega arith }
 
   -- a point that is not covered, added to the links and stored behind the points
-  pub follows-added : (es : List Permutation) (y : ℕ) → covered es (take filled points) y ≡ false → filled < length points → (held : Bool) (points′ links′ : List ℕ)
-      → Adds heads n (take filled points) links y held links′ → points′ ≡ set points filled y → Follows heads n filled (filled + 1) points′ links′
+  pub follows-added : (es : List Permutation) (y : ℕ) → covered es (take filled points) y ≡ false
+      → filled < length points → (held : Bool) (points′ links′ : List ℕ)
+      → Adds heads n (take filled points) links y held links′ → points′ ≡ set points filled y
+      → Follows heads n filled (filled + 1) points′ links′
   follows-added es y new lt held points′ links′ a stored =
       record {
         indexed = subst (λ (l : List ℕ). Indexed heads n (take (filled + 1) l) links′) (sym stored)
-            (index-stored heads n filled points links′ y lt (a .grown (a .tells ∙ uncovered-new es (take filled points) y new)));
+            (index-stored heads n filled points links′ y lt
+            (a .grown (a .tells ∙ uncovered-new es (take filled points) y new)));
         one = omega arith;
       }
 
 -- what lets the flip be added: a slot that there is has a head
-pub fillable-addable : {n count : ℕ} {images moved : List ℕ} {capacity x d filled heads : ℕ} {links : List ℕ} {m : Memory} → Fillable n count images moved capacity x d filled heads links m
-    → Headed (filled + 1) capacity heads → filled < capacity → (v y : ℕ) → v < n → y ≡ flip x v → Addable heads n filled (m .points) links y
+pub fillable-addable : {n count : ℕ} {images moved : List ℕ} {capacity x d filled heads : ℕ} {links : List ℕ}
+    {m : Memory} → Fillable n count images moved capacity x d filled heads links m
+    → Headed (filled + 1) capacity heads → filled < capacity → (v y : ℕ) → v < n → y ≡ flip x v
+    → Addable heads n filled (m .points) links y
 fillable-addable {n = n} {x = x} {filled = filled} {heads = heads} {links = links} {m = m} f headed lt v y small q =
     let few : filled < heads = headed filled (omega arith) lt in
     let linked = f .linked in
     let most = f .most in
     let long = f .room .points-room in
     record {
-      askable = record { few = f .coverable .askable .few; indexed = f .coverable .askable .indexed; narrow = subst (λ (z : ℕ). z < 2 ^ n) (sym q) (flip-lt n x v (f .coverable .askable .narrow) small) };
+      askable = record {
+        few = f .coverable .askable .few;
+        indexed = f .coverable .askable .indexed;
+        narrow = subst
+            (λ (z : ℕ). z < 2 ^ n) (sym q) (flip-lt n x v (f .coverable .askable .narrow) small);
+      };
       enough = omega arith;
       small = omega arith;
       room = omega arith;
@@ -131,46 +170,64 @@ module _ (es : List Permutation) (capacity x d : ℕ) where
   pub advances-begins : (vs : List ℕ) (filled : ℕ) (m : Memory) → Advances es capacity x d vs filled m true vs filled m
   advances-begins vs filled m old known w₀ h e = record { waiting = w₀; holds = h; number = e; onward = λ r f. f }
 
-  pub advances-on : {vs₀ vs vs′ : List ℕ} {filled₀ filled filled′ : ℕ} {m₀ m m′ : Memory} {enough : Bool} → Advances es capacity x d vs₀ filled₀ m₀ true vs filled m
-      → Advances es capacity x d vs filled m enough vs′ filled′ m′ → Advances es capacity x d vs₀ filled₀ m₀ enough vs′ filled′ m′
+  pub advances-on : {vs₀ vs vs′ : List ℕ} {filled₀ filled filled′ : ℕ} {m₀ m m′ : Memory} {enough : Bool}
+      → Advances es capacity x d vs₀ filled₀ m₀ true vs filled m
+      → Advances es capacity x d vs filled m enough vs′ filled′ m′
+      → Advances es capacity x d vs₀ filled₀ m₀ enough vs′ filled′ m′
   advances-on a b old known w₀ h e =
       let first = a old known w₀ h e in
       let then = b old known (first .waiting) (first .holds) (first .number) in
-      record { waiting = then .waiting; holds = then .holds; number = then .number; onward = λ r f. first .onward r (then .onward r f) }
+      record {
+        waiting = then .waiting;
+        holds = then .holds;
+        number = then .number;
+        onward = λ r f. first .onward r
+            (then .onward r f);
+      }
 
   module _ (v : ℕ) (vs : List ℕ) (filled : ℕ) (m : Memory) where
     -- W7: ".. if not covered by the filled slots"
-    pub flip-covered : covered es (take filled (m .points)) (flip x v) ≡ true → Advances es capacity x d (v ∷ vs) filled m true vs filled m
+    pub flip-covered : covered es (take filled (m .points)) (flip x v) ≡ true
+        → Advances es capacity x d (v ∷ vs) filled m true vs filled m
     flip-covered c old known w₀ h e =
         record {
           waiting = w₀;
           holds = h;
           number = e;
-          onward = λ r f. skipped (subst (λ ps. Covered es ps (flip x v)) (held-points filled h e) (covered-sound es (take filled (m .points)) (flip x v) c)) f;
+          onward = λ r f. skipped (subst (λ ps. Covered es ps (flip x v)) (held-points filled h e)
+              (covered-sound es (take filled (m .points)) (flip x v) c)) f;
         }
 
-    uncovered : (l : List Slot) → take filled (m .points) ≡ pointsIn l → covered es (take filled (m .points)) (flip x v) ≡ false → Covered es (pointsIn l) (flip x v) → ⊥
-    uncovered l e c h = true≢false (sym (covered-complete es (take filled (m .points)) (flip x v) (subst (λ ps. Covered es ps (flip x v)) (sym e) h)) ∙ c)
+    uncovered : (l : List Slot) → take filled (m .points) ≡ pointsIn l
+        → covered es (take filled (m .points)) (flip x v) ≡ false → Covered es (pointsIn l) (flip x v) → ⊥
+    uncovered l e c h = true≢false (sym (covered-complete es (take filled (m .points)) (flip x v)
+        (subst (λ ps. Covered es ps (flip x v)) (sym e) h)) ∙ c)
 
     -- W8: "If P are filled already: answer no room"
-    pub flip-full : covered es (take filled (m .points)) (flip x v) ≡ false → capacity ≤ filled → Advances es capacity x d (v ∷ vs) filled m false vs filled m
+    pub flip-full : covered es (take filled (m .points)) (flip x v) ≡ false → capacity ≤ filled
+        → Advances es capacity x d (v ∷ vs) filled m false vs filled m
     flip-full c none old known w₀ h e =
         record {
           waiting = w₀;
           holds = h;
           number = e;
-          onward = λ r f. subst (Fills es capacity known x d (v ∷ vs) w₀) (sym f) (no-room (uncovered (known ++ w₀) (held-points filled h e) c) (le-trans none (le-of-eq (sym e))));
+          onward = λ r f. subst (Fills es capacity known x d (v ∷ vs) w₀) (sym f)
+              (no-room (uncovered (known ++ w₀) (held-points filled h e) c) (le-trans none (le-of-eq (sym e))));
         }
 
     -- W7: ".. fills the next slot with rule 0 and depth one more"
-    pub flip-filled : {m′ : Memory} (y : ℕ) → covered es (take filled (m .points)) (flip x v) ≡ false → filled < capacity → Lends capacity m → y ≡ flip x v
+    pub flip-filled : {m′ : Memory} (y : ℕ) → covered es (take filled (m .points)) (flip x v) ≡ false
+        → filled < capacity → Lends capacity m → y ≡ flip x v
         → Stored m filled (slot y 0 (d + 1)) m′ → Advances es capacity x d (v ∷ vs) filled m true vs (filled + 1) m′
     flip-filled {m′} y c lt room q given old known w₀ h e =
         record {
           waiting = w₀ ++ new ∷ [];
-          holds = subst (λ l. Holds old l m′) (append-assoc known w₀ (new ∷ [])) (held-more filled h e (lends-fewer lt room) (same given));
-          number = ap length (sym (append-assoc known w₀ (new ∷ []))) ∙ length-snoc (known ++ w₀) new ∙ ap suc e ∙ sym (add-one filled);
-          onward = λ r f. filled-next (uncovered (known ++ w₀) (held-points filled h e) c) (subst (λ (j : ℕ). j < capacity) (sym e) lt) f;
+          holds = subst (λ l. Holds old l m′) (append-assoc known w₀ (new ∷ []))
+              (held-more filled h e (lends-fewer lt room) (same given));
+          number = ap length (sym (append-assoc known w₀ (new ∷ []))) ∙ length-snoc (known ++ w₀) new ∙ ap suc e
+              ∙ sym (add-one filled);
+          onward = λ r f. filled-next (uncovered (known ++ w₀) (held-points filled h e) c)
+              (subst (λ (j : ℕ). j < capacity) (sym e) lt) f;
         }
       where
         new : Slot
@@ -185,14 +242,22 @@ module _ (es : List Permutation) (capacity x d : ℕ) where
             }
 
   -- once a flip found no room, those to come do not matter
-  pub advances-stuck : {vs₀ vs : List ℕ} {filled₀ filled : ℕ} {m₀ m : Memory} (vs′ : List ℕ) → Advances es capacity x d vs₀ filled₀ m₀ false vs filled m
+  pub advances-stuck : {vs₀ vs : List ℕ} {filled₀ filled : ℕ} {m₀ m : Memory} (vs′ : List ℕ)
+      → Advances es capacity x d vs₀ filled₀ m₀ false vs filled m
       → Advances es capacity x d vs₀ filled₀ m₀ false vs′ filled m
   advances-stuck vs′ a old known w₀ h e =
-      let b = a old known w₀ h e in record { waiting = b .waiting; holds = b .holds; number = b .number; onward = b .onward }
+      let b = a old known w₀ h e in record {
+        waiting = b .waiting;
+        holds = b .holds;
+        number = b .number;
+        onward =
+            b .onward;
+      }
 
   -- ---- the end of the flips
 
   pub advances-ends : {vs₀ : List ℕ} {filled : ℕ} {m : Memory} {enough : Bool} {old : Memory} {known w₀ : List Slot}
-      → (a : Reaches es capacity x d old known w₀ vs₀ enough [] filled m) → Fills es capacity known x d vs₀ w₀ (ended enough (a .waiting))
+      → (a : Reaches es capacity x d old known w₀ vs₀ enough [] filled m)
+      → Fills es capacity known x d vs₀ w₀ (ended enough (a .waiting))
   advances-ends {enough = true} a = a .onward (complete (a .waiting)) no-more
   advances-ends {enough = false} a = a .onward (full (a .waiting)) refl

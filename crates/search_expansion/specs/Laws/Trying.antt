@@ -11,9 +11,10 @@ use Rattle.permutation_theory.specs.Permutations.{Permutation}
 use Rattle.search_expansion.specs.Laws.Filling.{Advances}
 use Rattle.search_expansion.specs.Laws.Memory.{Memory, SameLengths}
 
--- the loop over the variables of the set `listed`: those of `left` are still to be tried, v the lowest of them, and the links are an index of
--- the points of the slots filled, which with those left are at most b
-pub record Trying (es : List Permutation) (capacity x d n listed filled₀ heads b : ℕ) (m₀ : Memory) (links₀ : List ℕ) (left v filled : ℕ) (m : Memory) (links : List ℕ) : Type 0 where
+-- the loop over the variables of the set `listed`: those of `left` are still to be tried, v the lowest of them, and the
+-- links are an index of the points of the slots filled, which with those left are at most b
+pub record Trying (es : List Permutation) (capacity x d n listed filled₀ heads b : ℕ) (m₀ : Memory) (links₀ : List ℕ)
+    (left v filled : ℕ) (m : Memory) (links : List ℕ) : Type 0 where
   pub within : left < 2 ^ n
   pub next : NextVariable left v
   pub lengths : SameLengths m₀ m

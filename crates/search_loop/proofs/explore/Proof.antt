@@ -1,4 +1,5 @@
--- `search_loop::explore` meets its contract: a law of WalkingLaws for each event of the loop, and the images of the point before. Assumes nothing.
+-- `search_loop::explore` meets its contract: a law of WalkingLaws for each event of the loop, and the images of the
+-- point before. Assumes nothing.
 use mathlib.Core.Path.{_≡_, sym, subst, _∙_}
 use Prim.Native.Nat.{ℕ, _-_, _^_, _≤_, _<_}
 use native.Mathlib.Nat.{le-trans}
@@ -11,7 +12,9 @@ use Rattle.search_expansion.specs.Laws.Memory.{memory}
 use Rattle.search_step.specs.Laws.Stepping.{framed}
 use Rattle.search_step.specs.Laws.SteppingLaws.{next-narrow}
 use Rattle.search_loop.specs.Laws.Exploring.{Exploring}
-use Rattle.search_loop.specs.Laws.WalkingLaws.{walking-pauses, walking-stops, walking-ends, exploring-begins, exploring-room, exploring-midway, exploring-linked, exploring-goes-on, headed-still}
+use Rattle.search_loop.specs.Laws.WalkingLaws.{walking-pauses, walking-stops, walking-ends, exploring-begins}
+use Rattle.search_loop.specs.Laws.WalkingLaws.{exploring-room, exploring-midway, exploring-linked}
+use Rattle.search_loop.specs.Laws.WalkingLaws.{exploring-goes-on, headed-still}
 use borrow.Author.Needs.{needs}
 use Rattle.search_loop.proofs.explore.Statement.{statement}
 use Rattle.search_loop.proofs.explore.Tie as tie

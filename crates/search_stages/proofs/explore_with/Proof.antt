@@ -1,4 +1,5 @@
--- `search_stages::explore_with` meets its contract: the links become an index of the filled points, and exploring goes on with it. Assumes nothing.
+-- `search_stages::explore_with` meets its contract: the links become an index of the filled points, and exploring goes
+-- on with it. Assumes nothing.
 use Rattle.search_stages.specs.Laws.StageLaws.{stage-outgrown, stage-indexable, stage-linked}
 use borrow.Author.Needs.{needs}
 use Rattle.search_stages.proofs.explore_with.Statement.{statement}

@@ -1,4 +1,5 @@
--- `search_stages::finish` meets its contract: with a head for each slot that can be lent it does not pause. Assumes nothing.
+-- `search_stages::finish` meets its contract: with a head for each slot that can be lent it does not pause. Assumes
+-- nothing.
 use mathlib.Core.Path.{refl}
 use borrow.Author.Tests.{leb-true}
 use Rattle.check_distinct.specs.Laws.IndexingLaws.{zeros-links}

@@ -1,11 +1,13 @@
--- `search_stages::start` meets its contract: the first slot holds the target, in front of what was there, and the stages answer from it. Assumes nothing.
+-- `search_stages::start` meets its contract: the first slot holds the target, in front of what was there, and the
+-- stages answer from it. Assumes nothing.
 use mathlib.Core.List.{[], _∷_}
 use mathlib.Core.Path.{refl}
 use Rattle.search_expansion.specs.Laws.FillingLaws.{lends-still, lends-fewer, lengths-trans, held-first}
 use Rattle.search_expansion.specs.Laws.Memory.{memory, Holds, SameLengths}
 use Rattle.search_theory.specs.Walk.{slot}
 use Rattle.check_distinct.specs.Laws.IndexingLaws.{zeros-links}
-use Rattle.search_stages.specs.Laws.StageLaws.{stage-answered, stage-midway, stage-followed, begun-midway, begun-ends}
+use Rattle.search_stages.specs.Laws.StageLaws.{stage-answered, stage-midway, stage-followed, begun-midway}
+use Rattle.search_stages.specs.Laws.StageLaws.{begun-ends}
 use borrow.Author.Needs.{needs}
 use Rattle.search_stages.proofs.start.Statement.{statement}
 use Rattle.search_stages.proofs.start.Tie as tie

@@ -1,5 +1,5 @@
--- Laws of a stage: its links become an index of the filled points, it pauses at once where they are too few, and the stage behind a paused one
--- answers for both. Assumes nothing.
+-- Laws of a stage: its links become an index of the filled points, it pauses at once where they are too few, and the
+-- stage behind a paused one answers for both. Assumes nothing.
 use mathlib.Core.List.{List, [], _∷_, _++_}
 use mathlib.Core.Path.{_≡_, refl, sym, subst}
 use Prim.Native.Nat.{ℕ, _^_, _≤_, _<_}
@@ -31,7 +31,8 @@ module _ (g : Frame) (images positive negative : List ℕ) (ok : Searchable g im
 
   -- ---- the index of the filled points
 
-  module _ {heads i filled : ℕ} {m : Memory} {links : List ℕ} (at : Midway pb (g .room) i filled m) (room : Lends (g .room) m) (blank : Links heads links) (few : filled ≤ heads) where
+  module _ {heads i filled : ℕ} {m : Memory} {links : List ℕ} (at : Midway pb (g .room) i filled m)
+      (room : Lends (g .room) m) (blank : Links heads links) (few : filled ≤ heads) where
     enough : filled ≤ length (m .points)
     enough = le-trans (midway-room at) (room .points-room)
 
@@ -47,7 +48,8 @@ module _ (g : Frame) (images positive negative : List ℕ) (ok : Searchable g im
         let w = map-out (λ (s : Slot). s .point) (at .front ++ at .back) (subst (λ (l : List ℕ). x ∈ l) held here) in
         subst (λ (y : ℕ). y < 2 ^ g .variables) (sym (w .2)) (at .stands .invariants .filled .below (w .0) (w .1))
 
-    pub stage-linked : {first : ℕ} {links′ : List ℕ} → Sifts heads (g .variables) filled (m .points) first links′ → length links′ ≡ length links → Linked (g .variables) heads filled (m .points) links′
+    pub stage-linked : {first : ℕ} {links′ : List ℕ} → Sifts heads (g .variables) filled (m .points) first links′
+        → length links′ ≡ length links → Linked (g .variables) heads filled (m .points) links′
     stage-linked s same =
         record {
           indexed = sifts-full enough narrow (subst Distinct (sym held) (at .stands .invariants .filled .distinct)) s;
@@ -58,11 +60,13 @@ module _ (g : Frame) (images positive negative : List ℕ) (ok : Searchable g im
 
   module _ (heads i filled : ℕ) (m : Memory) where
     -- too few links: the stage pauses where it is
-    pub stage-outgrown : Midway pb (g .room) i filled m → heads < filled → Explores pb (g .room) heads i filled m (Paused i filled) m
+    pub stage-outgrown : Midway pb (g .room) i filled m → heads < filled
+        → Explores pb (g .room) heads i filled m (Paused i filled) m
     stage-outgrown at lt = (walking-begins pb (g .room) i filled m, le-trans lt (midway-room at))
 
     module _ (stage : Stage) (m′ : Memory) (e : Explores pb (g .room) heads i filled m stage m′) where
-      pub stage-answered : (a : Conclusion) → stage ≡ Concluded a → Concludes pb (g .room) i filled m (replyOfConclusion a) m′
+      pub stage-answered : (a : Conclusion) → stage ≡ Concluded a
+          → Concludes pb (g .room) i filled m (replyOfConclusion a) m′
       stage-answered a q = subst (λ (s : Stage). Explores pb (g .room) heads i filled m s m′) q e
 
       module _ (i′ filled′ : ℕ) (q : stage ≡ Paused i′ filled′) where
@@ -72,7 +76,8 @@ module _ (g : Frame) (images positive negative : List ℕ) (ok : Searchable g im
         pub stage-midway : Midway pb (g .room) i filled m → Midway pb (g .room) i′ filled′ m′
         stage-midway at = walking-midway pb (g .room) (paused .0) at
 
-        pub stage-followed : {r : Reply} {m″ : Memory} → Concludes pb (g .room) i′ filled′ m′ r m″ → Concludes pb (g .room) i filled m r m″
+        pub stage-followed : {r : Reply} {m″ : Memory} → Concludes pb (g .room) i′ filled′ m′ r m″
+            → Concludes pb (g .room) i filled m r m″
         stage-followed next = walking-answers pb (g .room) (paused .0) next
 
         -- with a head for each slot that can be lent there is no pause
@@ -83,10 +88,17 @@ module _ (g : Frame) (images positive negative : List ℕ) (ok : Searchable g im
 
   module _ {old m : Memory} (h : Holds old (slot (g .target) 0 0 ∷ []) m) where
     begun : Stands pb (g .room) old [] (slot (g .target) 0 0 ∷ []) 0 1 m
-    begun = record { holds = h; processed = refl; number = refl; invariants = invariants-start pb (g .room) (ok .ready) (ok .some) }
+    begun = record {
+      holds = h;
+      processed = refl;
+      number = refl;
+      invariants = invariants-start pb (g .room) (ok .ready)
+          (ok .some);
+    }
 
     pub begun-midway : Midway pb (g .room) 0 1 m
     begun-midway = record { old = old; front = []; back = slot (g .target) 0 0 ∷ []; stands = begun }
 
-    pub begun-ends : {r : Reply} {m′ : Memory} → Concludes pb (g .room) 0 1 m r m′ → Ended pb (g .room) old [] (slot (g .target) 0 0 ∷ []) r m′
+    pub begun-ends : {r : Reply} {m′ : Memory} → Concludes pb (g .room) 0 1 m r m′
+        → Ended pb (g .room) old [] (slot (g .target) 0 0 ∷ []) r m′
     begun-ends a = a old [] (slot (g .target) 0 0 ∷ []) begun

@@ -6,7 +6,8 @@ use Rattle.points.specs.Laws.Contracts.{clauseOf}
 use Rattle.point_slices.specs.Laws.SliceLaws.{falsified-le}
 use Rattle.point_slices.specs.Slices.{clausesOf}
 use Rattle.search_expansion.specs.Laws.Memory.{memory}
-use Rattle.search_step.specs.Laws.SteppingLaws.{Read, step-met, read-fillable, read-below, read-room, read-goes, read-stuck}
+use Rattle.search_step.specs.Laws.SteppingLaws.{Read, step-met, read-fillable, read-below, read-room, read-goes}
+use Rattle.search_step.specs.Laws.SteppingLaws.{read-stuck}
 use borrow.Author.Needs.{needs}
 use Rattle.search_step.proofs.process.Statement.{statement}
 use Rattle.search_step.proofs.process.Tie as tie

@@ -8,7 +8,8 @@ use native.Mathlib.Nat.{le-refl}
 use native.Mathlib.Omega.{arith}
 use lib.ListN.{getD}
 use Rattle.points.specs.Laws.PointLaws.{first-sound, first-none}
-use Rattle.points.specs.Points.{Clause, satisfies, Numbered, numberedFrom, numbered, SatisfiesAll, FirstFalsified, firstFalsified, numberOf}
+use Rattle.points.specs.Points.{Clause, satisfies, Numbered, numberedFrom, numbered, SatisfiesAll, FirstFalsified}
+use Rattle.points.specs.Points.{firstFalsified, numberOf}
 use Rattle.point_slices.specs.Slices.{noLiterals}
 
 -- the clause c of those numbered from k on: it stands where its number says
@@ -17,7 +18,8 @@ pub record Placed (k : ℕ) (cs : List Clause) (c : Numbered) : Type 0 where
   pub place : c .clause ≡ getD cs (c .number - k) noLiterals
 
 module _ (x : ℕ) where
-  pub found-at : (k : ℕ) (cs : List Clause) (c : Numbered) → firstFalsified (numberedFrom k cs) x ≡ some c → Placed k cs c
+  pub found-at : (k : ℕ) (cs : List Clause) (c : Numbered) → firstFalsified (numberedFrom k cs) x ≡ some c
+      → Placed k cs c
   unfolding firstFalsified numberedFrom
   found-at k [] c h = absurd (Option·none-ne-some c h)
   found-at k (d ∷ cs) c h = by (satisfies d x) h (found-at (suc k) cs c)
@@ -27,12 +29,16 @@ module _ (x : ℕ) where
           let one : c .number - k ≡ suc (c .number - suc k) = omega (arith, f .low) in
           record { low = omega (arith, f .low); place = f .place ∙ ap (λ i. getD (d ∷ cs) i noLiterals) (sym one) }
 
-      by : (b : Bool) → cond b (firstFalsified (numberedFrom (suc k) cs) x) (some (record { number = k; clause = d })) ≡ some c
+      by : (b : Bool) → cond b (firstFalsified (numberedFrom (suc k) cs) x) (some (record { number = k; clause = d }))
+          ≡ some c
           → (firstFalsified (numberedFrom (suc k) cs) x ≡ some c → Placed (suc k) cs c) → Placed k (d ∷ cs) c
       by true h ih = further (ih h)
       by false h ih =
           let e : record { number = k; clause = d } ≡ c = cc in
-          subst (Placed k (d ∷ cs)) e (record { low = le-refl k; place = ap (λ i. getD (d ∷ cs) i noLiterals) (zero k) })
+          subst (Placed k (d ∷ cs)) e (record {
+            low = le-refl k;
+            place = ap (λ i. getD (d ∷ cs) i noLiterals) (zero k);
+          })
         where
           zero : (k : ℕ) → 0 ≡ k - k
           zero k = omega arith
@@ -46,11 +52,19 @@ module _ (x : ℕ) where
         by none f q = first-none (numbered cs) x f
         by (some c) f q = let w = found-at 1 cs c f .low in let n : ⊥ = omega arith in absurd n
 
-    pub number-found : (k ≡ 0 → ⊥) → (c : Numbered) × FirstFalsified (numbered cs) x c × (k ≡ c .number) × (c .clause ≡ getD cs (k - 1) noLiterals)
+    pub number-found : (k ≡ 0 → ⊥) → (c : Numbered) × FirstFalsified (numbered cs) x c × (k ≡ c .number)
+        × (c .clause ≡ getD cs (k - 1) noLiterals)
     unfolding numberOf
     number-found ne = by (firstFalsified (numbered cs) x) refl e
       where
         by : (o : Option Numbered) → firstFalsified (numbered cs) x ≡ o → k ≡ numberOf o
-            → (c : Numbered) × FirstFalsified (numbered cs) x c × (k ≡ c .number) × (c .clause ≡ getD cs (k - 1) noLiterals)
+            → (c : Numbered) × FirstFalsified (numbered cs) x c × (k ≡ c .number)
+            × (c .clause ≡ getD cs (k - 1) noLiterals)
         by none f q = absurd (ne q)
-        by (some c) f q = (c, first-sound (numbered cs) x c f, q, found-at 1 cs c f .place ∙ ap (λ i. getD cs (i - 1) noLiterals) (sym q))
+        by (some c) f q = (
+          c,
+          first-sound (numbered cs) x c f,
+          q,
+          found-at 1 cs c f .place
+              ∙ ap (λ i. getD cs (i - 1) noLiterals) (sym q),
+        )

@@ -48,7 +48,7 @@ pub record Searchable (g : Frame) (images positive negative : List ℕ) : Type 0
   pub some : 1 ≤ g .room
   pub most : g .room ≤ maxSlots
 
--- the links are an index of the points of the k slots filled, with two links for each head
+-- the links are an index of the points of the slots filled, with two links for each head
 pub record Linked (n heads filled : ℕ) (points links : List ℕ) : Type 0 where
   pub indexed : Indexed heads n (take filled points) links
   pub linked : heads + 2 * heads ≤ length links
@@ -63,8 +63,8 @@ abbrev pub Next : ℕ → ℕ → List ℕ → List ℕ → ℕ → List ℕ →
 Next n count images points i moved = Imaged n count images (getD points i 0) moved
 
 module _ (pb : Problem) (capacity : ℕ) where
-  -- the search has come to the slot of index i: in front of what the memory `old` has, m holds the processed slots p, i of them, and the
-  -- waiting slots w, k together
+  -- the search has come to the slot of index i: in front of what the memory `old` has, m holds the processed slots p, i
+  -- of them, and the waiting slots w, `filled` together
   pub record Stands (old : Memory) (p w : List Slot) (i filled : ℕ) (m : Memory) : Type 0 where
     pub holds : Holds old (p ++ w) m
     pub processed : length p ≡ i
@@ -83,7 +83,8 @@ module _ (pb : Problem) (capacity : ℕ) where
     pub front : List Slot
     pub back : List Slot
     pub stands : Stands old front back i filled m
-    pub onward : (r : Reply) (l : List Slot) → Walks pb capacity (state front back) r l → Walks pb capacity (state p w) r l
+    pub onward : (r : Reply) (l : List Slot) → Walks pb capacity (state front back) r l
+        → Walks pb capacity (state p w) r l
 
   -- it ends, with an answer, and the memory holds the slots that it leaves
   pub record Ended (old : Memory) (p w : List Slot) (r : Reply) (m : Memory) : Type 0 where

@@ -1,5 +1,5 @@
--- Laws of one step of the search: it answers 'satisfiable', it has found the clause and tries its flips, and then it goes on or answers
--- 'unknown'. Assumes nothing.
+-- Laws of one step of the search: it answers 'satisfiable', it has found the clause and tries its flips, and then it
+-- goes on or answers 'unknown'. Assumes nothing.
 use mathlib.Core.Bool.{Bool, true, false}
 use mathlib.Core.List.{List, [], _∷_, _++_, map, append-nil, Memᴰ·append-right}
 use mathlib.Core.Path.{_≡_, refl, sym, ap, _∙_, subst}
@@ -16,7 +16,8 @@ use Rattle.math.specs.Laws.ListLaws.{here}
 use Rattle.math.specs.Laws.OverLaws.{over-change, over-at}
 use Rattle.math.specs.Laws.QueueLaws.{length-snoc, length-moved, map-moved}
 use Rattle.math.specs.Laws.SplitLaws.{map-append}
-use Rattle.points.specs.Points.{Clause, distance, listed, variables, Numbered, numbered, SatisfiesAll, FirstFalsified, firstFalsified, numberOf}
+use Rattle.points.specs.Points.{Clause, distance, listed, variables, Numbered, numbered, SatisfiesAll, FirstFalsified}
+use Rattle.points.specs.Points.{firstFalsified, numberOf}
 use Rattle.point_slices.specs.Slices.{clausesOf, noLiterals}
 use Rattle.point_theory.specs.Laws.Distance.{distance-wider}
 use Rattle.formula.specs.Limits.{maxSlots}
@@ -30,7 +31,8 @@ use Rattle.search_expansion.specs.Laws.Filling.{Fillable, Advances}
 use Rattle.search_expansion.specs.Laws.FillingLaws.{lends-still, ended, advances-ends}
 use Rattle.search_expansion.specs.Laws.Memory.{Memory, memory, Holds, Lends}
 use Rattle.search_step.specs.Laws.NumberLaws.{number-none, number-found}
-use Rattle.search_step.specs.Laws.Stepping.{framed, Searchable, Linked, Next, Stands, Midway, GoesOn, Ended, Steps}
+use Rattle.search_step.specs.Laws.Stepping.{framed, Searchable, Linked, Next, Stands, Midway, GoesOn, Ended}
+use Rattle.search_step.specs.Laws.Stepping.{Steps}
 use Rattle.search_theory.specs.Laws.ExpansionLaws.{invariants-step}
 use Rattle.search_theory.specs.Laws.InvariantLaws.{first-in}
 use Rattle.search_theory.specs.Laws.Invariants.{slotAt}
@@ -40,20 +42,27 @@ use Rattle.search_theory.specs.Laws.WalkLaws.{fills-room}
 -- ---- a slot in the memory
 
 -- what a slice has at the index of the slot s, behind the slots p
-slot-read : (part : Slot → ℕ) (p w : List Slot) (s : Slot) (old now : List ℕ) (i : ℕ) → now ≡ over (map part (p ++ s ∷ w)) old → length p ≡ i → getD now i 0 ≡ part s
+slot-read : (part : Slot → ℕ) (p w : List Slot) (s : Slot) (old now : List ℕ) (i : ℕ)
+    → now ≡ over (map part (p ++ s ∷ w)) old → length p ≡ i → getD now i 0 ≡ part s
 slot-read part p w s old now i e n =
-    ap (λ l. getD l i 0) (e ∙ ap (λ l. over l old) (map-append part p (s ∷ w))) ∙ over-at i (map part p) (map part w) old (part s) 0 (length-map p part ∙ n)
+    ap (λ l. getD l i 0) (e ∙ ap (λ l. over l old) (map-append part p (s ∷ w)))
+    ∙ over-at i (map part p) (map part w) old (part s) 0 (length-map p part ∙ n)
 
 -- W6: "that number goes into its slot first"
-number-stored : (old : Memory) (p w : List Slot) (s : Slot) (c : Numbered) (i : ℕ) (m : Memory) → Holds old (p ++ s ∷ w) m → length p ≡ i
+number-stored : (old : Memory) (p w : List Slot) (s : Slot) (c : Numbered) (i : ℕ) (m : Memory)
+    → Holds old (p ++ s ∷ w) m → length p ≡ i
     → Holds old ((p ++ withNumber s c ∷ []) ++ w) (memory (m .points) (set (m .falsified) i (c .number)) (m .depths))
 number-stored old p w s c i m h n =
     record {
-      points-held = h .points-held ∙ ap (λ l. over l (old .points)) (sym (map-moved (λ (s : Slot). s .point) p w (withNumber s c) s refl));
-      falsified-held = ap (λ l. set l i (c .number)) (h .falsified-held ∙ ap (λ l. over l (old .falsified)) (map-append part p (s ∷ w)))
+      points-held = h .points-held ∙ ap (λ l. over l (old .points))
+          (sym (map-moved (λ (s : Slot). s .point) p w (withNumber s c) s refl));
+      falsified-held = ap (λ l. set l i (c .number)) (h .falsified-held
+          ∙ ap (λ l. over l (old .falsified)) (map-append part p (s ∷ w)))
           ∙ over-change i (map part p) (map part w) (old .falsified) (s .falsified) (c .number) (length-map p part ∙ n)
-          ∙ ap (λ l. over l (old .falsified)) (sym (map-append part p (withNumber s c ∷ w)) ∙ sym (map-moved part p w (withNumber s c) (withNumber s c) refl));
-      depths-held = h .depths-held ∙ ap (λ l. over l (old .depths)) (sym (map-moved (λ (s : Slot). s .depth) p w (withNumber s c) s refl));
+          ∙ ap (λ l. over l (old .falsified)) (sym (map-append part p (withNumber s c ∷ w))
+          ∙ sym (map-moved part p w (withNumber s c) (withNumber s c) refl));
+      depths-held = h .depths-held ∙ ap (λ l. over l (old .depths))
+          (sym (map-moved (λ (s : Slot). s .depth) p w (withNumber s c) s refl));
     }
   where
     part : Slot → ℕ
@@ -92,29 +101,36 @@ module _ (g : Frame) (images positive negative : List ℕ) (ok : Searchable g im
         let a : length (p ++ []) ≡ length p = ap length (append-nil p) in
         omega (arith, st .processed, st .number)
 
-    module _ (x number : ℕ) (read : x ≡ getD (m₀ .points) i 0) (found : number ≡ numberOf (firstFalsified (numbered cs) x)) (lt : i < filled) where
+    module _ (x number : ℕ) (read : x ≡ getD (m₀ .points) i 0)
+        (found : number ≡ numberOf (firstFalsified (numbered cs) x)) (lt : i < filled) where
       -- the point read is the first waiting slot's
       point-of : (s : Slot) (w : List Slot) → Stands pb (g .room) old p (s ∷ w) i filled m₀ → x ≡ s .point
-      point-of s w st = read ∙ slot-read (λ (s : Slot). s .point) p w s (old .points) (m₀ .points) i (st .holds .points-held) (st .processed)
+      point-of s w st = read ∙ slot-read (λ (s : Slot). s .point) p w s (old .points) (m₀ .points) i
+          (st .holds .points-held) (st .processed)
 
       -- W5: "it meets all rules: answer met .., with the choice, its changes .. and the number of slots filled"
-      pub step-met : (w : List Slot) (d : ℕ) → number ≡ 0 → d ≡ distance 64 x (g .target) → Stands pb (g .room) old p w i filled m₀
+      pub step-met : (w : List Slot) (d : ℕ) → number ≡ 0 → d ≡ distance 64 x (g .target)
+          → Stands pb (g .room) old p w i filled m₀
           → Ended pb (g .room) old p w (satisfiable x d filled) m₀
       step-met [] d z far st = absurd (one-waits lt st)
       step-met (s ∷ w) d z far st =
           let same = point-of s w st in
           let below : s .point < 2 ^ g .variables = st .invariants .filled .below s (Memᴰ·append-right p (here s w)) in
           let near : d ≡ distance (g .variables) (s .point) (g .target) =
-          far ∙ ap (λ y. distance 64 y (g .target)) same ∙ distance-wider (g .variables) 64 (s .point) (g .target) below (ok .ready .target-below) (ok .few) in
+          far ∙ ap (λ y. distance 64 y (g .target)) same
+          ∙ distance-wider (g .variables) 64 (s .point) (g .target) below (ok .ready .target-below) (ok .few) in
           let all = st .number in
-          let e : satisfiable (s .point) (distance (g .variables) (s .point) (g .target)) (length (p ++ s ∷ w)) ≡ satisfiable x d filled = cc in
+          let e : satisfiable (s .point) (distance (g .variables) (s .point) (g .target)) (length (p ++ s ∷ w))
+          ≡ satisfiable x d filled = cc in
           record {
             slots = p ++ s ∷ w;
             holds = st .holds;
-            walks = subst (λ r. Walks pb (g .room) (state p (s ∷ w)) r (p ++ s ∷ w)) e (met (subst (SatisfiesAll (pb .clauses)) same (number-none x cs number found z)));
+            walks = subst (λ r. Walks pb (g .room) (state p (s ∷ w)) r (p ++ s ∷ w)) e
+                (met (subst (SatisfiesAll (pb .clauses)) same (number-none x cs number found z)));
           }
 
-      pub taken-of : (w : List Slot) (d : ℕ) → (number ≡ 0 → ⊥) → d ≡ getD (m₀ .depths) i 0 → Stands pb (g .room) old p w i filled m₀ → Taken old p w i filled x d number m₀
+      pub taken-of : (w : List Slot) (d : ℕ) → (number ≡ 0 → ⊥) → d ≡ getD (m₀ .depths) i 0
+          → Stands pb (g .room) old p w i filled m₀ → Taken old p w i filled x d number m₀
       taken-of [] d ne deep st = absurd (one-waits lt st)
       taken-of (s ∷ w) d ne deep st =
           let same = point-of s w st in
@@ -125,26 +141,31 @@ module _ (g : Frame) (images positive negative : List ℕ) (ok : Searchable g im
             falsified = f .0;
             split = refl;
             point = same;
-            depth = deep ∙ slot-read (λ (s : Slot). s .depth) p w s (old .depths) (m₀ .depths) i (st .holds .depths-held) (st .processed);
+            depth = deep ∙ slot-read (λ (s : Slot). s .depth) p w s (old .depths) (m₀ .depths) i
+                (st .holds .depths-held) (st .processed);
             first = subst (λ y. FirstFalsified (pb .clauses) y (f .0)) same (f .1);
             place = f .3;
             stands = st;
-            holds = subst (λ j. Holds old ((p ++ withNumber s (f .0) ∷ []) ++ w) (numberedIn i j m₀)) (sym (f .2)) (number-stored old p w s (f .0) i m₀ (st .holds) (st .processed));
+            holds = subst (λ j. Holds old ((p ++ withNumber s (f .0) ∷ []) ++ w) (numberedIn i j m₀)) (sym (f .2))
+                (number-stored old p w s (f .0) i m₀ (st .holds) (st .processed));
           }
 
   -- the point of the next slot is one of n digits, as those of all filled slots are
-  pub next-narrow : {i filled : ℕ} {m₀ : Memory} → i < filled → Midway pb (g .room) i filled m₀ → getD (m₀ .points) i 0 < 2 ^ g .variables
+  pub next-narrow : {i filled : ℕ} {m₀ : Memory} → i < filled → Midway pb (g .room) i filled m₀
+      → getD (m₀ .points) i 0 < 2 ^ g .variables
   next-narrow {i} {filled} {m₀} lt at = by (at .front) (at .back) (at .stands)
     where
       by : (p w : List Slot) → Stands pb (g .room) (at .old) p w i filled m₀ → getD (m₀ .points) i 0 < 2 ^ g .variables
       by p [] st = absurd (one-waits lt st)
       by p (s ∷ w) st =
-          subst (λ (y : ℕ). y < 2 ^ g .variables) (sym (slot-read (λ (t : Slot). t .point) p w s (at .old .points) (m₀ .points) i (st .holds .points-held) (st .processed)))
+          subst (λ (y : ℕ). y < 2 ^ g .variables) (sym (slot-read (λ (t : Slot). t .point) p w s (at .old .points)
+          (m₀ .points) i (st .holds .points-held) (st .processed)))
           (st .invariants .filled .below s (Memᴰ·append-right p (here s w)))
 
   -- ---- the slot that is taken, and its flips
 
-  module _ {old : Memory} {p w : List Slot} {i filled x d number : ℕ} {m₀ : Memory} (t : Taken old p w i filled x d number m₀) where
+  module _ {old : Memory} {p w : List Slot} {i filled x d number : ℕ} {m₀ : Memory}
+      (t : Taken old p w i filled x d number m₀) where
     abbrev known : List Slot
     known = p ++ withNumber (t .taken) (t .falsified) ∷ []
 
@@ -154,10 +175,17 @@ module _ (g : Frame) (images positive negative : List ℕ) (ok : Searchable g im
         let st = t .stands in
         let at = getD-at p (t .taken) (t .rest) (slot 0 0 0) i (st .processed) in
         let e : slotAt (p ++ t .taken ∷ t .rest) i .depth ≡ d = ap (λ (s : Slot). s .depth) at ∙ sym (t .depth) in
-        omega (arith, st .invariants .filled .depth-index i (subst (λ (j : ℕ). i < j) (sym (st .number)) lt), ok .most, st .number, st .invariants .filled .room)
+        omega (
+          arith,
+          st .invariants .filled .depth-index i (subst (λ (j : ℕ). i < j) (sym (st .number)) lt),
+          ok .most,
+          st .number,
+          st .invariants .filled .room,
+        )
 
     -- the variables of the clause: a set of variables below n
-    clause-listed : (c : Clause) (s : ℕ) → c ≡ getD cs (number - 1) noLiterals → s ≡ listed c → s ≡ listed (t .falsified .clause)
+    clause-listed : (c : Clause) (s : ℕ) → c ≡ getD cs (number - 1) noLiterals → s ≡ listed c
+        → s ≡ listed (t .falsified .clause)
     clause-listed c s e l = l ∙ ap listed (e ∙ sym (t .place))
 
     pub taken-below : (c : Clause) (s : ℕ) → c ≡ getD cs (number - 1) noLiterals → s ≡ listed c → s < 2 ^ g .variables
@@ -165,20 +193,25 @@ module _ (g : Frame) (images positive negative : List ℕ) (ok : Searchable g im
     taken-below c s e l =
         let b = ok .ready .clauses-below (t .falsified) (first-in (t .first)) in
         subst (λ (y : ℕ). y < 2 ^ g .variables) (sym (clause-listed c s e l))
-        (or-lt (g .variables) (t .falsified .clause .positive) (t .falsified .clause .negative) (b .positive-below) (b .negative-below))
+        (or-lt (g .variables) (t .falsified .clause .positive) (t .falsified .clause .negative) (b .positive-below)
+        (b .negative-below))
 
     -- the flips are tried, and the memory holds the slots that wait then
     pub record Flipped (enough : Bool) (filled′ : ℕ) (m : Memory) : Type 0 where
       pub waiting : List Slot
       pub holds : Holds old (known ++ waiting) m
       pub counted : length (known ++ waiting) ≡ filled′
-      pub fills : Fills (pb .permutations) (g .room) known (t .taken .point) (t .taken .depth) (variables (g .variables) (t .falsified .clause)) (t .rest) (ended enough waiting)
+      pub fills : Fills (pb .permutations) (g .room) known (t .taken .point) (t .taken .depth)
+          (variables (g .variables) (t .falsified .clause)) (t .rest) (ended enough waiting)
 
-    pub flipped-of : {enough : Bool} {filled′ : ℕ} {m : Memory} (c : Clause) (s : ℕ) → c ≡ getD cs (number - 1) noLiterals → s ≡ listed c
-        → Advances (pb .permutations) (g .room) x d (members (g .variables) s) filled (numberedIn i number m₀) enough [] filled′ m → Flipped enough filled′ m
+    pub flipped-of : {enough : Bool} {filled′ : ℕ} {m : Memory} (c : Clause) (s : ℕ)
+        → c ≡ getD cs (number - 1) noLiterals → s ≡ listed c
+        → Advances (pb .permutations) (g .room) x d (members (g .variables) s) filled (numberedIn i number m₀) enough []
+        filled′ m → Flipped enough filled′ m
     unfolding variables
     flipped-of {enough = enough} c s e l adv =
-        let a = adv old known (t .rest) (t .holds) (length-moved p (t .rest) (withNumber (t .taken) (t .falsified)) (t .taken) ∙ t .stands .number) in
+        let a = adv old known (t .rest) (t .holds) (length-moved p (t .rest) (withNumber (t .taken) (t .falsified))
+        (t .taken) ∙ t .stands .number) in
         let f = advances-ends (pb .permutations) (g .room) x d a in
         record {
           waiting = a .waiting;
@@ -187,7 +220,8 @@ module _ (g : Frame) (images positive negative : List ℕ) (ok : Searchable g im
           fills = alike (t .point) (t .depth) (ap (members (g .variables)) (clause-listed c s e l)) f;
         }
       where
-        alike : {y z : ℕ} {us vs : List ℕ} {r : Expansion} → x ≡ y → d ≡ z → us ≡ vs → Fills (pb .permutations) (g .room) known x d us (t .rest) r
+        alike : {y z : ℕ} {us vs : List ℕ} {r : Expansion} → x ≡ y → d ≡ z → us ≡ vs
+            → Fills (pb .permutations) (g .room) known x d us (t .rest) r
             → Fills (pb .permutations) (g .room) known y z vs (t .rest) r
         alike {y} {z} {us} {vs} {r} p q u f =
             subst (λ x. Fills (pb .permutations) (g .room) known x z vs (t .rest) r) p
@@ -198,11 +232,14 @@ module _ (g : Frame) (images positive negative : List ℕ) (ok : Searchable g im
     flipped-room enough f = by enough f
       where
         start : length (known ++ t .rest) ≤ g .room
-        start = le-trans (le-of-eq (length-moved p (t .rest) (withNumber (t .taken) (t .falsified)) (t .taken))) (t .stands .invariants .filled .room)
+        start = le-trans (le-of-eq (length-moved p (t .rest) (withNumber (t .taken) (t .falsified)) (t .taken)))
+            (t .stands .invariants .filled .room)
 
         by : {filled′ : ℕ} {m : Memory} (enough : Bool) → Flipped enough filled′ m → filled′ ≤ g .room
-        by true f = le-trans (le-of-eq (sym (f .counted))) (fills-room (pb .permutations) (g .room) known (t .taken .point) (t .taken .depth) (f .fills) start)
-        by false f = le-trans (le-of-eq (sym (f .counted))) (fills-room (pb .permutations) (g .room) known (t .taken .point) (t .taken .depth) (f .fills) start)
+        by true f = le-trans (le-of-eq (sym (f .counted)))
+            (fills-room (pb .permutations) (g .room) known (t .taken .point) (t .taken .depth) (f .fills) start)
+        by false f = le-trans (le-of-eq (sym (f .counted)))
+            (fills-room (pb .permutations) (g .room) known (t .taken .point) (t .taken .depth) (f .fills) start)
 
     -- all flips are tried: on to the next slot
     pub step-goes : {filled′ : ℕ} {m : Memory} → Flipped true filled′ m → GoesOn pb (g .room) old p w (i + 1) filled′ m
@@ -213,15 +250,18 @@ module _ (g : Frame) (images positive negative : List ℕ) (ok : Searchable g im
           back = f .waiting;
           stands = record {
             holds = f .holds;
-            processed = length-snoc p (withNumber (t .taken) (t .falsified)) ∙ ap suc (t .stands .processed) ∙ sym (add-one i);
+            processed = length-snoc p (withNumber (t .taken) (t .falsified)) ∙ ap suc (t .stands .processed)
+                ∙ sym (add-one i);
             number = f .counted;
-            invariants = invariants-step pb (g .room) p (t .rest) (t .taken) (t .falsified) (t .first) (t .stands .invariants) (f .fills);
+            invariants = invariants-step pb (g .room) p (t .rest) (t .taken) (t .falsified) (t .first)
+                (t .stands .invariants) (f .fills);
           };
           onward = λ r l u. goes-on (t .first) (f .fills) u;
         })
 
     -- W8: "answer no room, with d the depth of the point being processed and slots filled"
-    pub step-stuck : {filled′ : ℕ} {m : Memory} → Flipped false filled′ m → Ended pb (g .room) old p w (unknown d filled′) m
+    pub step-stuck : {filled′ : ℕ} {m : Memory} → Flipped false filled′ m
+        → Ended pb (g .room) old p w (unknown d filled′) m
     step-stuck {filled′} {m} f =
         let a = t .depth in
         let b = f .counted in
@@ -230,10 +270,12 @@ module _ (g : Frame) (images positive negative : List ℕ) (ok : Searchable g im
         (record {
           slots = known ++ f .waiting;
           holds = f .holds;
-          walks = subst (λ r. Walks pb (g .room) (state p (t .taken ∷ t .rest)) r (known ++ f .waiting)) e (stuck (t .first) (f .fills));
+          walks = subst (λ r. Walks pb (g .room) (state p (t .taken ∷ t .rest)) r (known ++ f .waiting)) e
+              (stuck (t .first) (f .fills));
         })
 
-  -- ---- what the code knows when the flips are to be tried: it has read the slot of index i, and its point falsifies the clause c first
+  -- ---- what the code knows when the flips are to be tried: it has read the slot of index i, and its point falsifies
+  -- the clause c first
 
   pub record Read (i x d number s : ℕ) (c : Clause) (m₀ : Memory) : Type 0 where
     pub point-read : x ≡ getD (m₀ .points) i 0
@@ -244,21 +286,34 @@ module _ (g : Frame) (images positive negative : List ℕ) (ok : Searchable g im
     pub listed-read : s ≡ listed c
 
   module _ {i filled x d number s : ℕ} {c : Clause} {m₀ : Memory} (lt : i < filled) (a : Read i x d number s c m₀) where
-    taken-read : {old : Memory} {p w : List Slot} → Stands pb (g .room) old p w i filled m₀ → Taken old p w i filled x d number m₀
-    taken-read {w = w} st = taken-of x number (a .point-read) (a .number-read) lt w d (a .unsatisfied) (a .depth-read) st
+    taken-read : {old : Memory} {p w : List Slot} → Stands pb (g .room) old p w i filled m₀
+        → Taken old p w i filled x d number m₀
+    taken-read {w = w} st = taken-of x number (a .point-read) (a .number-read) lt w d (a .unsatisfied) (a .depth-read)
+        st
 
     pub read-shallow : Midway pb (g .room) i filled m₀ → d < maxSlots
     read-shallow at = taken-shallow (taken-read (at .stands)) lt
 
     -- what lets its flips be tried, where its images are at hand
-    pub read-fillable : {moved : List ℕ} {heads : ℕ} {links : List ℕ} → Midway pb (g .room) i filled m₀ → Linked (g .variables) heads filled (m₀ .points) links → Lends (g .room) m₀
+    pub read-fillable : {moved : List ℕ} {heads : ℕ} {links : List ℕ} → Midway pb (g .room) i filled m₀
+        → Linked (g .variables) heads filled (m₀ .points) links → Lends (g .room) m₀
         → Next (g .variables) (g .permutations) images (m₀ .points) i moved
-        → Fillable (g .variables) (g .permutations) images moved (g .room) x d filled heads links (numberedIn i number m₀)
+        → Fillable (g .variables) (g .permutations) images moved (g .room) x d filled heads links
+        (numberedIn i number m₀)
     read-fillable {moved} at l room e =
         let own = subst (λ (y : ℕ). Imaged (g .variables) (g .permutations) images y moved) (sym (a .point-read)) e in
         record {
-          coverable = record { askable = record { few = ok .few; indexed = l .indexed; narrow = own .narrow }; permuting = ok .permuting; imaged = own .imaged };
-          room = lends-still room (record { points-length = refl; falsified-length = length-set (m₀ .falsified) i number; depths-length = refl });
+          coverable = record {
+            askable = record { few = ok .few; indexed = l .indexed; narrow = own .narrow };
+            permuting = ok .permuting;
+            imaged = own .imaged;
+          };
+          room = lends-still room (record {
+            points-length = refl;
+            falsified-length = length-set (m₀ .falsified) i
+                number;
+            depths-length = refl;
+          });
           most = ok .most;
           shallow = read-shallow at;
           linked = l .linked;
@@ -268,15 +323,19 @@ module _ (g : Frame) (images positive negative : List ℕ) (ok : Searchable g im
     read-below at = taken-below (taken-read (at .stands)) c s (a .clause-read) (a .listed-read)
 
     module _ {enough : Bool} {filled′ : ℕ} {m : Memory}
-        (adv : Advances (pb .permutations) (g .room) x d (members (g .variables) s) filled (numberedIn i number m₀) enough [] filled′ m) where
-      flipped-read : {old : Memory} {p w : List Slot} (st : Stands pb (g .room) old p w i filled m₀) → Flipped (taken-read st) enough filled′ m
+        (adv : Advances (pb .permutations) (g .room) x d (members (g .variables) s) filled (numberedIn i number m₀)
+        enough [] filled′ m) where
+      flipped-read : {old : Memory} {p w : List Slot} (st : Stands pb (g .room) old p w i filled m₀)
+          → Flipped (taken-read st) enough filled′ m
       flipped-read st = flipped-of (taken-read st) c s (a .clause-read) (a .listed-read) adv
 
       pub read-room : Midway pb (g .room) i filled m₀ → filled′ ≤ g .room
       read-room at = flipped-room (taken-read (at .stands)) enough (flipped-read (at .stands))
 
       pub read-goes : enough ≡ true → Steps pb (g .room) i filled m₀ (Goes filled′) m
-      read-goes e old p w st = step-goes (taken-read st) (subst (λ b. Flipped (taken-read st) b filled′ m) e (flipped-read st))
+      read-goes e old p w st = step-goes (taken-read st)
+          (subst (λ b. Flipped (taken-read st) b filled′ m) e (flipped-read st))
 
       pub read-stuck : enough ≡ false → Steps pb (g .room) i filled m₀ (Ends (Unknown d filled′)) m
-      read-stuck e old p w st = step-stuck (taken-read st) (subst (λ b. Flipped (taken-read st) b filled′ m) e (flipped-read st))
+      read-stuck e old p w st = step-stuck (taken-read st)
+          (subst (λ b. Flipped (taken-read st) b filled′ m) e (flipped-read st))

@@ -1,4 +1,5 @@
--- What the search leaves in the slots where it answers 'unsatisfiable': a stable set, of which a certificate is made. Assumes nothing.
+-- What the search leaves in the slots where it answers 'unsatisfiable': a stable set, of which a certificate is made.
+-- Assumes nothing.
 use mathlib.Core.List.{List, append-nil}
 use mathlib.Core.Path.{subst}
 use Prim.Native.Nat.{ℕ, _≤_}
@@ -17,11 +18,19 @@ module _ (pb : Problem) (capacity : ℕ) where
 
   -- no slot waits: all are processed
   closed : {p : List Slot} → Filled pb capacity p → ((t : Slot) → t ∈ p → Processed pb p t) → ClosedSlots pb p
-  closed f h = record { nonempty = f .nonempty; below = f .below; distinct = f .distinct; settled = λ t m. settled (h t m) }
+  closed f h = record {
+    nonempty = f .nonempty;
+    below = f .below;
+    distinct = f .distinct;
+    settled = λ t m. settled
+        (h t m);
+  }
 
   closed-ended : {k : ℕ} {l : List Slot} → Ended pb capacity (unsatisfiable k) l → ClosedSlots pb l
   closed-ended (exhausted {p = p} i) =
-      closed (subst (Filled pb capacity) (append-nil p) (i .filled)) (λ t m. subst (λ l. Processed pb l t) (append-nil p) (i .processed t m))
+      closed (subst (Filled pb capacity) (append-nil p) (i .filled))
+      (λ t m. subst (λ l. Processed pb l t) (append-nil p) (i .processed t m))
 
-  pub refuted-closed : Ready pb → 1 ≤ capacity → {k : ℕ} {l : List Slot} → Walks pb capacity (start pb) (unsatisfiable k) l → ClosedSlots pb l
+  pub refuted-closed : Ready pb → 1 ≤ capacity → {k : ℕ} {l : List Slot}
+      → Walks pb capacity (start pb) (unsatisfiable k) l → ClosedSlots pb l
   refuted-closed ready room t = closed-ended (search-ends pb capacity ready room t)

@@ -14,11 +14,14 @@ use Rattle.search_theory.specs.Walk.{Slot, withNumber, State, start, Wal
 
 module _ (pb : Problem) (capacity : ℕ) where
   -- an answer is one of three
-  pub otherwise-unsatisfiable : {st : State} {r : Reply} {l : List Slot} → Walks pb capacity st r l → ((b k : ℕ) → r ≡ unknown b k → ⊥) → ((x d k : ℕ) → r ≡ satisfiable x d k → ⊥)
+  pub otherwise-unsatisfiable : {st : State} {r : Reply} {l : List Slot} → Walks pb capacity st r l
+      → ((b k : ℕ) → r ≡ unknown b k → ⊥) → ((x d k : ℕ) → r ≡ satisfiable x d k → ⊥)
       → r ≡ unsatisfiable (length l)
   otherwise-unsatisfiable none-left known lost = refl
-  otherwise-unsatisfiable (met {p = p} {w = w} {s = s} h) known lost = absurd (lost (s .point) (distance (pb .variables) (s .point) (pb .target)) (length (p ++ s ∷ w)) refl)
-  otherwise-unsatisfiable (stuck {p = p} {w′ = u} {s = s} {c = c} f g) known lost = absurd (known (s .depth) (length ((p ++ withNumber s c ∷ []) ++ u)) refl)
+  otherwise-unsatisfiable (met {p = p} {w = w} {s = s} h) known lost = absurd
+      (lost (s .point) (distance (pb .variables) (s .point) (pb .target)) (length (p ++ s ∷ w)) refl)
+  otherwise-unsatisfiable (stuck {p = p} {w′ = u} {s = s} {c = c} f g) known lost = absurd
+      (known (s .depth) (length ((p ++ withNumber s c ∷ []) ++ u)) refl)
   otherwise-unsatisfiable (goes-on f g t) known lost = otherwise-unsatisfiable t known lost
 
 module _ (pb : Problem) (capacity : ℕ) (ready : Ready pb) where
@@ -31,12 +34,19 @@ module _ (pb : Problem) (capacity : ℕ) (ready : Ready pb) where
     refuted t = refuted-ended (search-ends pb capacity ready room t)
 
     -- without a satisfying point none is handed back
-    pub none-found : Unsatisfiable pb → {r : Reply} {l : List Slot} → Walks pb capacity (start pb) r l → ((b k : ℕ) → r ≡ unknown b k → ⊥) → r ≡ unsatisfiable (length l)
+    pub none-found : Unsatisfiable pb → {r : Reply} {l : List Slot} → Walks pb capacity (start pb) r l
+        → ((b k : ℕ) → r ≡ unknown b k → ⊥) → r ≡ unsatisfiable (length l)
     none-found none {l = l} t known =
         otherwise-unsatisfiable pb capacity t known
-        (λ x d k e. let m = found-nearest pb capacity ready room (subst (λ r. Walks pb capacity (start pb) r l) e t) in none x (m .within) (m .satisfying))
+        (λ x d k e. let m = found-nearest pb capacity ready room (subst (λ r. Walks pb capacity (start pb) r l) e t) in
+        none x (m .within) (m .satisfying))
 
     -- D3.3: "Unless 'no room' is said, 'cannot be met' is said exactly when none of the 2^n choices meets the rules."
-    pub unsatisfiable-exactly : {r : Reply} {l : List Slot} → Walks pb capacity (start pb) r l → ((b k : ℕ) → r ≡ unknown b k → ⊥)
+    pub unsatisfiable-exactly : {r : Reply} {l : List Slot} → Walks pb capacity (start pb) r l
+        → ((b k : ℕ) → r ≡ unknown b k → ⊥)
         → ((k : ℕ) → r ≡ unsatisfiable k → Unsatisfiable pb) × (Unsatisfiable pb → r ≡ unsatisfiable (length l))
-    unsatisfiable-exactly {l = l} t known = (λ k e. refuted (subst (λ r. Walks pb capacity (start pb) r l) e t), λ none. none-found none t known)
+    unsatisfiable-exactly {l = l} t known = (
+      λ k e. refuted (subst (λ r. Walks pb capacity (start pb) r l) e t),
+      λ none.
+          none-found none t known,
+    )

@@ -1,5 +1,5 @@
--- The flips of one slot: while they are filled the invariants stay, and once all are looked at each is covered by the filled slots.
--- Assumes nothing.
+-- The flips of one slot: while they are filled the invariants stay, and once all are looked at each is covered by the
+-- filled slots. Assumes nothing.
 use mathlib.Core.List.{List, [], _∷_, _++_, append-assoc, List·Memᴰ·tail, Memᴰ·append-left, Memᴰ·append-right}
 use mathlib.Core.Path.{_≡_, refl, _∙_, subst}
 use Prim.Native.Nat.{ℕ, suc, _+_, _≤_, _<_, suc-le-suc}
@@ -16,9 +16,12 @@ use Rattle.permutation_theory.specs.Permutations.{Covered, itself}
 use Rattle.point_theory.specs.Laws.Maps.{CoveredBy, in-set}
 use Rattle.permutation_theory.specs.Laws.Symmetries.{covered-through}
 use Rattle.formula.specs.Problem.{Problem}
-use Rattle.search_theory.specs.Laws.InvariantLaws.{covered-wider, held, filled-moved, family-moved, filled-more, family-more}
-use Rattle.search_theory.specs.Laws.Invariants.{maps, slotAt, Moved, Parent, Held, Processed, Filled, Family, Invariants, Expanding}
-use Rattle.search_theory.specs.Walk.{Slot, slot, pointsIn, withNumber, Expansion, complete, full, Fills, no-more, skipped, filled-next, no-room}
+use Rattle.search_theory.specs.Laws.InvariantLaws.{covered-wider, held, filled-moved, family-moved, filled-more}
+use Rattle.search_theory.specs.Laws.InvariantLaws.{family-more}
+use Rattle.search_theory.specs.Laws.Invariants.{maps, slotAt, Moved, Parent, Held, Processed, Filled, Family}
+use Rattle.search_theory.specs.Laws.Invariants.{Invariants, Expanding}
+use Rattle.search_theory.specs.Walk.{Slot, slot, pointsIn, withNumber, Expansion, complete, full, Fills, no-more}
+use Rattle.search_theory.specs.Walk.{skipped, filled-next, no-room}
 use Rattle.search_theory.specs.Laws.WalkLaws.{waitingIn}
 
 -- ---- the flips of the slot q, whose clause's variables are among vs
@@ -39,22 +42,30 @@ module _ (pb : Problem) (capacity : ℕ) (known : List Slot) (q : Slot) (moved :
   Reached u v = CoveredBy (maps pb) (Held (known ++ u) (suc (q .depth))) (flip (q .point) v)
 
   -- no filled slot is more than one deeper
-  pub depths-next : {w : List Slot} → Expanding pb capacity known q w → (t : Slot) → t ∈ (known ++ w) → t .depth ≤ suc (q .depth)
-  depths-next e = each-append (λ t. t .depth ≤ suc (q .depth)) known (λ t m. le-step (e .settled t m)) (λ t m. e .next t m .1)
+  pub depths-next : {w : List Slot} → Expanding pb capacity known q w → (t : Slot) → t ∈ (known ++ w)
+      → t .depth ≤ suc (q .depth)
+  depths-next e = each-append (λ t. t .depth ≤ suc (q .depth)) known (λ t m. le-step (e .settled t m))
+      (λ t m. e .next t m .1)
 
   -- one more slot, from q
-  one-more : (w : List Slot) (v : ℕ) → v ∈ variables (pb .variables) (moved .clause .clause) → (Covered (pb .permutations) (pointsIn (known ++ w)) (flip (q .point) v) → ⊥)
-      → length (known ++ w) < capacity → Expanding pb capacity known q w → Expanding pb capacity known q (w ++ child v ∷ [])
+  one-more : (w : List Slot) (v : ℕ) → v ∈ variables (pb .variables) (moved .clause .clause)
+      → (Covered (pb .permutations) (pointsIn (known ++ w)) (flip (q .point) v) → ⊥)
+      → length (known ++ w) < capacity → Expanding pb capacity known q w
+      → Expanding pb capacity known q (w ++ child v ∷ [])
   one-more w v listed uncovered room e =
       record {
         filled = subst (Filled pb capacity) (append-assoc known w (t ∷ []))
-            (filled-more pb capacity (known ++ w) t q parent (e .filled) (Memᴰ·append-left w (e .among)) (λ m. uncovered (itself m)) room (depths-next e));
+            (filled-more pb capacity (known ++ w) t q parent (e .filled) (Memᴰ·append-left w (e .among))
+            (λ m. uncovered (itself m)) room (depths-next e));
         family = subst (λ l. Family pb l (length known)) (append-assoc known w (t ∷ []))
-            (family-more pb capacity (known ++ w) t q parent (length known) (at .0) (at .1) (lt-of-lt-of-le (at .1) longer) (List·getD-append known w (slot 0 0 0) (at .0) (at .1) ∙ at .2) (e .family));
+            (family-more pb capacity (known ++ w) t q parent (length known) (at .0) (at .1)
+            (lt-of-lt-of-le (at .1) longer) (List·getD-append known w (slot 0 0 0) (at .0) (at .1) ∙ at .2)
+            (e .family));
         unnumbered = each-snoc (λ u. u .falsified ≡ 0) w (e .unnumbered) refl;
         among = e .among;
         settled = e .settled;
-        next = each-snoc (λ u. (q .depth ≤ u .depth) × (u .depth ≤ suc (q .depth))) w (e .next) (le-step (le-refl (q .depth)), le-refl (suc (q .depth)));
+        next = each-snoc (λ u. (q .depth ≤ u .depth) × (u .depth ≤ suc (q .depth))) w (e .next)
+            (le-step (le-refl (q .depth)), le-refl (suc (q .depth)));
       }
     where
       t : Slot
@@ -69,10 +80,12 @@ module _ (pb : Problem) (capacity : ℕ) (known : List Slot) (q : Slot) (moved :
       longer : length known ≤ length (known ++ w)
       longer = let s : length (known ++ w) ≡ length known + length w = length-append known w in omega arith
 
-  -- T1: "Taking the newest point: still sound, but the choice is no longer nearest.": a slot put in front of those that wait is refused here,
-  -- where `one-more` keeps the depths ascending for the last place alone. T2: "Storing the exchange's image instead of the flipped point:
-  -- changes lose their meaning.": so is another point than the flipped one, for which `one-more` has no parent
-  pub fills-expanding : {vs : List ℕ} {w : List Slot} {r : Expansion} → fills vs w r → Listed vs → Expanding pb capacity known q w → Expanding pb capacity known q (waitingIn r)
+  -- T1: "Taking the newest point: still sound, but the choice is no longer nearest.": a slot put in front of those that
+  -- wait is refused here, where `one-more` keeps the depths ascending for the last place alone. T2: "Storing the
+  -- exchange's image instead of the flipped point: changes lose their meaning.": so is another point than the flipped
+  -- one, for which `one-more` has no parent
+  pub fills-expanding : {vs : List ℕ} {w : List Slot} {r : Expansion} → fills vs w r → Listed vs
+      → Expanding pb capacity known q w → Expanding pb capacity known q (waitingIn r)
   fills-expanding no-more listed e = e
   fills-expanding (skipped c f) listed e = fills-expanding f (λ v m. listed v (List·Memᴰ·tail m)) e
   fills-expanding (filled-next {v = v} {vs = vs} {w = w} c h f) listed e =
@@ -87,22 +100,26 @@ module _ (pb : Problem) (capacity : ℕ) (known : List Slot) (q : Slot) (moved :
   fills-grow (no-room c h) t m = m
 
   -- a point that is covered by the filled slots is so by slots at most one deeper than q, whatever is filled later
-  still-covered : {w u : List Slot} {y : ℕ} → Expanding pb capacity known q w → ((t : Slot) → t ∈ w → t ∈ u) → Covered (pb .permutations) (pointsIn (known ++ w)) y
+  still-covered : {w u : List Slot} {y : ℕ} → Expanding pb capacity known q w → ((t : Slot) → t ∈ w → t ∈ u)
+      → Covered (pb .permutations) (pointsIn (known ++ w)) y
       → CoveredBy (maps pb) (Held (known ++ u) (suc (q .depth))) y
   still-covered {w} {u} {y} e more c =
-      covered-wider (λ z m. wider (held (known ++ w) (suc (q .depth)) z (depths-next e) m)) (covered-through (pb .permutations) (pointsIn (known ++ w)) y c)
+      covered-wider (λ z m. wider (held (known ++ w) (suc (q .depth)) z (depths-next e) m))
+      (covered-through (pb .permutations) (pointsIn (known ++ w)) y c)
     where
       wider : {z : ℕ} → Held (known ++ w) (suc (q .depth)) z → Held (known ++ u) (suc (q .depth)) z
       wider h =
           record {
             holder = h .holder;
-            among = each-append (λ t. t ∈ (known ++ u)) known (λ t m. Memᴰ·append-left u m) (λ t m. Memᴰ·append-right known (more t m)) (h .holder) (h .among);
+            among = each-append (λ t. t ∈ (known ++ u)) known (λ t m. Memᴰ·append-left u m)
+                (λ t m. Memᴰ·append-right known (more t m)) (h .holder) (h .among);
             point = h .point;
             shallow = h .shallow;
           }
 
   -- every flip that was looked at is covered
-  pub fills-cover : {vs : List ℕ} {w u : List Slot} → fills vs w (complete u) → Listed vs → Expanding pb capacity known q w
+  pub fills-cover : {vs : List ℕ} {w u : List Slot} → fills vs w (complete u) → Listed vs
+      → Expanding pb capacity known q w
       → (v : ℕ) → v ∈ vs → Reached u v
   fills-cover {u = u} no-more listed e = each-nil (Reached u)
   fills-cover {u = u} (skipped c f) listed e =
@@ -111,19 +128,27 @@ module _ (pb : Problem) (capacity : ℕ) (known : List Slot) (q : Slot) (moved :
   fills-cover {u = u} (filled-next {v = v} {vs = vs} {w = w} c h f) listed e =
       let e′ = one-more w v (listed v (here v vs)) c h e in
       each-cons (Reached u)
-      (in-set (record { holder = child v; among = Memᴰ·append-right known (fills-grow f (child v) (last-in w (child v))); point = refl; shallow = le-refl (suc (q .depth)) }))
+      (in-set (record {
+        holder = child v;
+        among = Memᴰ·append-right known
+            (fills-grow f (child v) (last-in w (child v)));
+        point = refl;
+        shallow = le-refl (suc (q .depth));
+      }))
       (fills-cover f (λ v m. listed v (List·Memᴰ·tail m)) e′)
 
   -- a flip that found no room is not covered, and all slots are filled
   pub fills-stuck : {vs : List ℕ} {w u : List Slot} → fills vs w (full u)
-      → (v : ℕ) × (v ∈ vs) × (Covered (pb .permutations) (pointsIn (known ++ u)) (flip (q .point) v) → ⊥) × (capacity ≤ length (known ++ u))
+      → (v : ℕ) × (v ∈ vs) × (Covered (pb .permutations) (pointsIn (known ++ u)) (flip (q .point) v) → ⊥)
+      × (capacity ≤ length (known ++ u))
   fills-stuck (skipped c f) = let r = fills-stuck f in (r .0, List·Memᴰ·tail (r .1), r .2, r .3)
   fills-stuck (filled-next c h f) = let r = fills-stuck f in (r .0, List·Memᴰ·tail (r .1), r .2, r .3)
   fills-stuck (no-room {v = v} {vs = vs} c h) = (v, here v vs, c, h)
 
 -- ---- a step from a state: its first waiting slot s is processed by way of its clause c
 
-module _ (pb : Problem) (capacity : ℕ) (p w : List Slot) (s : Slot) (c : Numbered) (first : FirstFalsified (pb .clauses) (s .point) c) where
+module _ (pb : Problem) (capacity : ℕ) (p w : List Slot) (s : Slot) (c : Numbered)
+    (first : FirstFalsified (pb .clauses) (s .point) c) where
   abbrev q : Slot
   q = withNumber s c
 
@@ -134,15 +159,22 @@ module _ (pb : Problem) (capacity : ℕ) (p w : List Slot) (s : Slot) (c : Numbe
   numbered-moved = record { clause = c; first = first; number = refl }
 
   -- the slot is numbered: its flips can be filled
-  pub begins-expanding : Invariants pb capacity p (s ∷ w) → Expanding pb capacity (p ++ withNumber s c ∷ []) (withNumber s c) w
+  pub begins-expanding : Invariants pb capacity p (s ∷ w)
+      → Expanding pb capacity (p ++ withNumber s c ∷ []) (withNumber s c) w
   begins-expanding i =
       record {
         filled = filled;
         family = family-moved pb capacity p w s q refl refl (i .family);
         unnumbered = λ t m. i .unnumbered t (List·Memᴰ·tail m);
         among = last-in p q;
-        settled = each-snoc (λ t. t .depth ≤ s .depth) p (λ t m. before-after Shallower (slot 0 0 0) p (s ∷ w) (i .filled .ascending) t s m (here s w)) (le-refl (s .depth));
-        next = λ t m. (before-after Shallower (slot 0 0 0) known w (filled .ascending) q t (last-in p q) m, i .level s t (here s w) (List·Memᴰ·tail m));
+        settled = each-snoc (λ t. t .depth ≤ s .depth) p
+            (λ t m. before-after Shallower (slot 0 0 0) p (s ∷ w) (i .filled .ascending) t s m (here s w))
+            (le-refl (s .depth));
+        next = λ t m. (
+          before-after Shallower (slot 0 0 0) known w (filled .ascending) q t (last-in p q) m,
+          i .level s t
+              (here s w) (List·Memᴰ·tail m),
+        );
       }
     where
       Shallower : Slot → Slot → Type 0
@@ -153,7 +185,8 @@ module _ (pb : Problem) (capacity : ℕ) (p w : List Slot) (s : Slot) (c : Numbe
 
   -- all its flips are looked at: the next state
   pub invariants-step : {u : List Slot} → Invariants pb capacity p (s ∷ w)
-      → Fills (pb .permutations) capacity (p ++ withNumber s c ∷ []) (s .point) (s .depth) (variables (pb .variables) (c .clause)) w (complete u)
+      → Fills (pb .permutations) capacity (p ++ withNumber s c ∷ []) (s .point) (s .depth)
+      (variables (pb .variables) (c .clause)) w (complete u)
       → Invariants pb capacity (p ++ withNumber s c ∷ []) u
   invariants-step {u} i f =
       let e = begins-expanding i in
@@ -174,7 +207,12 @@ module _ (pb : Problem) (capacity : ℕ) (p w : List Slot) (s : Slot) (c : Numbe
       wider : {k y : ℕ} → Held (p ++ s ∷ w) k y → Held (known ++ u) k y
       wider {k} {y} h =
           each-append (λ t. t .point ≡ y → t .depth ≤ k → Held (known ++ u) k y) p
-          (λ t m e d. record { holder = t; among = Memᴰ·append-left u (Memᴰ·append-left (q ∷ []) m); point = e; shallow = d })
+          (λ t m e d. record {
+            holder = t;
+            among = Memᴰ·append-left u (Memᴰ·append-left (q ∷ []) m);
+            point = e;
+            shallow = d;
+          })
           (each-cons (λ t. t .point ≡ y → t .depth ≤ k → Held (known ++ u) k y)
           (λ e d. record { holder = q; among = Memᴰ·append-left u (last-in p q); point = e; shallow = d })
           (λ t m e d. record { holder = t; among = Memᴰ·append-right known (grows t m); point = e; shallow = d }))

@@ -1,5 +1,5 @@
--- What every state of the search satisfies, and what is asked of the problem that is searched. Definitions alone; InvariantLaws,
--- ExpansionLaws and Ends show that they hold at the start and are kept, to the end. Assumes nothing.
+-- What every state of the search satisfies, and what is asked of the problem that is searched. Definitions alone;
+-- InvariantLaws, ExpansionLaws and Ends show that they hold at the start and are kept, to the end. Assumes nothing.
 use mathlib.Core.List.{List, [], _∷_, _++_, map}
 use mathlib.Core.Path.{_≡_}
 use Prim.Native.Nat.{ℕ, suc, _+_, _≤_, _<_, _^_}
@@ -16,12 +16,13 @@ use Rattle.search_theory.specs.Walk.{Slot, slot, pointsIn, withNumber, f
 
 -- ---- the problem
 
--- "In the mission an accepted sheet is one that neither reader nor builder refuses": what is used of it. Of a permutation that is that it
--- keeps distances and takes satisfying points to satisfying points, and no more
+-- "In the mission an accepted sheet is one that neither reader nor builder refuses": what is used of it. Of a
+-- permutation that is that it keeps distances and takes satisfying points to satisfying points, and no more
 pub record Ready (pb : Problem) : Type 0 where
   pub target-below : pb .target < 2 ^ pb .variables
   pub clauses-below : ClausesBelow (pb .variables) (pb .clauses)
-  pub symmetric : (e : Permutation) → e ∈ pb .permutations → Automorphism (pb .variables) (SatisfiesAll (pb .clauses)) (imageOfPoint e)
+  pub symmetric : (e : Permutation) → e ∈ pb .permutations
+      → Automorphism (pb .variables) (SatisfiesAll (pb .clauses)) (imageOfPoint e)
 
 -- the maps of points that the permutations are
 abbrev pub maps : Problem → List (ℕ → ℕ)
@@ -33,13 +34,15 @@ maps pb = map imageOfPoint (pb .permutations)
 abbrev pub slotAt : List Slot → ℕ → Slot
 slotAt l i = getD l i (slot 0 0 0)
 
--- "its rule is the lowest-numbered one unmet; that number goes into its slot": the slot q has the number of the clause that its point falsifies first
+-- "its rule is the lowest-numbered one unmet; that number goes into its slot": the slot q has the number of the clause
+-- that its point falsifies first
 pub record Moved (pb : Problem) (q : Slot) : Type 0 where
   pub clause : Numbered
   pub first : FirstFalsified (pb .clauses) (q .point) clause
   pub number : q .falsified ≡ clause .number
 
--- "For each name listed there, .. the point with that name flipped .. fills the next slot with .. depth one more": t was filled from q
+-- "For each name listed there, .. the point with that name flipped .. fills the next slot with .. depth one more": t
+-- was filled from q
 pub record Parent (pb : Problem) (q t : Slot) : Type 0 where
   pub moved : Moved pb q
   pub variable : ℕ
@@ -54,10 +57,12 @@ pub record Held (l : List Slot) (k y : ℕ) : Type 0 where
   pub point : holder .point ≡ y
   pub shallow : holder .depth ≤ k
 
--- the slot q is processed: each flip of a variable of its clause is covered by the filled slots, l, one deeper at the most
+-- the slot q is processed: each flip of a variable of its clause is covered by the filled slots, l, one deeper at the
+-- most
 pub record Processed (pb : Problem) (l : List Slot) (q : Slot) : Type 0 where
   pub moved : Moved pb q
-  pub flips : (v : ℕ) → v ∈ variables (pb .variables) (moved .clause .clause) → CoveredBy (maps pb) (Held l (suc (q .depth))) (flip (q .point) v)
+  pub flips : (v : ℕ) → v ∈ variables (pb .variables) (moved .clause .clause)
+      → CoveredBy (maps pb) (Held l (suc (q .depth))) (flip (q .point) v)
 
 -- ---- the filled slots, whichever of them are processed
 
@@ -121,7 +126,11 @@ pub record Ahead (pb : Problem) (w : List Slot) (k : ℕ) : Type 0 where
 pub data Ended (pb : Problem) (capacity : ℕ) : Reply → List Slot → Type 0 where
   exhausted : {p : List Slot} → Invariants pb capacity p [] → Ended pb capacity (unsatisfiable (length p)) p
   reached : {p w : List Slot} {s : Slot} → Invariants pb capacity p (s ∷ w) → SatisfiesAll (pb .clauses) (s .point)
-      → Ended pb capacity (satisfiable (s .point) (distance (pb .variables) (s .point) (pb .target)) (length (p ++ s ∷ w))) (p ++ s ∷ w)
-  blocked : {p w u : List Slot} {s : Slot} {c : Numbered} → Invariants pb capacity p (s ∷ w) → FirstFalsified (pb .clauses) (s .point) c
-      → Fills (pb .permutations) capacity (p ++ withNumber s c ∷ []) (s .point) (s .depth) (variables (pb .variables) (c .clause)) w (full u)
-      → Ended pb capacity (unknown (s .depth) (length ((p ++ withNumber s c ∷ []) ++ u))) ((p ++ withNumber s c ∷ []) ++ u)
+      → Ended pb capacity (satisfiable (s .point) (distance (pb .variables) (s .point) (pb .target))
+      (length (p ++ s ∷ w))) (p ++ s ∷ w)
+  blocked : {p w u : List Slot} {s : Slot} {c : Numbered} → Invariants pb capacity p (s ∷ w)
+      → FirstFalsified (pb .clauses) (s .point) c
+      → Fills (pb .permutations) capacity (p ++ withNumber s c ∷ []) (s .point) (s .depth)
+      (variables (pb .variables) (c .clause)) w (full u)
+      → Ended pb capacity (unknown (s .depth) (length ((p ++ withNumber s c ∷ []) ++ u)))
+      ((p ++ withNumber s c ∷ []) ++ u)

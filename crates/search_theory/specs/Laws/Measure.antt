@@ -1,5 +1,5 @@
--- The one measure of the search, a slot's depth and its distance to a satisfying point together: some waiting slot has one that is no more
--- than the target's own distance to that point. Why the nearest point is found. Assumes nothing.
+-- The one measure of the search, a slot's depth and its distance to a satisfying point together: some waiting slot has
+-- one that is no more than the target's own distance to that point. Why the nearest point is found. Assumes nothing.
 use mathlib.Core.List.{List, _++_, List·Memᴰ·append-cases, Memᴰ·append-left}
 use mathlib.Core.Logic.{⊎-elim}
 use mathlib.Core.Path.{_≡_, ap, _∙_}
@@ -22,29 +22,44 @@ module _ (pb : Problem) (capacity : ℕ) (ready : Ready pb) (p w : List Slot) (i
   next q m s hs sat =
       let h = i .processed q m in
       let c = h .moved .clause in
-      comes-nearer (pb .variables) (SatisfiesAll (pb .clauses)) (maps pb) (Held (p ++ w) (suc (q .depth))) (symmetries-of pb ready) (q .point) s
+      comes-nearer (pb .variables) (SatisfiesAll (pb .clauses)) (maps pb) (Held (p ++ w) (suc (q .depth)))
+      (symmetries-of pb ready) (q .point) s
       (i .filled .below q (Memᴰ·append-left w m)) hs sat
-      (clause-moves (pb .variables) (maps pb) (Held (p ++ w) (suc (q .depth))) (c .clause) (q .point) s (ready .clauses-below c (first-in (h .moved .first)))
+      (clause-moves (pb .variables) (maps pb) (Held (p ++ w) (suc (q .depth))) (c .clause) (q .point) s
+      (ready .clauses-below c (first-in (h .moved .first)))
       (h .moved .first .falsified) (sat c (first-in (h .moved .first))) (h .flips))
 
   -- a waiting slot is itself one
-  waits : (q : Slot) → q ∈ w → (s : ℕ) → s < 2 ^ pb .variables → SatisfiesAll (pb .clauses) s → (k : ℕ) → distance (pb .variables) (q .point) s ≡ k
+  waits : (q : Slot) → q ∈ w → (s : ℕ) → s < 2 ^ pb .variables → SatisfiesAll (pb .clauses) s → (k : ℕ)
+      → distance (pb .variables) (q .point) s ≡ k
       → Ahead pb w (q .depth + k)
   waits q m s hs sat k e =
-      record { ahead = q; among = m; solution = s; within = hs; satisfying = sat; reaches = le-of-eq (ap (λ d. q .depth + d) e) }
+      record {
+        ahead = q;
+        among = m;
+        solution = s;
+        within = hs;
+        satisfying = sat;
+        reaches = le-of-eq
+            (ap (λ d. q .depth + d) e);
+      }
 
   -- from any filled slot, by its distance k to a satisfying point: a processed one leads to a nearer one
-  from : (k : ℕ) (q : Slot) → q ∈ (p ++ w) → (s : ℕ) → s < 2 ^ pb .variables → SatisfiesAll (pb .clauses) s → distance (pb .variables) (q .point) s ≡ k
+  from : (k : ℕ) (q : Slot) → q ∈ (p ++ w) → (s : ℕ) → s < 2 ^ pb .variables → SatisfiesAll (pb .clauses) s
+      → distance (pb .variables) (q .point) s ≡ k
       → Ahead pb w (q .depth + k)
   from zero q m s hs sat e =
-      ⊎-elim (λ k. absurd (never (next q k s hs sat .one-less))) (λ k. waits q k s hs sat 0 e) (List·Memᴰ·append-cases p m)
+      ⊎-elim (λ k. absurd (never (next q k s hs sat .one-less))) (λ k. waits q k s hs sat 0 e)
+      (List·Memᴰ·append-cases p m)
     where
       never : {d : ℕ} → suc d ≡ distance (pb .variables) (q .point) s → ⊥
       never h = omega arith
-  from (suc k) q m s hs sat e = ⊎-elim (λ j. deeper (next q j s hs sat) (from k)) (λ j. waits q j s hs sat (suc k) e) (List·Memᴰ·append-cases p m)
+  from (suc k) q m s hs sat e = ⊎-elim (λ j. deeper (next q j s hs sat) (from k)) (λ j. waits q j s hs sat (suc k) e)
+      (List·Memᴰ·append-cases p m)
     where
       deeper : Nearer (pb .variables) (SatisfiesAll (pb .clauses)) (Held (p ++ w) (suc (q .depth))) (q .point) s
-          → ((t : Slot) → t ∈ (p ++ w) → (y : ℕ) → y < 2 ^ pb .variables → SatisfiesAll (pb .clauses) y → distance (pb .variables) (t .point) y ≡ k → Ahead pb w (t .depth + k))
+          → ((t : Slot) → t ∈ (p ++ w) → (y : ℕ) → y < 2 ^ pb .variables → SatisfiesAll (pb .clauses) y
+          → distance (pb .variables) (t .point) y ≡ k → Ahead pb w (t .depth + k))
           → Ahead pb w (q .depth + suc k)
       deeper z rest =
           let h = z .member in
@@ -63,10 +78,12 @@ module _ (pb : Problem) (capacity : ℕ) (ready : Ready pb) (p w : List Slot) (i
           sum d le = omega arith
 
   -- from the target: for every satisfying point a waiting slot is so near to some satisfying point
-  pub measure : (s : ℕ) → s < 2 ^ pb .variables → SatisfiesAll (pb .clauses) s → Ahead pb w (distance (pb .variables) (pb .target) s)
+  pub measure : (s : ℕ) → s < 2 ^ pb .variables → SatisfiesAll (pb .clauses) s
+      → Ahead pb w (distance (pb .variables) (pb .target) s)
   measure s hs sat =
       let f = i .filled in
-      let a = from (distance (pb .variables) (pb .target) s) (slotAt (p ++ w) 0) (getD-in (p ++ w) 0 (slot 0 0 0) (f .nonempty)) s hs sat
+      let a = from (distance (pb .variables) (pb .target) s) (slotAt (p ++ w) 0)
+      (getD-in (p ++ w) 0 (slot 0 0 0) (f .nonempty)) s hs sat
       (ap (λ x. distance (pb .variables) x s) (f .begins)) in
       record {
         ahead = a .ahead;

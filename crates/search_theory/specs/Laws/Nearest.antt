@@ -15,7 +15,8 @@ use Rattle.search_theory.specs.Walk.{Slot, start, Walks}
 
 module _ (pb : Problem) (capacity : ℕ) (ready : Ready pb) where
   -- the slot's distance is at most its depth, and its depth at most the distance of any satisfying point, so of its own
-  nearest-ended : {x d k : ℕ} {l : List Slot} → Ended pb capacity (satisfiable x d k) l → Nearest pb x d × HandedBack l x d
+  nearest-ended : {x d k : ℕ} {l : List Slot} → Ended pb capacity (satisfiable x d k) l
+      → Nearest pb x d × HandedBack l x d
   nearest-ended (reached {p = p} {w = w} {s = s} i sat) =
       let m : s ∈ (p ++ s ∷ w) = Memᴰ·append-right p (here s w) in
       let least = lower-bound pb capacity ready p w s i (s .depth) (le-refl (s .depth)) in (
@@ -34,11 +35,12 @@ module _ (pb : Problem) (capacity : ℕ) (ready : Ready pb) where
         },
       )
 
-  module _ (room : 1 ≤ capacity) {x d k : ℕ} {l : List Slot} (t : Walks pb capacity (start pb) (satisfiable x d k) l) where
-    -- D3.1, D3.2
-    pub found-nearest : Nearest pb x d
-    found-nearest = nearest-ended (search-ends pb capacity ready room t) .0
+  module _ (room : 1 ≤ capacity) {x d k : ℕ} {l : List Slot} (t : Walks pb capacity (start pb) (satisfiable x d k) l)
+    where
+      -- D3.1, D3.2
+      pub found-nearest : Nearest pb x d
+      found-nearest = nearest-ended (search-ends pb capacity ready room t) .0
 
-    -- its slot: the depth equals the distance, also where it exceeds that of other slots' points
-    pub found-slot : HandedBack l x d
-    found-slot = nearest-ended (search-ends pb capacity ready room t) .1
+      -- its slot: the depth equals the distance, also where it exceeds that of other slots' points
+      pub found-slot : HandedBack l x d
+      found-slot = nearest-ended (search-ends pb capacity ready room t) .1

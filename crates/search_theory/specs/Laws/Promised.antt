@@ -1,4 +1,5 @@
--- What the answers of the search promise. Definitions alone; Nearest, Complete, Bound and Closed show that they hold. Assumes nothing.
+-- What the answers of the search promise. Definitions alone; Nearest, Complete, Bound and Closed show that they hold.
+-- Assumes nothing.
 use mathlib.Core.List.{List}
 use mathlib.Core.Path.{_≡_}
 use Prim.Native.Nat.{ℕ, _≤_, _<_, _^_}
@@ -14,9 +15,11 @@ use Rattle.search_theory.specs.Walk.{Slot, pointsIn}
 
 -- D3.7: "every choice that meets the rules differs from the wish in at least d names"
 abbrev pub LowerBound : Problem → ℕ → Type 0
-LowerBound pb d = (y : ℕ) → y < 2 ^ pb .variables → SatisfiesAll (pb .clauses) y → d ≤ distance (pb .variables) y (pb .target)
+LowerBound pb d = (y : ℕ) → y < 2 ^ pb .variables → SatisfiesAll (pb .clauses) y
+    → d ≤ distance (pb .variables) y (pb .target)
 
--- D3.1: "A choice handed back meets the rules, and every other choice that meets them differs from the client's wish in at least as many names."
+-- D3.1: "A choice handed back meets the rules, and every other choice that meets them differs from the client's wish in
+-- at least as many names."
 pub record Nearest (pb : Problem) (x d : ℕ) : Type 0 where
   pub within : x < 2 ^ pb .variables
   pub satisfying : SatisfiesAll (pb .clauses) x
@@ -32,10 +35,12 @@ pub record HandedBack (l : List Slot) (x d : ℕ) : Type 0 where
   pub unnumbered : holder .falsified ≡ 0
   pub depth : holder .depth ≡ d
 
--- "each point fails its rule, and each point got by flipping a name of that rule is covered by the points": the slot t among the slots l
+-- "each point fails its rule, and each point got by flipping a name of that rule is covered by the points": the slot t
+-- among the slots l
 pub record Settled (pb : Problem) (l : List Slot) (t : Slot) : Type 0 where
   pub moved : Moved pb t
-  pub flips : (v : ℕ) → v ∈ variables (pb .variables) (moved .clause .clause) → Covered (pb .permutations) (pointsIn l) (flip (t .point) v)
+  pub flips : (v : ℕ) → v ∈ variables (pb .variables) (moved .clause .clause)
+      → Covered (pb .permutations) (pointsIn l) (flip (t .point) v)
 
 -- the slots l are a stable set: what a certificate is made of
 pub record ClosedSlots (pb : Problem) (l : List Slot) : Type 0 where

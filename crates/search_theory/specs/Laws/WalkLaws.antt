@@ -1,5 +1,5 @@
--- The search as computed is the search as the sentence has it: what `walk` gives is what `Walks` says, and `Walks` says one thing only.
--- Assumes nothing.
+-- The search as computed is the search as the sentence has it: what `walk` gives is what `Walks` says, and `Walks` says
+-- one thing only. Assumes nothing.
 use mathlib.Core.Bool.{Bool, true, false, true≢false}
 use mathlib.Core.List.{List, [], _∷_, _++_}
 use mathlib.Core.Option.{Option, some, none}
@@ -19,7 +19,10 @@ use Rattle.permutation_theory.specs.Laws.PermutationLaws.{covered-sound, covere
 use Rattle.permutation_theory.specs.Permutations.{Permutation, Covered, covered}
 use Rattle.formula.specs.Problem.{Problem}
 use Rattle.formula.specs.Reply.{Reply}
-use Rattle.search_theory.specs.Walk.{Slot, slot, pointsIn, withNumber, State, state, filled, start, Expansion, complete, full, filledBy, queued, Fills, no-more, skipped, filled-next, no-room, placed, expand, Walks, none-left, met, stuck, goes-on, expanded, processedBy, Ending, followed, walk, walked}
+use Rattle.search_theory.specs.Walk.{Slot, slot, pointsIn, withNumber, State, state, filled, start, Expansion}
+use Rattle.search_theory.specs.Walk.{complete, full, filledBy, queued, Fills, no-more, skipped, filled-next}
+use Rattle.search_theory.specs.Walk.{no-room, placed, expand, Walks, none-left, met, stuck, goes-on, expanded}
+use Rattle.search_theory.specs.Walk.{processedBy, Ending, followed, walk, walked}
 
 -- a test that failed is a point that is not covered
 uncovered : (es : List Permutation) (ps : List ℕ) (y : ℕ) → covered es ps y ≡ false → Covered es ps y → ⊥
@@ -52,35 +55,44 @@ module _ (es : List Permutation) (capacity : ℕ) (known : List Slot) (x d : ℕ
   stays-full [] w = refl
   stays-full (v ∷ vs) w = stays-full vs w
 
-  pub expand-fills : (vs : List ℕ) (w : List Slot) → Fills es capacity known x d vs w (expand es capacity known x d vs (complete w))
+  pub expand-fills : (vs : List ℕ) (w : List Slot)
+      → Fills es capacity known x d vs w (expand es capacity known x d vs (complete w))
   unfolding expand
   expand-fills [] w = no-more
-  expand-fills (v ∷ vs) w = by (covered es (pointsIn (known ++ w)) (flip x v)) (ltb (length (known ++ w)) capacity) refl refl (expand-fills vs)
+  expand-fills (v ∷ vs) w = by (covered es (pointsIn (known ++ w)) (flip x v)) (ltb (length (known ++ w)) capacity) refl
+      refl (expand-fills vs)
     where
       by : (b t : Bool) → covered es (pointsIn (known ++ w)) (flip x v) ≡ b → ltb (length (known ++ w)) capacity ≡ t
-          → ((u : List Slot) → fills vs u (run vs (complete u))) → fills (v ∷ vs) w (run vs (placed es capacity known x d b t (flip x v) w))
+          → ((u : List Slot) → fills vs u (run vs (complete u)))
+          → fills (v ∷ vs) w (run vs (placed es capacity known x d b t (flip x v) w))
       by true t c r ih = skipped (covered-sound es (pointsIn (known ++ w)) (flip x v) c) (ih w)
       by false true c r ih =
-          filled-next (uncovered es (pointsIn (known ++ w)) (flip x v) c) (ltb-true (length (known ++ w)) capacity r) (ih (more w v))
+          filled-next (uncovered es (pointsIn (known ++ w)) (flip x v) c) (ltb-true (length (known ++ w)) capacity r)
+          (ih (more w v))
       by false false c r ih =
           subst (fills (v ∷ vs) w) (sym (stays-full vs w))
           (no-room (uncovered es (pointsIn (known ++ w)) (flip x v) c) (ltb-false (length (known ++ w)) capacity r))
 
-  pub fills-expand : {vs : List ℕ} {w : List Slot} {r : Expansion} → Fills es capacity known x d vs w r → expand es capacity known x d vs (complete w) ≡ r
+  pub fills-expand : {vs : List ℕ} {w : List Slot} {r : Expansion} → Fills es capacity known x d vs w r
+      → expand es capacity known x d vs (complete w) ≡ r
   unfolding expand
   fills-expand no-more = refl
   fills-expand (skipped {v = v} {vs = vs} {w = w} c f) =
-      ap (λ b. run vs (placed es capacity known x d b (ltb (length (known ++ w)) capacity) (flip x v) w)) (covered-complete es (pointsIn (known ++ w)) (flip x v) c)
+      ap (λ b. run vs (placed es capacity known x d b (ltb (length (known ++ w)) capacity) (flip x v) w))
+      (covered-complete es (pointsIn (known ++ w)) (flip x v) c)
       ∙ fills-expand f
   fills-expand (filled-next {v = v} {vs = vs} {w = w} c h f) =
-      ap₂ (λ b t. run vs (placed es capacity known x d b t (flip x v) w)) (covered-not es (pointsIn (known ++ w)) (flip x v) c) (lt-ltb (length (known ++ w)) capacity h)
+      ap₂ (λ b t. run vs (placed es capacity known x d b t (flip x v) w))
+      (covered-not es (pointsIn (known ++ w)) (flip x v) c) (lt-ltb (length (known ++ w)) capacity h)
       ∙ fills-expand f
   fills-expand (no-room {v = v} {vs = vs} {w = w} c h) =
-      ap₂ (λ b t. run vs (placed es capacity known x d b t (flip x v) w)) (covered-not es (pointsIn (known ++ w)) (flip x v) c) (le-ltb (length (known ++ w)) capacity h)
+      ap₂ (λ b t. run vs (placed es capacity known x d b t (flip x v) w))
+      (covered-not es (pointsIn (known ++ w)) (flip x v) c) (le-ltb (length (known ++ w)) capacity h)
       ∙ stays-full vs w
 
   -- no more slots are filled than there are
-  pub fills-room : {vs : List ℕ} {w : List Slot} {r : Expansion} → Fills es capacity known x d vs w r → length (known ++ w) ≤ capacity → length (known ++ waitingIn r) ≤ capacity
+  pub fills-room : {vs : List ℕ} {w : List Slot} {r : Expansion} → Fills es capacity known x d vs w r
+      → length (known ++ w) ≤ capacity → length (known ++ waitingIn r) ≤ capacity
   fills-room no-more h = h
   fills-room (skipped c f) h = fills-room f h
   fills-room (filled-next {v = v} {w = w} c lt f) h =
@@ -97,36 +109,46 @@ module _ (pb : Problem) (capacity : ℕ) where
   known p s c = p ++ withNumber s c ∷ []
 
   abbrev flips : List Slot → Slot → List Slot → Numbered → Expansion
-  flips p s w c = expand (pb .permutations) capacity (known p s c) (s .point) (s .depth) (variables (pb .variables) (c .clause)) (complete w)
+  flips p s w c = expand (pb .permutations) capacity (known p s c) (s .point) (s .depth)
+      (variables (pb .variables) (c .clause)) (complete w)
 
   flipped : (p : List Slot) (s : Slot) (w : List Slot) (c : Numbered) (r : Expansion) → flips p s w c ≡ r
-      → Fills (pb .permutations) capacity (known p s c) (s .point) (s .depth) (variables (pb .variables) (c .clause)) w r
+      → Fills (pb .permutations) capacity (known p s c) (s .point) (s .depth) (variables (pb .variables) (c .clause)) w
+      r
   flipped p s w c r e =
-      subst (Fills (pb .permutations) capacity (known p s c) (s .point) (s .depth) (variables (pb .variables) (c .clause)) w) e
-      (expand-fills (pb .permutations) capacity (known p s c) (s .point) (s .depth) (variables (pb .variables) (c .clause)) w)
+      subst (Fills (pb .permutations) capacity (known p s c) (s .point) (s .depth)
+      (variables (pb .variables) (c .clause)) w) e
+      (expand-fills (pb .permutations) capacity (known p s c) (s .point) (s .depth)
+      (variables (pb .variables) (c .clause)) w)
 
   abbrev Says : State → Ending pb capacity → Type 0
   Says st e = Walks pb capacity st (e .reply) (e .slots)
 
   -- with one step more than there are slots to process, what is computed is what the sentence says
-  pub walk-walks : (k : ℕ) (p w : List Slot) → length (p ++ w) ≤ capacity → capacity < k + length p → Says (state p w) (walk pb capacity k (state p w))
+  pub walk-walks : (k : ℕ) (p w : List Slot) → length (p ++ w) ≤ capacity → capacity < k + length p
+      → Says (state p w) (walk pb capacity k (state p w))
   unfolding walk
-  walk-walks zero p w room more = let e : length (p ++ w) ≡ length p + length w = length-append p w in let z : ⊥ = omega arith in absurd z
+  walk-walks zero p w room more = let e : length (p ++ w)
+      ≡ length p + length w = length-append p w in let z : ⊥ = omega arith in absurd z
   walk-walks (suc k) p [] room more = none-left
   walk-walks (suc k) p (s ∷ w) room more = by (firstFalsified (pb .clauses) (s .point)) refl (walk-walks k)
     where
       Rest : Type 0
-      Rest = (q u : List Slot) → length (q ++ u) ≤ capacity → capacity < k + length q → Says (state q u) (walk pb capacity k (state q u))
+      Rest = (q u : List Slot) → length (q ++ u) ≤ capacity → capacity < k + length q
+          → Says (state q u) (walk pb capacity k (state q u))
 
-      on : (c : Numbered) → firstFalsified (pb .clauses) (s .point) ≡ some c → (r : Expansion) → flips p s w c ≡ r → Rest
-          → Says (state p (s ∷ w)) (followed pb capacity (expanded pb capacity (known p s c) (s .depth) r) (λ q. walk pb capacity k q))
+      on : (c : Numbered) → firstFalsified (pb .clauses) (s .point) ≡ some c → (r : Expansion) → flips p s w c ≡ r
+          → Rest
+          → Says (state p (s ∷ w)) (followed pb capacity (expanded pb capacity (known p s c) (s .depth) r)
+          (λ q. walk pb capacity k q))
       on c f (full u) e ih = stuck (first-sound (pb .clauses) (s .point) c f) (flipped p s w c (full u) e)
       on c f (complete u) e ih =
           let fl = flipped p s w c (complete u) e in
           let m = length-snoc p (withNumber s c) in
           goes-on (first-sound (pb .clauses) (s .point) c f) fl
           (ih (known p s c) u
-          (fills-room (pb .permutations) capacity (known p s c) (s .point) (s .depth) fl (le-trans (le-of-eq (length-moved p w (withNumber s c) s)) room))
+          (fills-room (pb .permutations) capacity (known p s c) (s .point) (s .depth) fl
+          (le-trans (le-of-eq (length-moved p w (withNumber s c) s)) room))
           (omega arith))
 
       by : (o : Option Numbered) → firstFalsified (pb .clauses) (s .point) ≡ o → Rest
@@ -138,32 +160,39 @@ module _ (pb : Problem) (capacity : ℕ) where
   ending r l = record { reply = r; slots = l }
 
   -- and what the sentence says is what is computed, so it says one thing only
-  pub walks-walk : {st : State} {r : Reply} {l : List Slot} → Walks pb capacity st r l → length (filled st) ≤ capacity → (k : ℕ) → capacity < k + length (st .processed)
+  pub walks-walk : {st : State} {r : Reply} {l : List Slot} → Walks pb capacity st r l → length (filled st) ≤ capacity
+      → (k : ℕ) → capacity < k + length (st .processed)
       → walk pb capacity k st ≡ ending r l
   unfolding walk
   walks-walk {st} t room zero more =
-      let e : length (st .processed ++ st .waiting) ≡ length (st .processed) + length (st .waiting) = length-append (st .processed) (st .waiting) in
+      let e : length (st .processed ++ st .waiting)
+      ≡ length (st .processed) + length (st .waiting) = length-append (st .processed) (st .waiting) in
       let z : ⊥ = omega arith in absurd z
   walks-walk none-left room (suc k) more = refl
   walks-walk (met {p = p} {w = w} {s = s} h) room (suc k) more =
-      ap (λ o. followed pb capacity (processedBy pb capacity p s w o) (λ q. walk pb capacity k q)) (none-first (pb .clauses) (s .point) h)
+      ap (λ o. followed pb capacity (processedBy pb capacity p s w o) (λ q. walk pb capacity k q))
+      (none-first (pb .clauses) (s .point) h)
   walks-walk (stuck {p = p} {w = w} {w′ = u} {s = s} {c = c} f fl) room (suc k) more =
-      ap (λ o. followed pb capacity (processedBy pb capacity p s w o) (λ q. walk pb capacity k q)) (first-complete (pb .clauses) (s .point) c f)
+      ap (λ o. followed pb capacity (processedBy pb capacity p s w o) (λ q. walk pb capacity k q))
+      (first-complete (pb .clauses) (s .point) c f)
       ∙ ap (λ x. followed pb capacity (expanded pb capacity (known p s c) (s .depth) x) (λ q. walk pb capacity k q))
       (fills-expand (pb .permutations) capacity (known p s c) (s .point) (s .depth) fl)
   walks-walk (goes-on {p = p} {w = w} {w′ = u} {s = s} {c = c} f fl t) room (suc k) more =
       let m = length-snoc p (withNumber s c) in
-      ap (λ o. followed pb capacity (processedBy pb capacity p s w o) (λ q. walk pb capacity k q)) (first-complete (pb .clauses) (s .point) c f)
+      ap (λ o. followed pb capacity (processedBy pb capacity p s w o) (λ q. walk pb capacity k q))
+      (first-complete (pb .clauses) (s .point) c f)
       ∙ ap (λ x. followed pb capacity (expanded pb capacity (known p s c) (s .depth) x) (λ q. walk pb capacity k q))
       (fills-expand (pb .permutations) capacity (known p s c) (s .point) (s .depth) fl)
-      ∙ walks-walk t (fills-room (pb .permutations) capacity (known p s c) (s .point) (s .depth) fl (le-trans (le-of-eq (length-moved p w (withNumber s c) s)) room)) k (omega arith)
+      ∙ walks-walk t (fills-room (pb .permutations) capacity (known p s c) (s .point) (s .depth) fl
+      (le-trans (le-of-eq (length-moved p w (withNumber s c) s)) room)) k (omega arith)
 
   -- from the target: the whole search, with at least one slot
   pub walked-walks : 1 ≤ capacity → Walks pb capacity (start pb) (walked pb capacity .reply) (walked pb capacity .slots)
   unfolding walked
   walked-walks h = walk-walks (suc capacity) [] (slot (pb .target) 0 0 ∷ []) h (omega arith)
 
-  pub walks-walked : 1 ≤ capacity → {r : Reply} {l : List Slot} → Walks pb capacity (start pb) r l → (walked pb capacity .reply ≡ r) × (walked pb capacity .slots ≡ l)
+  pub walks-walked : 1 ≤ capacity → {r : Reply} {l : List Slot} → Walks pb capacity (start pb) r l
+      → (walked pb capacity .reply ≡ r) × (walked pb capacity .slots ≡ l)
   unfolding walked
   walks-walked h t =
       let e = walks-walk t h (suc capacity) (omega arith) in

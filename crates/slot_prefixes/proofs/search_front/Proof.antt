@@ -1,4 +1,5 @@
--- `slot_prefixes::search_front` meets its contract: the lent parts have k places, and what the search leaves in them stands in front. Assumes nothing.
+-- `slot_prefixes::search_front` meets its contract: the lent parts have k places, and what the search leaves in them
+-- stands in front. Assumes nothing.
 use mathlib.Core.Path.{sym, _∙_}
 use lib.ListN.{take, drop}
 use lib.Seq.{length-take-le}

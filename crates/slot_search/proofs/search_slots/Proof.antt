@@ -1,6 +1,6 @@
--- `slot_search::search_slots` meets its contract: a walk of its MIR, by hand. The slots' borrow is opened, so that the slots and the three local arrays are four rows in memory; each is lent to the calls, for a lifetime of the call's own,
--- and is back after it. What the calls do to the lists is `searched-whole`.
--- Assumes nothing.
+-- `slot_search::search_slots` meets its contract: a walk of its MIR, by hand. The slots' borrow is opened, so that the
+-- slots and the three local arrays are four rows in memory; each is lent to the calls, for a lifetime of the call's
+-- own, and is back after it. What the calls do to the lists is `searched-whole`. Assumes nothing.
 use mathlib.Core.Path.{_≡_, refl, sym, _∙_, ap, subst}
 use Prim.Native.Nat.{ℕ}
 use mathlib.Core.List.{[], _∷_, List}
@@ -18,15 +18,18 @@ use prog.Wp.{Heap, Calls, Loops, WpFn, Tables}
 use ghost.Atoms.{Atoms}
 use contract.Monad.{Fun}
 use contract.Running.{givenOf, tables, tablesOf}
-use types.Kit.{Given, Item, ‵, _⊛_, ⋆, _$_, _∵_, !, qed, by, move, keep, drop, use1, split, join, rewrite, fsplit, fjoin, suffices, frame, done}
-use types.Run.{look, store, init, forget, stop, hop, fld, from, load, lit, addr, of-opd, and-then, no-more, assigns, land, returns, enter, alloc1, alloc0, params1, pass1, pass0}
+use types.Kit.{Given, Item, ‵, _⊛_, ⋆, _$_, _∵_, !, qed, by, move, keep, drop, use1, split, join, rewrite, fsplit}
+use types.Kit.{fjoin, suffices, frame, done}
+use types.Run.{look, store, init, forget, stop, hop, fld, from, load, lit, addr, of-opd, and-then, no-more, assigns}
+use types.Run.{land, returns, enter, alloc1, alloc0, params1, pass1, pass0}
 use types.Part.{agg, rep, whole, sub, look-in}
 use sound.WpLaws.{FmC, fmOf, WpFn-mono}
 use denote.RattleType.{owns}
 use denote.Laws.{Is, shows}
 use denote.Builtin.{u32, u64}
 use denote.Ref.{RefT}
-use denote.Slice.{sliceVal, MutSlice, ShrSlice, heres, Room, slice-vals, mut-slice-tells, shr-slice-tells, shr-slice-copy, codedHoleys}
+use denote.Slice.{sliceVal, MutSlice, ShrSlice, heres, Room, slice-vals, mut-slice-tells, shr-slice-tells}
+use denote.Slice.{shr-slice-copy, codedHoleys}
 use denote.Lend.{Held}
 use denote.Index.{opens-slice, closes-slice}
 use denote.Signature.{plain}
@@ -37,7 +40,8 @@ use denote.Triple.Entry.{onEntry}
 use denote.Triple.Spec.{Meets, tripleOf}
 use denote.Triple.Statement.{Triple}
 use denote.Triple.Table.{entered, cited}
-use denote.Triple.Walked.{says, Stays, stay-slice, stay-none, stay-none-slice, walkOf, goes-slice, goes-none, goes-none-slice, Walks, ends-at, walked, walk-meets}
+use denote.Triple.Walked.{says, Stays, stay-slice, stay-none, stay-none-slice, walkOf, goes-slice, goes-none}
+use denote.Triple.Walked.{goes-none-slice, Walks, ends-at, walked, walk-meets}
 use denote.Exit.{yes}
 use Rattle.formula.specs.declared.Formula.{Formula}
 use Rattle.formula.proofs.Formula as F
@@ -55,7 +59,8 @@ use Rattle.slot_search.specs.Laws.SearchLaws.{searched-whole}
 use Rattle.slot_proofs.proofs.Places.{k, gk, used, P, N, D, many, long₁, long₂, long₃, fits-in, fronts-in}
 use Rattle.slot_columns.proofs.Row.{R, mut-again}
 use Rattle.slot_proofs.proofs.Called.{free-all, placed}
-use Rattle.slot_proofs.proofs.Lent.{lend, unlend, share, unshare, zeros-typed, abstracted, emptied, big-lit, room64, room32}
+use Rattle.slot_proofs.proofs.Lent.{lend, unlend, share, unshare, zeros-typed, abstracted, emptied, big-lit, room64}
+use Rattle.slot_proofs.proofs.Lent.{room32}
 use Rattle.slot_proofs.proofs.LeastCalled as Count
 use Rattle.slot_proofs.proofs.LeastCalled.{Least}
 use Rattle.slot_columns.proofs.CopiedOut as Out
@@ -143,7 +148,8 @@ module _ {M : Type 1} (𝓤 : URA M) (H : Heap 𝓤) (A : Atoms 𝓤) (W : Given
           zeros-typed ! w64 65536 (lit< tt) (λ z. assigns ! (rep ! 65536 (lit ! tt)) (from ! (stop !)) (init ! 64 refl z) $ move ! (64 ∷ []) $ abstracted ! w64 65536 l₅ (lit< tt) (λ ps e₁. zeros-typed ! w32 65536 (lit< tt) (λ z.
           assigns ! (rep ! 65536 (lit ! tt)) (from ! (stop !)) (init ! 63 refl z) $ move ! (63 ∷ []) $ abstracted ! w32 65536 l₆ (lit< tt) (λ fs e₂. zeros-typed ! w32 65536 (lit< tt) (λ z.
           assigns ! (rep ! 65536 (lit ! tt)) (from ! (stop !)) (init ! 62 refl z) $ move ! (62 ∷ []) $ abstracted ! w32 65536 l₇ (lit< tt) (λ ds e₃.
-          -- [depths' array; falsified's; points'; the slots' row; the open borrow; obs; auth; the tokens of negative and positive; negative; positive; _33; …; _0; …]
+          -- [depths' array; falsified's; points'; the slots' row; the open borrow; obs; auth; the tokens of negative
+          -- and positive; negative; positive; _33; …; _0; …]
           assigns ! (of-opd ! (load ! (from ! (fld ! refl (stop !))) (look-in ! 66 (sub ! 1 refl (whole !))))) (from ! (stop !)) (init ! 57 refl (tt, record { fits = room .0 })) $
           Count.asks 65536 (length ys) 𝓤 H A mem run W ! (lit< tt) (room .0) $
           calls-at ! fm (Least 𝓤 H A mem run) known₀ (Count.bound 65536 (length ys) 𝓤 H A mem run) (and-then ! (big-lit ! (record { fits = lit< tt })) (and-then ! (load ! (from ! (stop !)) (look ! 58 refl)) (no-more !))) (λ w.

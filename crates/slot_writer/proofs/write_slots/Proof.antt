@@ -1,6 +1,6 @@
--- `slot_writer::write_slots` meets its contract: a walk of its MIR, by hand. The output's borrow is opened, so that the output and the three local arrays are four rows in memory; each is lent to the calls, for a lifetime of the call's own,
--- and is back after it. That the copies stand for the slots is `wrote-whole`.
--- Assumes nothing.
+-- `slot_writer::write_slots` meets its contract: a walk of its MIR, by hand. The output's borrow is opened, so that the
+-- output and the three local arrays are four rows in memory; each is lent to the calls, for a lifetime of the call's
+-- own, and is back after it. That the copies stand for the slots is `wrote-whole`. Assumes nothing.
 use mathlib.Core.Path.{_≡_, refl, sym, ap, subst}
 use Prim.Native.Nat.{ℕ, _<_, _^_}
 use mathlib.Core.List.{[], _∷_, List}
@@ -18,15 +18,18 @@ use prog.Wp.{Heap, Calls, Loops, WpFn, Tables}
 use ghost.Atoms.{Atoms}
 use contract.Monad.{Fun}
 use contract.Running.{givenOf, tables, tablesOf}
-use types.Kit.{Given, Item, ‵, _⊛_, ⋆, _$_, _∵_, !, qed, by, move, keep, drop, use1, split, join, rewrite, fsplit, fjoin, suffices, frame, done}
-use types.Run.{look, init, forget, stop, hop, fld, from, load, lit, addr, of-opd, and-then, no-more, assigns, land, returns, enter, alloc1, alloc0, params1, pass1, pass0}
+use types.Kit.{Given, Item, ‵, _⊛_, ⋆, _$_, _∵_, !, qed, by, move, keep, drop, use1, split, join, rewrite, fsplit}
+use types.Kit.{fjoin, suffices, frame, done}
+use types.Run.{look, init, forget, stop, hop, fld, from, load, lit, addr, of-opd, and-then, no-more, assigns, land}
+use types.Run.{returns, enter, alloc1, alloc0, params1, pass1, pass0}
 use types.Part.{agg, rep, whole, sub, look-in}
 use sound.WpLaws.{FmC, fmOf, WpFn-mono}
 use denote.RattleType.{owns}
 use denote.Laws.{Is, shows}
 use denote.Builtin.{u8, u32, u64}
 use denote.Ref.{RefT}
-use denote.Slice.{sliceVal, MutSlice, ShrSlice, heres, Room, slice-vals, mut-slice-tells, shr-slice-tells, shr-slice-copy, codedHoleys}
+use denote.Slice.{sliceVal, MutSlice, ShrSlice, heres, Room, slice-vals, mut-slice-tells, shr-slice-tells}
+use denote.Slice.{shr-slice-copy, codedHoleys}
 use denote.Lend.{Held}
 use denote.Plain.{uint-vals, uint-tells, uint-makes}
 use denote.Index.{opens-slice, closes-slice}
@@ -38,7 +41,8 @@ use denote.Triple.Entry.{onEntry}
 use denote.Triple.Spec.{Meets, tripleOf}
 use denote.Triple.Statement.{Triple}
 use denote.Triple.Table.{entered, cited}
-use denote.Triple.Walked.{says, Stays, stay-slice, stay-none, stay-none-slice, walkOf, goes-slice, goes-none, goes-none-slice, Walks, ends-at, walked, walk-meets}
+use denote.Triple.Walked.{says, Stays, stay-slice, stay-none, stay-none-slice, walkOf, goes-slice, goes-none}
+use denote.Triple.Walked.{goes-none-slice, Walks, ends-at, walked, walk-meets}
 use denote.Exit.{yes}
 use Rattle.formula.specs.declared.Formula.{Formula}
 use Rattle.formula.proofs.Formula as F
@@ -55,7 +59,8 @@ use Rattle.slot_writer.specs.Laws.WriteLaws.{wrote-whole}
 use Rattle.slot_proofs.proofs.Places.{k, gk, P, N, D, long₁, long₂, long₃, fits-in, fronts-in}
 use Rattle.slot_columns.proofs.Row.{R, mut-again}
 use Rattle.slot_proofs.proofs.Called.{free-all, placed}
-use Rattle.slot_proofs.proofs.Lent.{lend, unlend, share, unshare, zeros-typed, abstracted, emptied, big-lit, room64, room32}
+use Rattle.slot_proofs.proofs.Lent.{lend, unlend, share, unshare, zeros-typed, abstracted, emptied, big-lit, room64}
+use Rattle.slot_proofs.proofs.Lent.{room32}
 use Rattle.slot_proofs.proofs.LeastCalled as Count
 use Rattle.slot_proofs.proofs.LeastCalled.{Least}
 use Rattle.slot_columns.proofs.CopiedOut as Out
@@ -134,7 +139,8 @@ module _ {M : Type 1} (𝓤 : URA M) (H : Heap 𝓤) (A : Atoms 𝓤) (W : Given
           zeros-typed ! w64 65536 (lit< tt) (λ z. assigns ! (rep ! 65536 (lit ! tt)) (from ! (stop !)) (init ! 48 refl z) $ move ! (48 ∷ []) $ abstracted ! w64 65536 l₇ (lit< tt) (λ ps e₁. zeros-typed ! w32 65536 (lit< tt) (λ z.
           assigns ! (rep ! 65536 (lit ! tt)) (from ! (stop !)) (init ! 47 refl z) $ move ! (47 ∷ []) $ abstracted ! w32 65536 l₈ (lit< tt) (λ fs e₂. zeros-typed ! w32 65536 (lit< tt) (λ z.
           assigns ! (rep ! 65536 (lit ! tt)) (from ! (stop !)) (init ! 46 refl z) $ move ! (46 ∷ []) $ abstracted ! w32 65536 l₉ (lit< tt) (λ ds e₃.
-          -- [depths' array; falsified's; points'; the output's row; the open borrow; obs; auth; the tokens of slots, negative and positive; slots; negative; positive; _26; …; _0; …]
+          -- [depths' array; falsified's; points'; the output's row; the open borrow; obs; auth; the tokens of slots,
+          -- negative and positive; slots; negative; positive; _26; …; _0; …]
           assigns ! (of-opd ! (load ! (from ! (fld ! refl (stop !))) (look-in ! 54 (sub ! 1 refl (whole !))))) (from ! (stop !)) (init ! 43 refl (tt, record { fits = room .0 })) $
           Count.asks 65536 (length ys) 𝓤 H A mem run W ! (lit< tt) (room .0) $
           calls-at ! fm (Least 𝓤 H A mem run) known₀ (Count.bound 65536 (length ys) 𝓤 H A mem run) (and-then ! (big-lit ! (record { fits = lit< tt })) (and-then ! (load ! (from ! (stop !)) (look ! 44 refl)) (no-more !))) (λ w.

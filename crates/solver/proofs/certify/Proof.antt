@@ -1,4 +1,5 @@
--- `solver::certify` meets its contract: what the writer puts out is accepted, and it refuses for want of room alone. Assumes nothing.
+-- `solver::certify` meets its contract: what the writer puts out is accepted, and it refuses for want of room alone.
+-- Assumes nothing.
 use mathlib.Core.Path.{sym, ap, _∙_}
 use borrow.Author.Needs.{needs}
 use Rattle.certificate_writer.specs.Contract.{replyOfWritten}

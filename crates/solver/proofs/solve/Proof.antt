@@ -1,4 +1,5 @@
--- `solver::solve` meets its contract: a text that is refused leaves everything, any other is solved as its formula is. Assumes nothing.
+-- `solver::solve` meets its contract: a text that is refused leaves everything, any other is solved as its formula is.
+-- Assumes nothing.
 use mathlib.Core.Path.{sym, ap, _∙_}
 use native.Mathlib.Nat.{le-trans, le-of-eq}
 use lib.ListN.{length-replicate}

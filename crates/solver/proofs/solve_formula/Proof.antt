@@ -1,8 +1,10 @@
--- `solver::solve_formula` meets its contract: what the search answers and, where it refutes, what the certificate is. Assumes nothing.
+-- `solver::solve_formula` meets its contract: what the search answers and, where it refutes, what the certificate is.
+-- Assumes nothing.
 use mathlib.Core.Path.{refl}
 use borrow.Author.Needs.{needs}
 use Rattle.solver.specs.Contract.{replyOfSolution}
-use Rattle.solver.specs.Laws.SolverLaws.{solves, refuted, solves-refuted, satisfiable-differs, unknown-differs, refusal-differs}
+use Rattle.solver.specs.Laws.SolverLaws.{solves, refuted, solves-refuted, satisfiable-differs, unknown-differs}
+use Rattle.solver.specs.Laws.SolverLaws.{refusal-differs}
 use Rattle.solver.proofs.solve_formula.Statement.{statement}
 use Rattle.solver.proofs.solve_formula.Tie as tie
 

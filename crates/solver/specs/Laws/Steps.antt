@@ -22,11 +22,14 @@ pub record Refuted (f : Formula) (positive negative points falsified depths : Li
   pub slots : Slots
   pub reply : searchReply f positive negative (lent slots) ≡ unsatisfiable k
   pub left-points : points ≡ searchSlice (λ (t : Slot). t .point) f positive negative (lent slots) (slots .points)
-  pub left-falsified : falsified ≡ searchSlice (λ (t : Slot). t .falsified) f positive negative (lent slots) (slots .falsified)
+  pub left-falsified : falsified ≡ searchSlice (λ (t : Slot). t .falsified) f positive negative (lent slots)
+      (slots .falsified)
   pub left-depths : depths ≡ searchSlice (λ (t : Slot). t .depth) f positive negative (lent slots) (slots .depths)
 
 -- the certificate of those slots is written, or there is no room for it
-pub record Certifies (f : Formula) (positive negative points falsified depths : List ℕ) (k : ℕ) (out₀ : List ℕ) (r : Solution) (out₁ : List ℕ) : Type 0 where
+pub record Certifies (f : Formula) (positive negative points falsified depths : List ℕ) (k : ℕ) (out₀ : List ℕ)
+    (r : Solution) (out₁ : List ℕ) : Type 0 where
   pub reply : replyOfSolution r .reply ≡ unsatisfiable k
-  pub certificate : replyOfSolution r .certificate ≡ some (writeReply f positive negative points falsified depths k out₀)
+  pub certificate : replyOfSolution r .certificate
+      ≡ some (writeReply f positive negative points falsified depths k out₀)
   pub output : out₁ ≡ writeOutput f positive negative points falsified depths k out₀

@@ -1,4 +1,5 @@
--- `permutation_symmetry::guesses::guessed` meets its contract: it says so only where the comparison does. Assumes nothing.
+-- `permutation_symmetry::guesses::guessed` meets its contract: it says so only where the comparison does. Assumes
+-- nothing.
 use mathlib.Core.Bool.{false≢true}
 use Prim.Native.Nat.{_-_}
 use borrow.Author.Needs.{needs}

@@ -1,4 +1,5 @@
--- `permutation_symmetry::guesses::place_of` meets its contract: hashes below 2^32 leave room for the products and their sum. Assumes nothing.
+-- `permutation_symmetry::guesses::place_of` meets its contract: hashes below 2^32 leave room for the products and their
+-- sum. Assumes nothing.
 use mathlib.Core.Path.{_≡_, sym, subst}
 use Prim.Native.Nat.{ℕ, _<_}
 use native.Mathlib.Omega.{arith}

@@ -1,4 +1,5 @@
--- `permutation_symmetry::guesses::stands_at` meets its contract: a clause at an index within them is one of them. Assumes nothing.
+-- `permutation_symmetry::guesses::stands_at` meets its contract: a clause at an index within them is one of them.
+-- Assumes nothing.
 use mathlib.Core.Bool.{false≢true}
 use mathlib.Core.Path.{sym, ap, _∙_}
 use native.Mathlib.Omega.{arith}
