@@ -3,16 +3,16 @@ use mathlib.Core.List.{List, [], _∷_, _++_, append-assoc, append-nil}
 use mathlib.Core.Option.{some, none}
 use mathlib.Core.Path.{_≡_, refl, sym, ap, ap₂, _∙_, subst}
 use mathlib.Core.List.{List·Memᴰ·tail}
-use Prim.Native.Nat.{ℕ, zero, suc, _+_, _*_, _/_, _^_, _≤_, _<_, _%_}
-use native.Mathlib.Nat.{pow-succ', zero-mul, suc-mul, add-comm, not-suc-le-zero, le-of-suc-le-suc, div-one, div-eq-of-lt, lt-of-lt-of-le, mul-le-mul-left}
+use Prim.Native.Nat.{ℕ, zero, suc, _+_, _*_, _/_, _^_, _≤_, _<_, _%_, zero-le}
+use native.Mathlib.Nat.{pow-succ', zero-mul, suc-mul, add-comm, not-suc-le-zero, le-of-suc-le-suc, div-one, div-eq-of-lt, le-antisymm, le-trans, lt-of-lt-of-le, mul-le-mul-left, mul-le-mul-right}
 use native.Mathlib.Numerals.{add-one}
 use native.Mathlib.Omega.{arith}
 use lib.Arith.{lt-one}
-use lib.ListN.{length, getD, getElem?, set, take, drop, length-append}
+use lib.ListN.{length, getD, getElem?, set, take, drop, length-append, length-set}
 use lib.Seq.{take-at, drop-at, drop-drop, drop-cons, take-add}
 use Rattle.math.specs.Laws.ListLaws.{here}
 use Rattle.math.specs.Lists.{_∈_, over}
-use Rattle.math.specs.Laws.OverLaws.{over-snoc}
+use Rattle.math.specs.Laws.OverLaws.{over-none, over-snoc}
 use Rattle.math.specs.Laws.PartLaws.{index-some}
 use Rattle.permutation_theory.specs.Permutations.{permutationsIn, Permutation}
 use Rattle.certificate.specs.Bytes.{bytesOf, numberFrom, joined, entries, numbersIn}
@@ -126,13 +126,43 @@ number-of w k bytes i h =
     let there : getElem? (numbersIn w k bytes) i ≡ some (numberFrom (take w (drop (i * w) bytes))) = entries-at numberFrom w k bytes i h in
     cc
 
--- copying the numbers of a body one by one: after i come i + 1
-pub into-next : (w i : ℕ) (body old : List ℕ) (x : ℕ) → x ≡ numberFrom (take w (drop (i * w) body)) → i < length old
-    → set (over (numbersIn w i body) old) i x ≡ over (numbersIn w (i + 1) body) old
-into-next w i body old x e room =
-    over-snoc i (numbersIn w i body) old x (length-entries numberFrom w i body) room
-    ∙ ap (λ (y : ℕ). over (numbersIn w i body ++ y ∷ []) old) e
-    ∙ ap (λ l. over l old) (sym (entries-snoc numberFrom w i body) ∙ ap (λ (k : ℕ). numbersIn w k body) (sym (add-one i)))
+-- the loop that copies `count` numbers of a body, w bytes each, into a slice: the first i are there
+pub record Copying (w count : ℕ) (body old : List ℕ) (i : ℕ) (to : List ℕ) : Type 0 where
+  pub room : count ≤ length old
+  pub enough : count * w ≤ length body
+  pub within : i ≤ count
+  pub long : length to ≡ length old
+  pub copied : to ≡ over (numbersIn w i body) old
+
+module _ {w count : ℕ} {body old : List ℕ} where
+  -- before the first turn nothing is copied
+  pub copying-begins : count ≤ length old → count * w ≤ length body → Copying w count body old 0 old
+  unfolding entries
+  copying-begins r m = record { room = r; enough = m; within = zero-le; long = refl; copied = sym (over-none old) }
+
+  -- in a turn number i lies in the body whole
+  pub copying-whole : {i : ℕ} {to : List ℕ} → Copying w count body old i to → i < count → i * w + w ≤ length body
+  copying-whole s more = rw (← suc-mul) (le-trans (mul-le-mul-right w more) (s .enough))
+
+  -- a turn copies number i behind the others
+  pub copying-goes-on : {i x : ℕ} {to after : List ℕ} → Copying w count body old i to → i < count
+      → x ≡ numberFrom (take w (drop (i * w) body)) → after ≡ set to i x → Copying w count body old (i + 1) after
+  copying-goes-on {i} {x} {to} s more e f =
+      record {
+        room = s .room;
+        enough = s .enough;
+        within = omega arith;
+        long = ap length f ∙ length-set to i x ∙ s .long;
+        copied =
+            f ∙ ap (λ l. set l i x) (s .copied)
+            ∙ over-snoc i (numbersIn w i body) old x (length-entries numberFrom w i body) (omega arith)
+            ∙ ap (λ l. over l old) (rw (e, add-one, entries-snoc));
+      }
+
+  -- after the last turn all are copied
+  pub copying-ends : {i : ℕ} {to : List ℕ} → Copying w count body old i to → count ≤ i
+      → to ≡ over (numbersIn w count body) old
+  copying-ends s all = s .copied ∙ ap (λ (k : ℕ). over (numbersIn w k body) old) (le-antisymm (s .within) all)
 
 -- permutations are entries too
 pub permutations-entries : (n k : ℕ) (bytes : List ℕ) → permutationsIn n k bytes ≡ entries (λ bs. record { images = bs }) n k bytes

@@ -2,8 +2,9 @@
 use mathlib.Core.List.{List, [], _∷_, _++_}
 use mathlib.Core.Path.{_≡_, refl, sym, ap, ap₂, _∙_}
 use Prim.Native.Nat.{ℕ, _+_, _*_, _≤_, _<_, zero-le}
-use native.Mathlib.Nat.{add-zero, zero-add, le-of-lt}
+use native.Mathlib.Nat.{add-zero, zero-add, le-of-lt, le-antisymm, lt-of-lt-of-le}
 use native.Mathlib.Numerals.{add-one}
+use native.Mathlib.Omega.{arith}
 use lib.ListN.{length, getD, take}
 use lib.Seq.{length-take-le, take-suc}
 use Rattle.math.specs.Lists.{spliced}
@@ -32,13 +33,42 @@ module _ (w at : ℕ) (old : List ℕ) (room : at ≤ length old) where
       (here ∙ ap (λ (k : ℕ). at + k) (sym (length-joined (bytesOf w) w xs (λ y _. length-bytesOf w y)))) e f
       ∙ ap (λ l. spliced at l old) (sym (joined-snoc (bytesOf w) xs x))
 
-  -- of a list, number by number: after i come i + 1
-  pub next-stored : (i : ℕ) (xs before after : List ℕ) → i < length xs
-      → before ≡ spliced at (joined (bytesOf w) (take i xs)) old → after ≡ spliced (at + i * w) (bytesOf w (getD xs i 0)) before
-      → after ≡ spliced at (joined (bytesOf w) (take (i + 1) xs)) old
-  next-stored i xs before after more e f =
-      one-stored (take i xs) (getD xs i 0) (at + i * w) before after (ap (λ (k : ℕ). at + k * w) (sym (length-take-le i xs (le-of-lt more)))) e f
-      ∙ ap (λ l. spliced at (joined (bytesOf w) l) old) (sym (take-suc xs i 0 more) ∙ ap (λ (k : ℕ). take k xs) (sym (add-one i)))
+-- the loop that stores `count` numbers, w bytes each, from place `at` on: the first i are there
+pub record Storing (w at count : ℕ) (xs old : List ℕ) (i : ℕ) (out : List ℕ) : Type 0 where
+  pub room : at + count * w ≤ length old
+  pub enough : count ≤ length xs
+  pub within : i ≤ count
+  pub long : length out ≡ length old
+  pub stored : out ≡ spliced at (joined (bytesOf w) (take i xs)) old
+
+module _ {w at count : ℕ} {xs old : List ℕ} where
+  -- before the first turn nothing is stored
+  pub storing-begins : at + count * w ≤ length old → count ≤ length xs → Storing w at count xs old 0 old
+  storing-begins r m =
+      record { room = r; enough = m; within = zero-le; long = refl; stored = none-stored w at old (omega arith) }
+
+  -- a turn stores number i behind the others
+  pub storing-goes-on : {i x : ℕ} {before after : List ℕ} → Storing w at count xs old i before → i < count
+      → x ≡ getD xs i 0 → length after ≡ length before → after ≡ spliced (at + i * w) (bytesOf w x) before
+      → Storing w at count xs old (i + 1) after
+  storing-goes-on {i} {x} {before} {after} s more e same f =
+      let inside : i < length xs = lt-of-lt-of-le more (s .enough) in
+      record {
+        room = s .room;
+        enough = s .enough;
+        within = omega arith;
+        long = same ∙ s .long;
+        stored =
+            one-stored w at old (omega arith) (take i xs) x (at + i * w) before after
+            (rw (length-take-le i xs (le-of-lt inside))) (s .stored) f
+            ∙ ap (λ l. spliced at (joined (bytesOf w) l) old) (rw (e, add-one, take-suc xs i 0));
+      }
+
+  -- after the last turn all are stored
+  pub storing-ends : {i : ℕ} {out : List ℕ} → Storing w at count xs old i out → count ≤ i
+      → out ≡ spliced at (joined (bytesOf w) (take count xs)) old
+  storing-ends s all =
+      s .stored ∙ ap (λ (k : ℕ). spliced at (joined (bytesOf w) (take k xs)) old) (le-antisymm (s .within) all)
 
 -- four numbers of the contents, one behind the other
 pub four-stored : (at : ℕ) (old : List ℕ) → at ≤ length old → (a b c d : ℕ) (one two three four : List ℕ)

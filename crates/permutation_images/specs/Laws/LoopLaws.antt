@@ -1,21 +1,22 @@
 -- Laws of the loops over a permutation and over several: the permutation test with a set of what was seen, the image from the last
--- variable down, and where the i-th permutation lies. Assumes nothing.
+-- variable down, where the i-th permutation lies, and a test of each in order. Assumes nothing.
 use mathlib.Core.Bool.{Bool, true, false, not, _&&_, xor, true≢false}
 use mathlib.Core.List.{List, [], _∷_, List·Memᴰ·head, List·Memᴰ·tail, List·Memᴰ·not-nil}
 use mathlib.Core.Path.{_≡_, refl, sym, ap, ap₂, _∙_, subst}
 use Prim.Native.Nat.{ℕ, zero, suc, _+_, _-_, _*_, _/_, _%_, _^_, _≤_, _<_}
-use native.Mathlib.Nat.{div-div-eq-div-mul, pow-suc, zero-mul, suc-mul, add-comm, mul-le-mul-right, le-trans, le-of-suc-le-suc, not-suc-le-zero}
+use native.Mathlib.Nat.{div-div-eq-div-mul, pow-suc, zero-mul, suc-mul, add-comm, mul-le-mul-right, le-trans, le-of-eq, lt-of-lt-of-le, le-of-suc-le-suc, not-suc-le-zero}
 use native.Mathlib.Numerals.{add-one}
 use native.Mathlib.Omega.{arith}
 use lib.Bits.{bitOr}
 use lib.Dec.{leb}
 use lib.ListN.{length, getD, take, drop}
 use lib.Seq.{drop-cons, drop-drop}
-use borrow.Author.Tests.{eq-eqb, leb-true, le-leb, not-true}
+use borrow.Author.Tests.{eq-eqb, leb-true, le-leb, not-true, not-false}
 use Rattle.math.specs.Laws.BitLaws.{bit-of-zero, bit-flip}
 use Rattle.math.specs.Bits.{bit, flip}
 use Rattle.math.specs.Laws.ListLaws.{here, getD-in, and-split, and-join, same-tests}
-use Rattle.math.specs.Lists.{_∈_, all, Distinct, distinct-nil, distinct-cons}
+use Rattle.math.specs.Lists.{_∈_, all, firstFailing, Distinct, distinct-nil, distinct-cons}
+use Rattle.math.specs.Laws.ScanLaws.{onFrom, failing-begins, failing-ends, failing-stops, failing-goes-on}
 use Rattle.math.specs.Laws.SetLaws.{bit-other}
 use Rattle.points.specs.Points.{Clause, numberedFrom, numbered}
 use Rattle.permutation_images.specs.Laws.Contracts.{fresh, Movable, Listed}
@@ -174,3 +175,51 @@ module _ (n k i : ℕ) (bytes : List ℕ) (l : Listed n k bytes) (h : i < k) whe
       l .movable (record { images = take n (drop (i * n) bytes) })
       (subst (λ e. e ∈ permutationsIn n k bytes) (permutation-at n k i bytes noPermutation h)
       (getD-in (permutationsIn n k bytes) i noPermutation (subst (λ m. i < m) (sym (length-permutations n k bytes)) h)))
+
+-- ---- a test of each of the listed permutations, in order
+
+-- the loop that looks for the first of k permutations that fails a test: it is the first from i on that fails
+pub record Testing (t : Permutation → Bool) (n k : ℕ) (bytes : List ℕ) (i : ℕ) : Type 0 where
+  pub fits : k * n ≤ length bytes
+  pub first : firstFailing t (permutationsIn n k bytes) ≡ onFrom i (firstFailing t (drop i (permutationsIn n k bytes)))
+
+module _ {t : Permutation → Bool} {n k : ℕ} {bytes : List ℕ} where
+  -- before the first turn all are still to be tested
+  pub testing-begins : k * n ≤ length bytes → Testing t n k bytes 0
+  testing-begins r = record { fits = r; first = failing-begins t (permutationsIn n k bytes) noPermutation }
+
+  -- in a turn permutation i lies in the bytes whole
+  pub testing-whole : {i : ℕ} → Testing t n k bytes i → i < k → i * n + n ≤ length bytes
+  testing-whole {i} s more = le-trans (part-ends i k n more) (s .fits)
+
+  -- in a turn i is an index of the permutations
+  inside : {i : ℕ} → Testing t n k bytes i → i < k → i < length (permutationsIn n k bytes)
+  inside s more = lt-of-lt-of-le more (le-of-eq (sym (length-permutations n k bytes)))
+
+  -- and what the test says of the bytes there it says of permutation i
+  tested : {i : ℕ} {es : List ℕ} {fine : Bool} → Testing t n k bytes i → i < k → es ≡ take n (drop (i * n) bytes)
+      → fine ≡ t (record { images = es }) → t (getD (permutationsIn n k bytes) i noPermutation) ≡ fine
+  tested {i} s more e f =
+      ap t (permutation-at n k i bytes noPermutation more) ∙ ap (λ l. t (record { images = l })) (sym e) ∙ sym f
+
+  -- a turn whose permutation fails has the answer
+  pub testing-stops : {i : ℕ} {es : List ℕ} {fine : Bool} → Testing t n k bytes i → i < k
+      → es ≡ take n (drop (i * n) bytes) → fine ≡ t (record { images = es }) → not fine ≡ true
+      → i + 1 ≡ firstFailing t (permutationsIn n k bytes)
+  testing-stops {i} s more e f bad =
+      sym (s .first ∙ failing-stops t _ noPermutation i (inside s more) (tested s more e f ∙ not-true _ bad))
+
+  -- a turn whose permutation passes goes on
+  pub testing-goes-on : {i : ℕ} {es : List ℕ} {fine : Bool} → Testing t n k bytes i → i < k
+      → es ≡ take n (drop (i * n) bytes) → fine ≡ t (record { images = es }) → not fine ≡ false
+      → Testing t n k bytes (i + 1)
+  testing-goes-on {i} s more e f good =
+      record {
+        fits = s .fits;
+        first = s .first ∙ failing-goes-on t _ noPermutation i (inside s more) (tested s more e f ∙ not-false _ good);
+      }
+
+  -- after the last turn none fails
+  pub testing-ends : {i : ℕ} → Testing t n k bytes i → k ≤ i → 0 ≡ firstFailing t (permutationsIn n k bytes)
+  testing-ends {i} s all =
+      sym (s .first ∙ failing-ends t _ noPermutation i (le-trans (le-of-eq (length-permutations n k bytes)) all))

@@ -1,49 +1,19 @@
 -- `certificate::bodies::numbers_into` meets its contract: before index i the first i are copied. Assumes nothing.
-use mathlib.Core.Path.{_≡_, refl, sym, ap, _∙_}
-use Prim.Native.Nat.{ℕ, suc, _-_, _*_, _≤_, zero-le}
-use native.Mathlib.Nat.{le-trans, mul-le-mul-right}
-use native.Mathlib.Omega.{arith}
-use lib.ListN.{length, set, length-set}
+use Prim.Native.Nat.{_-_}
 use borrow.Author.Needs.{needs}
-use Rattle.math.specs.Lists.{over}
-use Rattle.math.specs.Laws.OverLaws.{over-none}
-use Rattle.certificate.specs.Bytes.{entries, numbersIn, numberWidth}
-use Rattle.certificate.specs.Laws.BytesLaws.{into-next}
+use Rattle.certificate.specs.Bytes.{numberWidth}
+use Rattle.certificate.specs.Laws.BytesLaws.{Copying, copying-begins, copying-whole, copying-goes-on, copying-ends}
 use Rattle.certificate.proofs.bodies.numbers_into.Statement.{statement}
 use Rattle.certificate.proofs.bodies.numbers_into.Tie as tie
 
 abbrev Inv-loop : tie.InvT-loop
-Inv-loop to₀ body count i₀ to i = (i ≤ count) × (length to ≡ length to₀) × (to ≡ over (numbersIn numberWidth i body) to₀)
+Inv-loop to₀ body count i₀ to i = Copying numberWidth count body to₀ i to
 
 abbrev μ-loop : tie.MeasureT-loop
 μ-loop to₀ body count i₀ to i = count - i
 
-loop-holds : tie.Need-loop-holds Inv-loop μ-loop
-unfolding entries
-loop-holds c = (zero-le, refl, sym (over-none _))
-
 entry-requires : tie.Need-entry-requires Inv-loop μ-loop
-entry-requires c κs =
-    let whole : suc (c .before .loop .i) * 4 ≤ length (c .before .before .before .before .args .body .now) = le-trans (mul-le-mul-right 4 (c .loop-test .taken)) (c .before .before .before .before .pre .1) in
-    (omega arith, omega (arith, whole))
-
-cast-to : tie.Need-cast-to Inv-loop μ-loop
-cast-to c = omega (arith, c .entry .ensures .1)
-
-loop-again : tie.Need-loop-again Inv-loop μ-loop
-loop-again c =
-    let l = c .before .before .loop in
-    let a = c .before .before .before .before .before .args in
-    let x = c .entry .result in (
-      omega arith,
-      length-set (l .to) (l .i) x ∙ l .inv .1,
-      ap (λ xs. set xs (l .i) x) (l .inv .2) ∙ into-next numberWidth (l .i) (a .body .now) (a .to .now) x (c .entry .ensures .0) (omega arith),
-    )
-
-returns : tie.Need-returns Inv-loop μ-loop
-returns c =
-    let a = c .before .before .before .before .args in
-    c .before .loop .inv .2 ∙ ap (λ (j : ℕ). over (numbersIn numberWidth j (a .body .now)) (a .to .now)) (let z : c .before .loop .i ≡ a .count = omega arith in z)
+entry-requires c κs = search (needs, copying-whole)
 
 pub numbers-into-spec : {M : Type 1} → statement M
 numbers-into-spec =
@@ -51,13 +21,13 @@ numbers-into-spec =
     (tie.spec
     Inv-loop
     μ-loop
-    loop-holds
+    (λ c. search (needs, copying-begins))
     entry-requires
-    cast-to
     (λ c. search needs)
     (λ c. search needs)
     (λ c. search needs)
     (λ c. search needs)
-    loop-again
     (λ c. search needs)
-    returns)
+    (λ c. search (needs, copying-goes-on))
+    (λ c. search needs)
+    (λ c. search (needs, copying-ends)))
