@@ -111,8 +111,8 @@ pub fn write(
     let found = problem_refusal(f, positive, negative);
     let lent = room(points, falsified, depths);
     let n = f.variables;
-    let a = f.permutations;
-    let told = slots_refusal(
+    let permutations = f.permutations;
+    let refusal = slots_refusal(
         found,
         n,
         positive,
@@ -122,13 +122,13 @@ pub fn write(
         lent,
         filled,
     );
-    match told {
+    match refusal {
         Checked::Passed => {}
         Checked::Refused { code, place } => {
             return Written::Refused { code, place };
         }
     }
-    let size = length_needed(n, a, filled);
+    let size = length_needed(n, permutations, filled);
     if out.len() < size {
         return Written::Refused {
             code: 19,
@@ -136,6 +136,15 @@ pub fn write(
         };
     }
     let images = f.images;
-    put_certificate(out, n, f.clauses, a, &images, points, falsified, filled);
+    put_certificate(
+        out,
+        n,
+        f.clauses,
+        permutations,
+        &images,
+        points,
+        falsified,
+        filled,
+    );
     Written::Bytes(size)
 }

@@ -84,12 +84,12 @@ pub fn formula_refusal(f: Formula, positive: &[u64], negative: &[u64]) -> Checke
 }
 
 // The number, from 1, of the first of the listed that is no permutation; 0 if all are. Refusals 10 and 11 see to what it requires.
-fn first_non_permutation(images: &[u8], n: u32, count: u32) -> usize
-    requires { ⌜ (n ≤ 64) × (count * n ≤ length (now images)) ⌝ }
-    ensures { λ r. ⌜ r ≡ firstFailing (isPermutation n) (permutationsIn n count (now (images .entry))) ⌝ }
+fn first_non_permutation(images: &[u8], n: u32, permutations: u32) -> usize
+    requires { ⌜ (n ≤ 64) × (permutations * n ≤ length (now images)) ⌝ }
+    ensures { λ r. ⌜ r ≡ firstFailing (isPermutation n) (permutationsIn n permutations (now (images .entry))) ⌝ }
 {
     let size = n as usize;
-    let end = count as usize;
+    let end = permutations as usize;
     let mut i = 0;
     while i < end {
         let e = permutation_at(images, size, i);
@@ -102,18 +102,18 @@ fn first_non_permutation(images: &[u8], n: u32, count: u32) -> usize
     0
 }
 
-// Refusal 11, of `count` permutations of n bytes each. Refusal 10, or 15, sees to what it requires.
-pub fn permutations_refusal(images: &[u8], n: u32, count: u32) -> Checked
-    requires { ⌜ (n ≤ 64) × (count ≤ 16 → count * n ≤ length (now images)) ⌝ }
-    ensures { λ r. ⌜ faultOf r ≡ permutationFault n (permutationsIn n count (now (images .entry))) ⌝ }
+// Refusal 11, of `permutations` permutations of n bytes each. Refusal 10, or 15, sees to what it requires.
+pub fn permutations_refusal(images: &[u8], n: u32, permutations: u32) -> Checked
+    requires { ⌜ (n ≤ 64) × (permutations ≤ 16 → permutations * n ≤ length (now images)) ⌝ }
+    ensures { λ r. ⌜ faultOf r ≡ permutationFault n (permutationsIn n permutations (now (images .entry))) ⌝ }
 {
-    if Formula::MAX_PERMUTATIONS < count {
+    if Formula::MAX_PERMUTATIONS < permutations {
         return Checked::Refused {
             code: 11,
             place: 17,
         };
     }
-    let k = first_non_permutation(images, n, count);
+    let k = first_non_permutation(images, n, permutations);
     if k == 0 {
         Checked::Passed
     } else {
@@ -126,15 +126,15 @@ fn first_non_symmetry(
     guesses: &[u32],
     images: &[u8],
     n: u32,
-    count: u32,
+    permutations: u32,
     positive: &[u64],
     negative: &[u64],
 ) -> usize
-    requires { ⌜ Listed n count (now images) ⌝ }
-    ensures { λ r. ⌜ r ≡ firstFailing (keeps (numbered (clausesOf (now (positive .entry)) (now (negative .entry))))) (permutationsIn n count (now (images .entry))) ⌝ }
+    requires { ⌜ Listed n permutations (now images) ⌝ }
+    ensures { λ r. ⌜ r ≡ firstFailing (keeps (numbered (clausesOf (now (positive .entry)) (now (negative .entry))))) (permutationsIn n permutations (now (images .entry))) ⌝ }
 {
     let size = n as usize;
-    let end = count as usize;
+    let end = permutations as usize;
     let mut at = 0;
     while at < end {
         let e = permutation_at(images, size, at);
@@ -151,16 +151,16 @@ fn first_non_symmetry(
 fn guessed_non_symmetry(
     images: &[u8],
     n: u32,
-    count: u32,
+    permutations: u32,
     positive: &[u64],
     negative: &[u64],
 ) -> usize
-    requires { ⌜ Listed n count (now images) ⌝ }
-    ensures { λ r. ⌜ r ≡ firstFailing (keeps (numbered (clausesOf (now (positive .entry)) (now (negative .entry))))) (permutationsIn n count (now (images .entry))) ⌝ }
+    requires { ⌜ Listed n permutations (now images) ⌝ }
+    ensures { λ r. ⌜ r ≡ firstFailing (keeps (numbered (clausesOf (now (positive .entry)) (now (negative .entry))))) (permutationsIn n permutations (now (images .entry))) ⌝ }
 {
     let mut guesses = [0u32; ENTRIES];
     make_guesses(&mut guesses, positive, negative);
-    first_non_symmetry(&guesses, images, n, count, positive, negative)
+    first_non_symmetry(&guesses, images, n, permutations, positive, negative)
 }
 
 // Refusal 12. For each permutation the image of each clause takes about one comparison where the guesses have it, and never more than 16
@@ -169,17 +169,17 @@ fn guessed_non_symmetry(
 pub fn symmetry_refusal(
     images: &[u8],
     n: u32,
-    count: u32,
+    permutations: u32,
     positive: &[u64],
     negative: &[u64],
 ) -> Checked
-    requires { ⌜ Listed n count (now images) ⌝ }
-    ensures { λ r. ⌜ faultOf r ≡ symmetryFault (numbered (clausesOf (now (positive .entry)) (now (negative .entry)))) (permutationsIn n count (now (images .entry))) ⌝ }
+    requires { ⌜ Listed n permutations (now images) ⌝ }
+    ensures { λ r. ⌜ faultOf r ≡ symmetryFault (numbered (clausesOf (now (positive .entry)) (now (negative .entry)))) (permutationsIn n permutations (now (images .entry))) ⌝ }
 {
-    if count < 1 {
+    if permutations < 1 {
         return Checked::Passed;
     }
-    let k = guessed_non_symmetry(images, n, count, positive, negative);
+    let k = guessed_non_symmetry(images, n, permutations, positive, negative);
     if k == 0 {
         Checked::Passed
     } else {

@@ -32,9 +32,9 @@ fn flip_images(moved: &mut [u64], images: &[u8], n: u32, permutations: u32, v: u
     ensures { λ _. ⌜ Turns n permutations (now (images .entry)) v (pointsOf (now (moved .entry)))
         (pointsOf (now (moved .exit))) ⌝ }
 {
-    let group = permutations as usize;
+    let permutations = permutations as usize;
     let mut i = 0;
-    while i < group {
+    while i < permutations {
         let image = flipped_image(moved, images, n, i, v);
         put_point(moved, i, image);
         i += 1;
@@ -81,9 +81,9 @@ pub fn flip_covered(
     if contains(links, heads, points, n, k, flipped) {
         return true;
     }
-    let group = permutations as usize;
+    let permutations = permutations as usize;
     let mut i = 0;
-    while i < group {
+    while i < permutations {
         let image = flipped_image(moved, images, n, i, v);
         if contains(links, heads, points, n, k, image) {
             return true;

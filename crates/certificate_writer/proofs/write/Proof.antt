@@ -19,7 +19,7 @@ slots-refusal-requires c κs = slots-counted _ _ _ _ (c .before .problem-refusal
 returns : tie.Need-returns
 returns c =
     let slots = c .before .before .before in
-    wrote-faulty _ _ _ _ _ _ _ _ _ (slots .before .before .problem-refusal .ensures) _ (slots .before .room .ensures) _ (slots .slots-refusal .ensures) _ _ (c .before .told .given .1)
+    wrote-faulty _ _ _ _ _ _ _ _ _ (slots .before .before .problem-refusal .ensures) _ (slots .before .room .ensures) _ (slots .slots-refusal .ensures) _ _ (c .before .refusal .given .1)
 
 length-needed-requires : tie.Need-length-needed-requires
 length-needed-requires c κs =

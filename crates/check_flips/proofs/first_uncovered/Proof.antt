@@ -27,7 +27,7 @@ abbrev μ-loop : tie.MeasureT-loop
 μ-loop positive negative points numbers count links heads images n permutations moved₀ seen₀ i₀ moved seen i = count - i
 
 loop-holds : tie.Need-loop-holds Inv-loop μ-loop
-loop-holds c = (failing-begins _ _ 0, length-replicate {A = ℕ} 16 0, imaged-none _ _ 16 _ (c .before .before .before .before .before .before .pre .given .group))
+loop-holds c = (failing-begins _ _ 0, length-replicate {A = ℕ} 16 0, imaged-none _ _ 16 _ (c .before .before .before .before .before .before .pre .given .few-permutations))
 
 point-at-requires : tie.Need-point-at-requires Inv-loop μ-loop
 point-at-requires c κs = search needs

@@ -29,7 +29,7 @@ allFlips t n x s = all t (map (flip x) (members n s))
 -- variable
 pub record Proper (n count : ℕ) (images positive negative : List ℕ) : Type 0 where
   pub few : n ≤ maxVariables
-  pub group : count ≤ maxPermutations
+  pub few-permutations : count ≤ maxPermutations
   pub listed : Listed n count images
   pub proper : (e : Permutation) → e ∈ permutationsIn n count images → IsPermutation n e
   pub below : ClausesBelow n (numbered (clausesOf positive negative))

@@ -136,7 +136,7 @@ module _ (c : Contents) (positive negative file : List ℕ) (ok : Readable c pos
     images-proper =
         record {
           few = ok .fitting .few-variables;
-          group = passes-few (c .variables) (c .permutations) images eleven;
+          few-permutations = passes-few (c .variables) (c .permutations) images eleven;
           listed = images-listed;
           proper = permutation-passes (c .variables) (permutationsIn (c .variables) (c .permutations) images) eleven .1;
           below = fits-below (c .variables) (c .clauses) positive negative (ok .fitting);

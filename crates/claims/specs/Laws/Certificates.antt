@@ -56,7 +56,7 @@ part-at part e l i = ap (getD (map part l) i) (sym e) ∙ List·getD-map part l 
 first-member : (cs : List Numbered) (x : ℕ) (c : Numbered) → FirstFalsified cs x c → c ∈ cs
 first-member cs x c f = subst (λ l. c ∈ l) (sym (f .place)) (Memᴰ·append-right (f .before) (here c (f .after)))
 
-unsatisfiable-not-refused : {k : ℕ} (code place : ℕ) → unsatisfiable k ≡ refused code place → ⊥
+unsatisfiable-not-refused : {filled : ℕ} (code place : ℕ) → unsatisfiable filled ≡ refused code place → ⊥
 unsatisfiable-not-refused code place e = let z : _≡_ {A = ℕ} 0 1 = cc in omega arith
 
 module _ (f : Formula) (positive negative points falsified depths : List ℕ) where
@@ -69,20 +69,20 @@ module _ (f : Formula) (positive negative points falsified depths : List ℕ) wh
   abbrev l : List Slot
   l = searchSlots f positive negative lent
 
-  module _ (k : ℕ) (reply : searchReply f positive negative lent ≡ unsatisfiable k) where
-    answer : WalkAnswers f positive negative lent (unsatisfiable k)
-    answer = answered f positive negative lent (unsatisfiable k) reply unsatisfiable-not-refused
+  module _ (filled : ℕ) (reply : searchReply f positive negative lent ≡ unsatisfiable filled) where
+    answer : WalkAnswers f positive negative lent (unsatisfiable filled)
+    answer = answered f positive negative lent (unsatisfiable filled) reply unsatisfiable-not-refused
 
     passed : searchFault f positive negative lent ≡ no-fault
     unfolding searchReply
-    passed = not-refused (searchFault f positive negative lent) (walked pb lent .reply) (unsatisfiable k) reply
+    passed = not-refused (searchFault f positive negative lent) (walked pb lent .reply) (unsatisfiable filled) reply
         unsatisfiable-not-refused
 
     closed : ClosedSlots pb l
-    closed = search-closed f positive negative lent k reply .0
+    closed = search-closed f positive negative lent filled reply .0
 
-    counted : k ≡ length l
-    counted = search-closed f positive negative lent k reply .1
+    counted : filled ≡ length l
+    counted = search-closed f positive negative lent filled reply .1
 
     few : length l ≤ lent
     few = slots-filled pb lent (answer .ready) (answer .room) (answer .walks)
@@ -100,9 +100,9 @@ module _ (f : Formula) (positive negative points falsified depths : List ℕ) wh
     after-length part old h = ap length (after-is part old)
         ∙ over-length (map part l) old (le-trans (le-of-eq (length-map l part)) (le-trans few h))
 
-    after-front : (part : Slot → ℕ) (old : List ℕ) → take k (after part old) ≡ map part l
-    after-front part old = ap (take k) (after-is part old)
-        ∙ over-front k (map part l) old (length-map l part ∙ sym counted)
+    after-front : (part : Slot → ℕ) (old : List ℕ) → take filled (after part old) ≡ map part l
+    after-front part old = ap (take filled) (after-is part old)
+        ∙ over-front filled (map part l) old (length-map l part ∙ sym counted)
 
     abbrev points′ : List ℕ
     points′ = after (λ (s : Slot). s .point) points
@@ -152,38 +152,38 @@ module _ (f : Formula) (positive negative points falsified depths : List ℕ) wh
     own-numbers = numbered-own 1 (clausesOf positive negative)
 
     -- an entry of a slice among the first k is that of the slots
-    front-at : (part : Slot → ℕ) → part (slot 0 0 0) ≡ 0 → (old : List ℕ) (i : ℕ) → i < k
+    front-at : (part : Slot → ℕ) → part (slot 0 0 0) ≡ 0 → (old : List ℕ) (i : ℕ) → i < filled
         → getD (after part old) i 0 ≡ part (getD l i (slot 0 0 0))
-    front-at part e old i lt = sym (getD-take k (after part old) i 0 lt) ∙ ap (λ q. getD q i 0) (after-front part old)
+    front-at part e old i lt = sym (getD-take filled (after part old) i 0 lt) ∙ ap (λ q. getD q i 0) (after-front part old)
         ∙ part-at part e l i
 
-    within : (i : ℕ) → i < k → i < length l
+    within : (i : ℕ) → i < filled → i < length l
     within i lt = subst (λ m. i < m) counted lt
 
-    row16 : pointsFault (lentBy points′ falsified′ depths′) (pb .variables) k (pointsOf points′) ≡ no-fault
+    row16 : pointsFault (lentBy points′ falsified′ depths′) (pb .variables) filled (pointsOf points′) ≡ no-fault
     unfolding pointsFault
     row16 =
-        let some : 1 ≤ k = subst (λ m. 1 ≤ m) (sym counted) (closed .nonempty) in
-        let most : k ≤ lentBy points′ falsified′ depths′ = subst (λ m. m ≤ lentBy points′ falsified′ depths′)
+        let some : 1 ≤ filled = subst (λ m. 1 ≤ m) (sym counted) (closed .nonempty) in
+        let most : filled ≤ lentBy points′ falsified′ depths′ = subst (λ m. m ≤ lentBy points′ falsified′ depths′)
         (sym counted) (le-trans few (le-of-eq (sym same-lent))) in
-        test-passed (leb 1 k && leb k (lentBy points′ falsified′ depths′))
-        (faultAt 16 (firstFailing (pointPasses (pb .variables) points′) (below k))) 16 0
-        (and-join (leb 1 k) (leb k (lentBy points′ falsified′ depths′)) (le-leb 1 k some)
-        (le-leb k (lentBy points′ falsified′ depths′) most))
-        (passes-below 16 (pointPasses (pb .variables) points′) k each)
+        test-passed (leb 1 filled && leb filled (lentBy points′ falsified′ depths′))
+        (faultAt 16 (firstFailing (pointPasses (pb .variables) points′) (below filled))) 16 0
+        (and-join (leb 1 filled) (leb filled (lentBy points′ falsified′ depths′)) (le-leb 1 filled some)
+        (le-leb filled (lentBy points′ falsified′ depths′) most))
+        (passes-below 16 (pointPasses (pb .variables) points′) filled each)
       where
-        each : (i : ℕ) → i < k → pointPasses (pb .variables) points′ i ≡ true
+        each : (i : ℕ) → i < filled → pointPasses (pb .variables) points′ i ≡ true
         each i lt =
-            sym (point-passes-take (pb .variables) points′ k i lt)
+            sym (point-passes-take (pb .variables) points′ filled i lt)
             ∙ ap (λ q. pointPasses (pb .variables) q i) (after-front (λ (s : Slot). s .point) points)
             ∙ points-pass (pb .variables) xs points-below (closed .distinct) i
             (lt-of-lt-of-le (within i lt) (le-of-eq (sym (length-map l (λ (s : Slot). s .point)))))
 
-    row17 : numbersFault cs k (pointsOf points′) falsified′ ≡ no-fault
+    row17 : numbersFault cs filled (pointsOf points′) falsified′ ≡ no-fault
     unfolding numbersFault
-    row17 = passes-below 17 (numberPasses cs points′ falsified′) k each
+    row17 = passes-below 17 (numberPasses cs points′ falsified′) filled each
       where
-        each : (i : ℕ) → i < k → numberPasses cs points′ falsified′ i ≡ true
+        each : (i : ℕ) → i < filled → numberPasses cs points′ falsified′ i ≡ true
         each i lt =
             let t = getD l i (slot 0 0 0) in
             let m = closed .settled t (getD-in l i (slot 0 0 0) (within i lt)) .moved in
@@ -199,24 +199,24 @@ module _ (f : Formula) (positive negative points falsified depths : List ℕ) wh
     -- ---- what the writer answers and puts out
 
     abbrev size : ℕ
-    size = lengthNeeded pb k
+    size = lengthNeeded pb filled
 
     module _ (out : List ℕ) where
       abbrev faults : Fault
-      faults = writeFault f positive negative points′ falsified′ depths′ k out
+      faults = writeFault f positive negative points′ falsified′ depths′ filled out
 
       abbrev reply-of : Reply
-      reply-of = writeReply f positive negative points′ falsified′ depths′ k out
+      reply-of = writeReply f positive negative points′ falsified′ depths′ filled out
 
       abbrev output : List ℕ
-      output = writeOutput f positive negative points′ falsified′ depths′ k out
+      output = writeOutput f positive negative points′ falsified′ depths′ filled out
 
       -- C7: "there the writer refuses by 19 only"
       short-fault : length out < size → faults ≡ fault 19 size
       unfolding roomFault
       short-fault lt =
           let r = sheet-passed in
-          write-rows f positive negative points′ falsified′ depths′ k out
+          write-rows f positive negative points′ falsified′ depths′ filled out
           ∙ first-skips _ _ (r .0) ∙ first-skips _ _ (r .1) ∙ first-skips _ _ (r .2) ∙ first-skips _ _ row16
           ∙ first-skips _ _ row17
           ∙ first-stops (roomFault size (length out)) [] 19 size (rw (lt-leb size (length out) lt))
@@ -227,14 +227,14 @@ module _ (f : Formula) (positive negative points falsified depths : List ℕ) wh
 
       pub short-output : length out < size → output ≡ out
       unfolding writeOutput
-      short-output lt = ap (λ t. unlessKept t (certificateOf pb points′ falsified′ k ++ drop size out) out)
+      short-output lt = ap (λ t. unlessKept t (certificateOf pb points′ falsified′ filled ++ drop size out) out)
           (short-fault lt)
 
       long-passes : size ≤ length out → faults ≡ no-fault
       unfolding roomFault
       long-passes le =
           let r = sheet-passed in
-          passed-writer f positive negative points′ falsified′ depths′ k out
+          passed-writer f positive negative points′ falsified′ depths′ filled out
           (record {
             row10 = r .0;
             row11 = r .1;
@@ -246,10 +246,10 @@ module _ (f : Formula) (positive negative points falsified depths : List ℕ) wh
           })
 
       pub long-reply : size ≤ length out → reply-of ≡ written size
-      long-reply le = reply-written f positive negative points′ falsified′ depths′ k out (long-passes le)
+      long-reply le = reply-written f positive negative points′ falsified′ depths′ filled out (long-passes le)
 
       pub long-rest : size ≤ length out → drop size output ≡ drop size out
-      long-rest le = past-unchanged f positive negative points′ falsified′ depths′ k out size (long-reply le)
+      long-rest le = past-unchanged f positive negative points′ falsified′ depths′ filled out size (long-reply le)
 
     -- ---- the slots are a stable set, in the checker's form
 
@@ -294,7 +294,7 @@ module _ (f : Formula) (positive negative points falsified depths : List ℕ) wh
     pub long-accepted : (out : List ℕ) → size ≤ length out
         → checkReply f positive negative (take size (output out)) ≡ accepted
     long-accepted out le =
-        let w = reads-back f positive negative points′ falsified′ depths′ k out size (long-reply out le) in
+        let w = reads-back f positive negative points′ falsified′ depths′ filled out size (long-reply out le) in
         let same-points : filePoints (take size (output out)) ≡ xs = w .readsPoints
         ∙ after-front (λ (s : Slot). s .point) points in
         let same-numbers : fileNumbers (take size (output out)) ≡ ks = w .readsNumbers

@@ -27,13 +27,13 @@ sheetOf c = by-value (c .formula) (c .positive) (c .negative)
 abbrev places : ℕ → Slots
 places p = record { points = replicate p 7; falsified = replicate p 7; depths = replicate p 7 }
 
-satisfiable-kept : {x d k : ℕ} (code place : ℕ) → satisfiable x d k ≡ refused code place → ⊥
+satisfiable-kept : {x d filled : ℕ} (code place : ℕ) → satisfiable x d filled ≡ refused code place → ⊥
 satisfiable-kept code place e = let z : _≡_ {A = ℕ} 0 1 = cc in omega arith
 
-unsatisfiable-kept : {k : ℕ} (code place : ℕ) → unsatisfiable k ≡ refused code place → ⊥
+unsatisfiable-kept : {filled : ℕ} (code place : ℕ) → unsatisfiable filled ≡ refused code place → ⊥
 unsatisfiable-kept code place e = let z : _≡_ {A = ℕ} 0 1 = cc in omega arith
 
-unknown-kept : {b k : ℕ} (code place : ℕ) → unknown b k ≡ refused code place → ⊥
+unknown-kept : {b filled : ℕ} (code place : ℕ) → unknown b filled ≡ refused code place → ⊥
 unknown-kept code place e = let z : _≡_ {A = ℕ} 0 1 = cc in omega arith
 
 -- ---- accepted sheets with each answer
@@ -70,7 +70,7 @@ nearest-text = claim .nearest sheetText (places 5) 2 1 4 answered-text .2
 -- 2: A cannot be met, with exchange 2 1
 pub refuted-A : Unsatisfiable (problemIn (sheetOf caseA-swap))
 refuted-A = claim .exactly (sheetOf caseA-swap) (places 4) (unsatisfiable 3) answered-A
-    (λ b k e. let z : _≡_ {A = ℕ} 0 1 = cc in omega arith) .0 (3, refl)
+    (λ b filled e. let z : _≡_ {A = ℕ} 0 1 = cc in omega arith) .0 (3, refl)
 
 -- 3: its certificate is 70 bytes long; an output of 71 takes it, and the checker accepts it; one of 69 is refused
 pub certified-A : Certified (sheetOf caseA-swap) (places 4) 3 70 (replicate 71 9)
@@ -88,6 +88,6 @@ pub bound-A : AtLeast (problemIn (sheetOf caseA-3)) 1
 bound-A = claim .bound (sheetOf caseA-3) (places 3) 1 3 answered-A-3
 
 -- 6: with 2 ^ 2 slots it is not left open
-pub enough-room-A : (b k : ℕ) → SearchAnswers (sheetOf caseA-4) (places 4) (unknown b k) → ⊥
+pub enough-room-A : (b filled : ℕ) → SearchAnswers (sheetOf caseA-4) (places 4) (unknown b filled) → ⊥
 unfolding problemOf
-enough-room-A b k = claim .enough-room (sheetOf caseA-4) (places 4) b k (lit≤ tt) (lit≤ tt) (lit≤ tt) (lit≤ tt)
+enough-room-A b filled = claim .enough-room (sheetOf caseA-4) (places 4) b filled (lit≤ tt) (lit≤ tt) (lit≤ tt) (lit≤ tt)

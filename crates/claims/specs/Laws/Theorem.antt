@@ -14,20 +14,20 @@ use Rattle.claims.specs.Claim.{Sheet, formulaIn, positiveIn, negativeIn,
 use Rattle.claims.specs.Claim.{Certified, Claim}
 
 -- the certificate of an unsatisfiable sheet, whatever the slots held and whatever the output is
-certified : (s : Sheet) (l : Slots) (k : ℕ) → SearchAnswers s l (unsatisfiable k) → (out : List ℕ)
-    → Certified s l k (lengthNeeded (problemIn s) k) out
-certified s l k a out =
+certified : (s : Sheet) (l : Slots) (filled : ℕ) → SearchAnswers s l (unsatisfiable filled) → (out : List ℕ)
+    → Certified s l filled (lengthNeeded (problemIn s) filled) out
+certified s l filled a out =
     let f = formulaIn s in
     let p = positiveIn s in
     let q = negativeIn s in
     record {
       too-short = λ h. (
-        short-reply f p q (l .points) (l .falsified) (l .depths) k (a .reply) out h,
-        short-output f p q (l .points) (l .falsified) (l .depths) k (a .reply) out h,
+        short-reply f p q (l .points) (l .falsified) (l .depths) filled (a .reply) out h,
+        short-output f p q (l .points) (l .falsified) (l .depths) filled (a .reply) out h,
       );
-      answers = long-reply f p q (l .points) (l .falsified) (l .depths) k (a .reply) out;
-      behind = long-rest f p q (l .points) (l .falsified) (l .depths) k (a .reply) out;
-      checks = long-accepted f p q (l .points) (l .falsified) (l .depths) k (a .reply) out;
+      answers = long-reply f p q (l .points) (l .falsified) (l .depths) filled (a .reply) out;
+      behind = long-rest f p q (l .points) (l .falsified) (l .depths) filled (a .reply) out;
+      checks = long-accepted f p q (l .points) (l .falsified) (l .depths) filled (a .reply) out;
     }
 
 -- as many slots as three slices of that length give
@@ -39,8 +39,8 @@ enough l m a b c d = le-min a (le-min b (le-min c d))
 pub claim : Claim
 claim =
     record {
-      nearest = λ s l x d k a.
-          let n = search-nearest (formulaIn s) (positiveIn s) (negativeIn s) (lent l) x d k (a .reply) in (
+      nearest = λ s l x d filled a.
+          let n = search-nearest (formulaIn s) (positiveIn s) (negativeIn s) (lent l) x d filled (a .reply) in (
             record { within = n .within; satisfying = n .satisfying },
             n .changes,
             λ y m. n .nearest y (m .within)
@@ -57,9 +57,9 @@ claim =
           );
       certified = certified;
       refutes = accepted-refutes;
-      bound = λ s l b k a y m. search-bound (formulaIn s) (positiveIn s) (negativeIn s) (lent l) b k (a .reply) y
+      bound = λ s l b filled a y m. search-bound (formulaIn s) (positiveIn s) (negativeIn s) (lent l) b filled (a .reply) y
           (m .within) (m .satisfying);
-      enough-room = λ s l b k few p q r a.
+      enough-room = λ s l b filled few p q r a.
           search-room (formulaIn s) (positiveIn s) (negativeIn s) (lent l)
-          (enough l (2 ^ problemIn s .variables) few p q r) b k (a .reply);
+          (enough l (2 ^ problemIn s .variables) few p q r) b filled (a .reply);
     }

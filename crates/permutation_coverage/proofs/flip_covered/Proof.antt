@@ -14,11 +14,11 @@ use Rattle.permutation_coverage.proofs.flip_covered.Statement.{statemen
 use Rattle.permutation_coverage.proofs.flip_covered.Tie as tie
 
 abbrev Inv-loop : tie.InvT-loop
-Inv-loop links heads points n k images permutations moved x v flipped group i₀ i =
+Inv-loop links heads points n k images permutations moved x v flipped size i₀ i =
     covered (permutationsIn n permutations images) (take k points) (flip x v) ≡ any (imageIn (take k points) (flip x v)) (drop i (permutationsIn n permutations images))
 
 abbrev μ-loop : tie.MeasureT-loop
-μ-loop links heads points n k images permutations moved x v flipped group i₀ i = permutations - i
+μ-loop links heads points n k images permutations moved x v flipped size i₀ i = permutations - i
 
 flip-requires : tie.Need-flip-requires Inv-loop μ-loop
 flip-requires c κs = let pre = c .before .before .before .before .pre in lt-of-lt-of-le (pre .1) (pre .0 .askable .few)

@@ -9,10 +9,10 @@ use Rattle.permutation_coverage.proofs.flip_images.Statement.{statement
 use Rattle.permutation_coverage.proofs.flip_images.Tie as tie
 
 abbrev Inv-loop : tie.InvT-loop
-Inv-loop moved₀ images n permutations v group i₀ moved i = Turning n permutations images v moved₀ i moved
+Inv-loop moved₀ images n permutations v size i₀ moved i = Turning n permutations images v moved₀ i moved
 
 abbrev μ-loop : tie.MeasureT-loop
-μ-loop moved₀ images n permutations v group i₀ moved i = permutations - i
+μ-loop moved₀ images n permutations v size i₀ moved i = permutations - i
 
 loop-holds : tie.Need-loop-holds Inv-loop μ-loop
 loop-holds c = turning-begins _ _ _ _ _

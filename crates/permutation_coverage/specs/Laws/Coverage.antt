@@ -15,44 +15,44 @@ use Rattle.point_index.specs.Laws.Looking.{Askable}
 abbrev pub imagesOf : List Permutation → ℕ → List ℕ
 imagesOf es x = map (λ (e : Permutation). imageOfPoint e x) es
 
--- the images hold `count` permutations of n variables, which are those of a word at most
-pub record Permuting (n count : ℕ) (images : List ℕ) : Type 0 where
+-- the images hold `permutations` permutations of n variables, which are those of a word at most
+pub record Permuting (n permutations : ℕ) (images : List ℕ) : Type 0 where
   pub few : n ≤ 64
-  pub listed : Listed n count images
-  pub proper : (e : Permutation) → e ∈ permutationsIn n count images → IsPermutation n e
+  pub listed : Listed n permutations images
+  pub proper : (e : Permutation) → e ∈ permutationsIn n permutations images → IsPermutation n e
 
 -- `moved` has the images of x, a point of n digits
-pub record Imaged (n count : ℕ) (images : List ℕ) (x : ℕ) (moved : List ℕ) : Type 0 where
-  pub enough : count ≤ length moved
+pub record Imaged (n permutations : ℕ) (images : List ℕ) (x : ℕ) (moved : List ℕ) : Type 0 where
+  pub enough : permutations ≤ length moved
   pub narrow : x < 2 ^ n
-  pub imaged : take count moved ≡ imagesOf (permutationsIn n count images) x
+  pub imaged : take permutations moved ≡ imagesOf (permutationsIn n permutations images) x
 
 -- the links are an index of the first k points, all of n digits as x is, and `moved` has the images of x
-pub record Coverable (heads n k : ℕ) (points links : List ℕ) (count : ℕ) (images moved : List ℕ) (x : ℕ) : Type 0 where
+pub record Coverable (heads n k : ℕ) (points links : List ℕ) (permutations : ℕ) (images moved : List ℕ) (x : ℕ) : Type 0 where
   pub askable : Askable heads n (take k points) links x
-  pub permuting : Permuting n count images
-  pub imaged : take count moved ≡ imagesOf (permutationsIn n count images) x
+  pub permuting : Permuting n permutations images
+  pub imaged : take permutations moved ≡ imagesOf (permutationsIn n permutations images) x
 
 -- what was the images of some point is those of the point with the variable v flipped
 abbrev pub Turns : ℕ → ℕ → List ℕ → ℕ → List ℕ → List ℕ → Type 0
-Turns n count images v old new = (x : ℕ) → take count old ≡ imagesOf (permutationsIn n count images) x
-    → take count new ≡ imagesOf (permutationsIn n count images) (flip x v)
+Turns n permutations images v old new = (x : ℕ) → take permutations old ≡ imagesOf (permutationsIn n permutations images) x
+    → take permutations new ≡ imagesOf (permutationsIn n permutations images) (flip x v)
 
 -- before index i the images are flipped, whichever the point is; those from i on are as they were
-pub record Turning (n count : ℕ) (images : List ℕ) (v : ℕ) (old : List ℕ) (i : ℕ) (moved : List ℕ) : Type 0 where
+pub record Turning (n permutations : ℕ) (images : List ℕ) (v : ℕ) (old : List ℕ) (i : ℕ) (moved : List ℕ) : Type 0 where
   pub lengths : length moved ≡ length old
-  pub turned : (x : ℕ) → take count old ≡ imagesOf (permutationsIn n count images) x
-      → moved ≡ over (take i (imagesOf (permutationsIn n count images) (flip x v))) old
+  pub turned : (x : ℕ) → take permutations old ≡ imagesOf (permutationsIn n permutations images) x
+      → moved ≡ over (take i (imagesOf (permutationsIn n permutations images) (flip x v))) old
   pub rest : (j : ℕ) → i ≤ j → getD moved j 0 ≡ getD old j 0
 
 -- `moved` has the images of a point of n digits, which differs from y in the variables of `left`, v the lowest of them
-pub record Moving (n count : ℕ) (images : List ℕ) (y left v : ℕ) (moved : List ℕ) : Type 0 where
+pub record Moving (n permutations : ℕ) (images : List ℕ) (y left v : ℕ) (moved : List ℕ) : Type 0 where
   pub reached : ℕ
   pub narrow : reached < 2 ^ n
   pub within : left < 2 ^ n
   pub next : NextVariable left v
   pub differ : (i : ℕ) → bit left i ≡ xor (bit reached i) (bit y i)
-  pub imaged : take count moved ≡ imagesOf (permutationsIn n count images) reached
+  pub imaged : take permutations moved ≡ imagesOf (permutationsIn n permutations images) reached
 
 -- v is a variable of a word, and its byte in permutation i is there and is the number of one
 pub record Sends (n i v : ℕ) (images : List ℕ) : Type 0 where

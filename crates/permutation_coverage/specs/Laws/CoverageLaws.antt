@@ -31,45 +31,45 @@ use Rattle.permutation_coverage.specs.Laws.Coverage.{Moving, Sends}
 
 -- ---- the images of a point, stored one by one
 
-module _ (n count : ℕ) (images : List ℕ) (x : ℕ) where
-  length-images : length (imagesOf (permutationsIn n count images) x) ≡ count
-  length-images = length-map (permutationsIn n count images) (λ (e : Permutation). imageOfPoint e x)
-      ∙ length-permutations n count images
+module _ (n permutations : ℕ) (images : List ℕ) (x : ℕ) where
+  length-images : length (imagesOf (permutationsIn n permutations images) x) ≡ permutations
+  length-images = length-map (permutationsIn n permutations images) (λ (e : Permutation). imageOfPoint e x)
+      ∙ length-permutations n permutations images
 
   -- the image of index i is that under the permutation of index i
-  image-at : (i : ℕ) → getD (imagesOf (permutationsIn n count images) x) i 0
-      ≡ imageOfPoint (getD (permutationsIn n count images) i noPermutation) x
+  image-at : (i : ℕ) → getD (imagesOf (permutationsIn n permutations images) x) i 0
+      ≡ imageOfPoint (getD (permutationsIn n permutations images) i noPermutation) x
   unfolding imageOfPoint
-  image-at i = List·getD-map (λ (e : Permutation). imageOfPoint e x) (permutationsIn n count images) i noPermutation
+  image-at i = List·getD-map (λ (e : Permutation). imageOfPoint e x) (permutationsIn n permutations images) i noPermutation
 
   -- after i images come i + 1
-  pub images-next : (old : List ℕ) (i y : ℕ) → i < count → i < length old
-      → y ≡ imageOfPoint (getD (permutationsIn n count images) i noPermutation) x
-      → set (over (take i (imagesOf (permutationsIn n count images) x)) old) i y
-      ≡ over (take (i + 1) (imagesOf (permutationsIn n count images) x)) old
+  pub images-next : (old : List ℕ) (i y : ℕ) → i < permutations → i < length old
+      → y ≡ imageOfPoint (getD (permutationsIn n permutations images) i noPermutation) x
+      → set (over (take i (imagesOf (permutationsIn n permutations images) x)) old) i y
+      ≡ over (take (i + 1) (imagesOf (permutationsIn n permutations images) x)) old
   images-next old i y lt room is =
-      ap (set (over (take i (imagesOf (permutationsIn n count images) x)) old) i) (is ∙ sym (image-at i))
-      ∙ over-take-next i (imagesOf (permutationsIn n count images) x) old 0
+      ap (set (over (take i (imagesOf (permutationsIn n permutations images) x)) old) i) (is ∙ sym (image-at i))
+      ∙ over-take-next i (imagesOf (permutationsIn n permutations images) x) old 0
       (lt-of-lt-of-le lt (le-of-eq (sym length-images))) room
 
   -- the last leaves all in front
-  pub images-end : (new old : List ℕ) (i : ℕ) → count ≤ i
-      → new ≡ over (take i (imagesOf (permutationsIn n count images) x)) old
-      → take count new ≡ imagesOf (permutationsIn n count images) x
+  pub images-end : (new old : List ℕ) (i : ℕ) → permutations ≤ i
+      → new ≡ over (take i (imagesOf (permutationsIn n permutations images) x)) old
+      → take permutations new ≡ imagesOf (permutationsIn n permutations images) x
   images-end new old i ge is =
-      ap (take count) (is ∙ ap (λ (l : List ℕ). over l old)
-      (take-all i (imagesOf (permutationsIn n count images) x) (le-trans (le-of-eq length-images) ge)))
-      ∙ over-front count (imagesOf (permutationsIn n count images) x) old length-images
+      ap (take permutations) (is ∙ ap (λ (l : List ℕ). over l old)
+      (take-all i (imagesOf (permutationsIn n permutations images) x) (le-trans (le-of-eq length-images) ge)))
+      ∙ over-front permutations (imagesOf (permutationsIn n permutations images) x) old length-images
 
 -- an array of zeros has the images of the empty point, which are empty
-pub imaged-none : (n count size : ℕ) (images : List ℕ) → count ≤ size → Imaged n count images 0 (replicate size 0)
+pub imaged-none : (n permutations size : ℕ) (images : List ℕ) → permutations ≤ size → Imaged n permutations images 0 (replicate size 0)
 unfolding imageOfPoint
-imaged-none n count size images le =
+imaged-none n permutations size images le =
     record {
       enough = le-trans le (le-of-eq (sym (length-replicate {A = ℕ} size 0)));
       narrow = pow-pos n;
-      imaged = take-replicate count size 0 le ∙ ap (λ (k : ℕ). replicate k 0) (sym (length-permutations n count images))
-          ∙ sym (each (permutationsIn n count images));
+      imaged = take-replicate permutations size 0 le ∙ ap (λ (k : ℕ). replicate k 0) (sym (length-permutations n permutations images))
+          ∙ sym (each (permutationsIn n permutations images));
     }
   where
     each : (es : List Permutation) → imagesOf es 0 ≡ replicate (length es) 0
@@ -78,26 +78,26 @@ imaged-none n count size images le =
 
 -- ---- the image of a flipped point under one permutation
 
-module _ {n count : ℕ} {images : List ℕ} (g : Permuting n count images) (v : ℕ) (inside : v < n) (i : ℕ)
-    (lt : i < count) where
-  inside-all : i < length (permutationsIn n count images)
-  inside-all = lt-of-lt-of-le lt (le-of-eq (sym (length-permutations n count images)))
+module _ {n permutations : ℕ} {images : List ℕ} (g : Permuting n permutations images) (v : ℕ) (inside : v < n) (i : ℕ)
+    (lt : i < permutations) where
+  inside-all : i < length (permutationsIn n permutations images)
+  inside-all = lt-of-lt-of-le lt (le-of-eq (sym (length-permutations n permutations images)))
 
   abbrev own : Permutation
-  own = getD (permutationsIn n count images) i noPermutation
+  own = getD (permutationsIn n permutations images) i noPermutation
 
   own-proper : IsPermutation n own
-  own-proper = g .proper own (getD-in (permutationsIn n count images) i noPermutation inside-all)
+  own-proper = g .proper own (getD-in (permutationsIn n permutations images) i noPermutation inside-all)
 
   -- where it sends v, read in the bytes
   byte : getD images (i * n + v) 0 ≡ getD (own .images) v 0
   byte =
-      sym (ap (λ (e : Permutation). getD (e .images) v 0) (permutation-at n count i images noPermutation lt)
+      sym (ap (λ (e : Permutation). getD (e .images) v 0) (permutation-at n permutations i images noPermutation lt)
       ∙ getD-take n _ v 0 inside ∙ getD-drop (i * n) images v 0)
 
   pub flip-sends : Sends n i v images
   flip-sends =
-      let room = listed-room n count i images (g .listed) lt in
+      let room = listed-room n permutations i images (g .listed) lt in
       let range = sent-range n own own-proper v inside in
       let few = g .few in
       record {
@@ -109,31 +109,31 @@ module _ {n count : ℕ} {images : List ℕ} (g : Permuting n count images) (v :
       }
 
   -- it is the image, flipped where v is sent
-  pub image-flipped : (moved : List ℕ) (x y : ℕ) → take count moved ≡ imagesOf (permutationsIn n count images) x
+  pub image-flipped : (moved : List ℕ) (x y : ℕ) → take permutations moved ≡ imagesOf (permutationsIn n permutations images) x
       → y ≡ flip (getD moved i 0) (getD images (i * n + v) 0 - 1)
       → y ≡ imageOfPoint own (flip x v)
   image-flipped moved x y imaged is = is ∙ ap₂ (λ (z u : ℕ). flip z (u - 1)) at byte
       ∙ sym (image-flip n own own-proper x v inside)
     where
       at : getD moved i 0 ≡ imageOfPoint own x
-      at = sym (getD-take count moved i 0 lt) ∙ ap (λ (l : List ℕ). getD l i 0) imaged ∙ image-at n count images x i
+      at = sym (getD-take permutations moved i 0 lt) ∙ ap (λ (l : List ℕ). getD l i 0) imaged ∙ image-at n permutations images x i
 
 -- ---- all images flipped, one by one
 
-module _ (n count : ℕ) (images : List ℕ) (v : ℕ) (old : List ℕ) where
-  pub turning-begins : Turning n count images v old 0 old
+module _ (n permutations : ℕ) (images : List ℕ) (v : ℕ) (old : List ℕ) where
+  pub turning-begins : Turning n permutations images v old 0 old
   turning-begins = record { lengths = refl; turned = λ x e. sym (over-none old); rest = λ j le. refl }
 
-  pub turning-goes-on : Permuting n count images → v < n → count ≤ length old → {i : ℕ} {moved : List ℕ}
-      → Turning n count images v old i moved → i < count
+  pub turning-goes-on : Permuting n permutations images → v < n → permutations ≤ length old → {i : ℕ} {moved : List ℕ}
+      → Turning n permutations images v old i moved → i < permutations
       → (y : ℕ) → y ≡ flip (getD moved i 0) (getD images (i * n + v) 0 - 1) → (moved′ : List ℕ) → moved′ ≡ set moved i y
-      → Turning n count images v old (i + 1) moved′
+      → Turning n permutations images v old (i + 1) moved′
   turning-goes-on g inside enough {i} {moved} t lt y is moved′ stored =
       record {
         lengths = ap length stored ∙ length-set moved i y ∙ t .lengths;
         turned = λ x e.
             stored ∙ ap (λ (l : List ℕ). set l i y) (t .turned x e)
-            ∙ images-next n count images (flip x v) old i y lt (lt-of-lt-of-le lt enough)
+            ∙ images-next n permutations images (flip x v) old i y lt (lt-of-lt-of-le lt enough)
             (image-flipped g v inside i lt old x y e (is
             ∙ ap (λ (z : ℕ). flip z (getD images (i * n + v) 0 - 1)) (t .rest i (le-refl i))));
         rest = λ j le.
@@ -141,9 +141,9 @@ module _ (n count : ℕ) (images : List ℕ) (v : ℕ) (old : List ℕ) where
             ∙ t .rest j (omega arith);
       }
 
-  pub turning-ends : {i : ℕ} {moved : List ℕ} → Turning n count images v old i moved → count ≤ i
-      → Turns n count images v old moved
-  turning-ends {i} {moved} t ge x e = images-end n count images (flip x v) moved old i ge (t .turned x e)
+  pub turning-ends : {i : ℕ} {moved : List ℕ} → Turning n permutations images v old i moved → permutations ≤ i
+      → Turns n permutations images v old moved
+  turning-ends {i} {moved} t ge x e = images-end n permutations images (flip x v) moved old i ge (t .turned x e)
 
 -- ---- from the images of one point to those of another
 
@@ -168,9 +168,9 @@ no-difference true false e = sym e
 no-difference false true e = e
 no-difference false false e = refl
 
-module _ {n count : ℕ} {images : List ℕ} (few : n ≤ 64) (y : ℕ) (small : y < 2 ^ n) where
-  pub moving-begins : (x left v : ℕ) (moved : List ℕ) → Imaged n count images x moved → left ≡ bitXor x y
-      → NextVariable left v → Moving n count images y left v moved
+module _ {n permutations : ℕ} {images : List ℕ} (few : n ≤ 64) (y : ℕ) (small : y < 2 ^ n) where
+  pub moving-begins : (x left v : ℕ) (moved : List ℕ) → Imaged n permutations images x moved → left ≡ bitXor x y
+      → NextVariable left v → Moving n permutations images y left v moved
   moving-begins x left v moved m is next =
       record {
         reached = x;
@@ -181,13 +181,13 @@ module _ {n count : ℕ} {images : List ℕ} (few : n ≤ 64) (y : ℕ) (small :
         imaged = m .imaged;
       }
 
-  module _ {left v : ℕ} {moved : List ℕ} (m : Moving n count images y left v moved) where
+  module _ {left v : ℕ} {moved : List ℕ} (m : Moving n permutations images y left v moved) where
     pub moving-less : (left′ : ℕ) → v < n → left′ ≡ flip left v → length (members n left′) < length (members n left)
     moving-less left′ lt q = le-of-eq (ap (λ (z : ℕ). suc (length (members n z))) q
         ∙ sym (ap length (members-next n left v (next-lowest n left v few (m .next) lt) lt)))
 
-    pub moving-goes-on : v < n → {moved′ : List ℕ} → Turns n count images v moved moved′ → (left′ v′ : ℕ)
-        → left′ ≡ flip left v → NextVariable left′ v′ → Moving n count images y left′ v′ moved′
+    pub moving-goes-on : v < n → {moved′ : List ℕ} → Turns n permutations images v moved moved′ → (left′ v′ : ℕ)
+        → left′ ≡ flip left v → NextVariable left′ v′ → Moving n permutations images y left′ v′ moved′
     moving-goes-on lt turned left′ v′ q next =
         record {
           reached = flip (m .reached) v;
@@ -201,12 +201,12 @@ module _ {n count : ℕ} {images : List ℕ} (few : n ≤ 64) (y : ℕ) (small :
           imaged = turned (m .reached) (m .imaged);
         }
 
-    pub moving-ends : n ≤ v → count ≤ length moved → Imaged n count images y moved
+    pub moving-ends : n ≤ v → permutations ≤ length moved → Imaged n permutations images y moved
     moving-ends ge enough = record {
       enough = enough;
       narrow = small;
       imaged = m .imaged
-          ∙ ap (imagesOf (permutationsIn n count images)) same;
+          ∙ ap (imagesOf (permutationsIn n permutations images)) same;
     }
       where
         none : left ≡ 0
@@ -220,10 +220,10 @@ module _ {n count : ℕ} {images : List ℕ} (few : n ≤ 64) (y : ℕ) (small :
 
 -- ---- the look-ups of a flipped point and of its images
 
-module _ {heads n k : ℕ} {points links : List ℕ} {count : ℕ} {images moved : List ℕ} {x : ℕ}
-    (c : Coverable heads n k points links count images moved x) (v : ℕ) (inside : v < n) where
+module _ {heads n k : ℕ} {points links : List ℕ} {permutations : ℕ} {images moved : List ℕ} {x : ℕ}
+    (c : Coverable heads n k points links permutations images moved x) (v : ℕ) (inside : v < n) where
   abbrev es : List Permutation
-  es = permutationsIn n count images
+  es = permutationsIn n permutations images
 
   -- whether the flipped point, or its image under a permutation from index i on, is among the points
   abbrev whole : Bool
@@ -256,7 +256,7 @@ module _ {heads n k : ℕ} {points links : List ℕ} {count : ℕ} {images moved
       pub flip-not-found : found ≡ false → whole ≡ from 0
       flip-not-found e = first ∙ ap (λ (b : Bool). b || from 0) e
 
-  module _ (i : ℕ) (lt : i < count) where
+  module _ (i : ℕ) (lt : i < permutations) where
     abbrev sender : Permutation
     sender = getD es i noPermutation
 
@@ -284,7 +284,7 @@ module _ {heads n k : ℕ} {points links : List ℕ} {count : ℕ} {images moved
         image-not-found e = left ∙ any-goes-on (imageIn (take k points) (flip x v)) es noPermutation i among
             (tested ∙ e)
 
-  pub none-found : (i : ℕ) → count ≤ i → whole ≡ from i → false ≡ whole
+  pub none-found : (i : ℕ) → permutations ≤ i → whole ≡ from i → false ≡ whole
   none-found i ge left =
       sym (left ∙ any-ends (imageIn (take k points) (flip x v)) es noPermutation i
-      (le-trans (le-of-eq (length-permutations n count images)) ge))
+      (le-trans (le-of-eq (length-permutations n permutations images)) ge))

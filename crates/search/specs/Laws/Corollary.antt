@@ -28,18 +28,18 @@ use Rattle.search.specs.Laws.Theorems.{search-bound, search-room-lent}
 -- the outcome that a reply of the builder comes from
 abbrev outcomeOf : Reply → Outcome
 outcomeOf (refused code place) = Refused code place
-outcomeOf (satisfiable x d k) = Satisfiable x d k
-outcomeOf (unsatisfiable k) = Unsatisfiable k
-outcomeOf (unknown b k) = Unknown b k
+outcomeOf (satisfiable x d filled) = Satisfiable x d filled
+outcomeOf (unsatisfiable filled) = Unsatisfiable filled
+outcomeOf (unknown b filled) = Unknown b filled
 outcomeOf parsed = Unsatisfiable 0
 outcomeOf (written size) = Unsatisfiable 0
 outcomeOf opened = Unsatisfiable 0
 outcomeOf accepted = Unsatisfiable 0
 
 outcome-back : (r : Outcome) → outcomeOf (replyOfOutcome r) ≡ r
-outcome-back (Satisfiable x d k) = refl
-outcome-back (Unsatisfiable k) = refl
-outcome-back (Unknown b k) = refl
+outcome-back (Satisfiable x d filled) = refl
+outcome-back (Unsatisfiable filled) = refl
+outcome-back (Unknown b filled) = refl
 outcome-back (Refused code place) = refl
 
 same-outcome : (r q : Outcome) → replyOfOutcome r ≡ replyOfOutcome q → r ≡ q
@@ -48,18 +48,18 @@ same-outcome r q e = sym (outcome-back r) ∙ ap outcomeOf e ∙ outcome-back q
 -- ---- the slices as the search leaves them
 
 -- the slots l stand in front, k of them, one of their parts in each slice; "Slots beyond those filled are unchanged."
-pub record Left (part : Slot → ℕ) (l : List Slot) (k : ℕ) (old new : List ℕ) : Type 0 where
-  pub front : take k new ≡ map part l
-  pub behind : drop k new ≡ drop k old
+pub record Left (part : Slot → ℕ) (l : List Slot) (filled : ℕ) (old new : List ℕ) : Type 0 where
+  pub front : take filled new ≡ map part l
+  pub behind : drop filled new ≡ drop filled old
 
-left-of : (part : Slot → ℕ) (l : List Slot) (k : ℕ) (old new : List ℕ) → k ≡ length l → new ≡ over (map part l) old
-    → Left part l k old new
-left-of part l k old new e h =
-    let n : length (map part l) ≡ k = length-map l part ∙ sym e in
+left-of : (part : Slot → ℕ) (l : List Slot) (filled : ℕ) (old new : List ℕ) → filled ≡ length l → new ≡ over (map part l) old
+    → Left part l filled old new
+left-of part l filled old new e h =
+    let n : length (map part l) ≡ filled = length-map l part ∙ sym e in
     record {
-      front = ap (take k) h ∙ over-front k (map part l) old n;
-      behind = ap (drop k) h
-          ∙ over-rest k (map part l) old n;
+      front = ap (take filled) h ∙ over-front filled (map part l) old n;
+      behind = ap (drop filled) h
+          ∙ over-rest filled (map part l) old n;
     }
 
 kept-slice : (part : Slot → ℕ) (f : Formula) (positive negative : List ℕ) (lent : ℕ) (old : List ℕ)
@@ -120,38 +120,38 @@ module _ (f : Formula) (positive negative points₀ falsified₀ depths₀ : Lis
     depths-left = left (λ (s : Slot). s .depth) depths₀ depths₁ (call .depths)
 
     -- D3.3: "Unless 'no room' is said, 'cannot be met' is said exactly when none of the 2^n choices meets the rules."
-    pub outcome-exactly : ((b k : ℕ) → r ≡ Unknown b k → ⊥)
-        → ((k : ℕ) → r ≡ Unsatisfiable k → NoneSatisfies (problemOf f positive negative))
+    pub outcome-exactly : ((b filled : ℕ) → r ≡ Unknown b filled → ⊥)
+        → ((filled : ℕ) → r ≡ Unsatisfiable filled → NoneSatisfies (problemOf f positive negative))
         × (NoneSatisfies (problemOf f positive negative) → r ≡ Unsatisfiable (length slotsOf))
     outcome-exactly known =
         let w = search-exactly f positive negative lent (replyOfOutcome r) (sym (call .reply)) not-refusal
-        (λ b k e. known b k (same-outcome r (Unknown b k) e)) in
-        (λ k e. w .0 k (ap replyOfOutcome e), λ none. same-outcome r (Unsatisfiable (length slotsOf)) (w .1 none))
+        (λ b filled e. known b filled (same-outcome r (Unknown b filled) e)) in
+        (λ filled e. w .0 filled (ap replyOfOutcome e), λ none. same-outcome r (Unsatisfiable (length slotsOf)) (w .1 none))
 
   -- D3.1: "A choice handed back meets the rules, and every other choice that meets them differs from the client's wish
   -- in at least as many names." D3.2: "The reported changes are the number of names in which the one handed back
   -- differs."
-  pub outcome-nearest : (x d k : ℕ) → r ≡ Satisfiable x d k → Nearest (problemOf f positive negative) x d
-  outcome-nearest x d k e = search-nearest f positive negative lent x d k (replied (Satisfiable x d k) e)
+  pub outcome-nearest : (x d filled : ℕ) → r ≡ Satisfiable x d filled → Nearest (problemOf f positive negative) x d
+  outcome-nearest x d filled e = search-nearest f positive negative lent x d filled (replied (Satisfiable x d filled) e)
 
   -- its slot, with 0 for its clause and its distance for its depth
-  pub outcome-slot : (x d k : ℕ) → r ≡ Satisfiable x d k → HandedBack slotsOf x d
-  outcome-slot x d k e = search-slot f positive negative lent x d k (replied (Satisfiable x d k) e)
+  pub outcome-slot : (x d filled : ℕ) → r ≡ Satisfiable x d filled → HandedBack slotsOf x d
+  outcome-slot x d filled e = search-slot f positive negative lent x d filled (replied (Satisfiable x d filled) e)
 
   -- the slots of an unsatisfiable formula are a stable set, as many as reported
-  pub outcome-closed : (k : ℕ) → r ≡ Unsatisfiable k
-      → ClosedSlots (problemOf f positive negative) slotsOf × (k ≡ length slotsOf)
-  outcome-closed k e = search-closed f positive negative lent k (replied (Unsatisfiable k) e)
+  pub outcome-closed : (filled : ℕ) → r ≡ Unsatisfiable filled
+      → ClosedSlots (problemOf f positive negative) slotsOf × (filled ≡ length slotsOf)
+  outcome-closed filled e = search-closed f positive negative lent filled (replied (Unsatisfiable filled) e)
 
   -- D3.7: "'No room' carries a number d, and every choice that meets the rules differs from the wish in at least d
   -- names."
-  pub outcome-bound : (b k : ℕ) → r ≡ Unknown b k → LowerBound (problemOf f positive negative) b
-  outcome-bound b k e = search-bound f positive negative lent b k (replied (Unknown b k) e)
+  pub outcome-bound : (b filled : ℕ) → r ≡ Unknown b filled → LowerBound (problemOf f positive negative) b
+  outcome-bound b filled e = search-bound f positive negative lent b filled (replied (Unknown b filled) e)
 
   -- D3.8: "Where 2^n is at most 65,536 and at least 2^n slots are lent, it is never said."
   pub outcome-room : 2 ^ f .variables ≤ maxSlots → 2 ^ f .variables ≤ length (pointsOf points₀)
       → 2 ^ f .variables ≤ length falsified₀ → 2 ^ f .variables ≤ length depths₀
-      → (b k : ℕ) → r ≡ Unknown b k → ⊥
+      → (b filled : ℕ) → r ≡ Unknown b filled → ⊥
   unfolding problemOf
-  outcome-room few p n d b k e = search-room-lent f positive negative points₀ falsified₀ depths₀ few p n d b k
-      (replied (Unknown b k) e)
+  outcome-room few p n d b filled e = search-room-lent f positive negative points₀ falsified₀ depths₀ few p n d b filled
+      (replied (Unknown b filled) e)

@@ -137,7 +137,7 @@ module _ (f : Formula) (positive negative : List ℕ) where
               let fits = formula-passes f positive negative (r .0) .0 in
               record {
                 few = fits .few-variables;
-                group = passes-few (f .variables) (f .permutations) (f .images) (r .1);
+                few-permutations = passes-few (f .variables) (f .permutations) (f .images) (r .1);
                 permuting =
                     record {
                       few = fits .few-variables;

@@ -33,39 +33,39 @@ use Rattle.search_theory.specs.Walk.{Slot, pointsIn, start, Walks}
 
 module _ (pb : Problem) (capacity : ℕ) (ready : Ready pb) (room : 1 ≤ capacity) {r : Reply} {l : List Slot}
     (t : Walks pb capacity (start pb) r l) where
-  filled : Filled pb capacity l
-  filled = ended-filled pb capacity (search-ends pb capacity ready room t)
+  invariants : Filled pb capacity l
+  invariants = ended-filled pb capacity (search-ends pb capacity ready room t)
 
   -- "with slots filled": the number reported is that of the slots, at least one and at most as many as are lent
   pub slots-reported : reported r ≡ length l
   slots-reported = walks-reported pb capacity t
 
   pub slots-some : 1 ≤ length l
-  slots-some = filled .nonempty
+  slots-some = invariants .nonempty
 
   pub slots-filled : length l ≤ capacity
-  slots-filled = filled .room
+  slots-filled = invariants .room
 
   -- the first is the target's; "Slot 1 gets the wish"
   pub first-point : slotAt l 0 .point ≡ pb .target
-  first-point = filled .begins
+  first-point = invariants .begins
 
   pub points-below : (u : Slot) → u ∈ l → u .point < 2 ^ pb .variables
-  points-below = filled .below
+  points-below = invariants .below
 
   pub points-distinct : Distinct (pointsIn l)
-  points-distinct = filled .distinct
+  points-distinct = invariants .distinct
 
   -- a slot's point differs from the target in at most as many variables as its depth says
   pub point-near : (u : Slot) → u ∈ l → distance (pb .variables) (u .point) (pb .target) ≤ u .depth
-  point-near = filled .near
+  point-near = invariants .near
 
   pub depths-ascending : (i j : ℕ) → i ≤ j → j < length l → slotAt l i .depth ≤ slotAt l j .depth
-  depths-ascending = filled .ascending
+  depths-ascending = invariants .ascending
 
   -- W11: "Depth may exceed n." (Examples has such a search): it is at most the slot's index, from 0
   pub depth-bound : (i : ℕ) → i < length l → slotAt l i .depth ≤ i
-  depth-bound = filled .depth-index
+  depth-bound = invariants .depth-index
 
   -- so it is below the limit of slots, which the number lent respects (lent-few of Accepted)
   pub depth-small : capacity ≤ maxSlots → (i : ℕ) → i < length l → slotAt l i .depth < 65536
@@ -85,53 +85,53 @@ module _ (f : Formula) (positive negative : List ℕ) (lent : ℕ) where
   abbrev slots : List Slot
   slots = searchSlots f positive negative lent
 
-  satisfiable-answered : (x d k : ℕ) → searchReply f positive negative lent ≡ satisfiable x d k
-      → WalkAnswers f positive negative lent (satisfiable x d k)
-  satisfiable-answered x d k e = answered f positive negative lent (satisfiable x d k) e
+  satisfiable-answered : (x d filled : ℕ) → searchReply f positive negative lent ≡ satisfiable x d filled
+      → WalkAnswers f positive negative lent (satisfiable x d filled)
+  satisfiable-answered x d filled e = answered f positive negative lent (satisfiable x d filled) e
       (λ code place p. let z : _≡_ {A = ℕ} 0 1 = cc in omega arith)
 
-  unsatisfiable-answered : (k : ℕ) → searchReply f positive negative lent ≡ unsatisfiable k
-      → WalkAnswers f positive negative lent (unsatisfiable k)
-  unsatisfiable-answered k e = answered f positive negative lent (unsatisfiable k) e
+  unsatisfiable-answered : (filled : ℕ) → searchReply f positive negative lent ≡ unsatisfiable filled
+      → WalkAnswers f positive negative lent (unsatisfiable filled)
+  unsatisfiable-answered filled e = answered f positive negative lent (unsatisfiable filled) e
       (λ code place p. let z : _≡_ {A = ℕ} 0 1 = cc in omega arith)
 
-  unknown-answered : (b k : ℕ) → searchReply f positive negative lent ≡ unknown b k
-      → WalkAnswers f positive negative lent (unknown b k)
-  unknown-answered b k e = answered f positive negative lent (unknown b k) e
+  unknown-answered : (b filled : ℕ) → searchReply f positive negative lent ≡ unknown b filled
+      → WalkAnswers f positive negative lent (unknown b filled)
+  unknown-answered b filled e = answered f positive negative lent (unknown b filled) e
       (λ code place p. let z : _≡_ {A = ℕ} 0 1 = cc in omega arith)
 
   -- D3.1: "A choice handed back meets the rules, and every other choice that meets them differs from the client's wish
   -- in at least as many names."
   -- D3.2: "The reported changes are the number of names in which the one handed back differs."
-  pub search-nearest : (x d k : ℕ) → searchReply f positive negative lent ≡ satisfiable x d k
+  pub search-nearest : (x d filled : ℕ) → searchReply f positive negative lent ≡ satisfiable x d filled
       → Nearest (problemOf f positive negative) x d
-  search-nearest x d k e = let a = satisfiable-answered x d k e in found-nearest pb lent (a .ready) (a .room) (a .walks)
+  search-nearest x d filled e = let a = satisfiable-answered x d filled e in found-nearest pb lent (a .ready) (a .room) (a .walks)
 
   -- the depth of its slot equals its distance
-  pub search-slot : (x d k : ℕ) → searchReply f positive negative lent ≡ satisfiable x d k
+  pub search-slot : (x d filled : ℕ) → searchReply f positive negative lent ≡ satisfiable x d filled
       → HandedBack (searchSlots f positive negative lent) x d
-  search-slot x d k e = let a = satisfiable-answered x d k e in found-slot pb lent (a .ready) (a .room) (a .walks)
+  search-slot x d filled e = let a = satisfiable-answered x d filled e in found-slot pb lent (a .ready) (a .room) (a .walks)
 
   -- D3.3: "Unless 'no room' is said, 'cannot be met' is said exactly when none of the 2^n choices meets the rules."
   pub search-exactly : (r : Reply) → searchReply f positive negative lent ≡ r
-      → ((code place : ℕ) → r ≡ refused code place → ⊥) → ((b k : ℕ) → r ≡ unknown b k → ⊥)
-      → ((k : ℕ) → r ≡ unsatisfiable k → Unsatisfiable (problemOf f positive negative))
+      → ((code place : ℕ) → r ≡ refused code place → ⊥) → ((b filled : ℕ) → r ≡ unknown b filled → ⊥)
+      → ((filled : ℕ) → r ≡ unsatisfiable filled → Unsatisfiable (problemOf f positive negative))
       × (Unsatisfiable (problemOf f positive negative)
       → r ≡ unsatisfiable (length (searchSlots f positive negative lent)))
   search-exactly r e ok known =
       let a = answered f positive negative lent r e ok in unsatisfiable-exactly pb lent (a .ready) (a .room) (a .walks)
       known
 
-  pub search-refutes : (k : ℕ) → searchReply f positive negative lent ≡ unsatisfiable k
+  pub search-refutes : (filled : ℕ) → searchReply f positive negative lent ≡ unsatisfiable filled
       → Unsatisfiable (problemOf f positive negative)
-  search-refutes k e = let a = unsatisfiable-answered k e in refuted pb lent (a .ready) (a .room) (a .walks)
+  search-refutes filled e = let a = unsatisfiable-answered filled e in refuted pb lent (a .ready) (a .room) (a .walks)
 
   -- the slots are then a stable set, and as many as reported
-  pub search-closed : (k : ℕ) → searchReply f positive negative lent ≡ unsatisfiable k
+  pub search-closed : (filled : ℕ) → searchReply f positive negative lent ≡ unsatisfiable filled
       → ClosedSlots (problemOf f positive negative) (searchSlots f positive negative lent)
-      × (k ≡ length (searchSlots f positive negative lent))
-  search-closed k e =
-      let a = unsatisfiable-answered k e in (
+      × (filled ≡ length (searchSlots f positive negative lent))
+  search-closed filled e =
+      let a = unsatisfiable-answered filled e in (
         refuted-closed pb lent (a .ready) (a .room) (a .walks),
         slots-reported pb
             lent (a .ready) (a .room) (a .walks),
@@ -139,15 +139,15 @@ module _ (f : Formula) (positive negative : List ℕ) (lent : ℕ) where
 
   -- D3.7: "'No room' carries a number d, and every choice that meets the rules differs from the wish in at least d
   -- names."
-  pub search-bound : (b k : ℕ) → searchReply f positive negative lent ≡ unknown b k
+  pub search-bound : (b filled : ℕ) → searchReply f positive negative lent ≡ unknown b filled
       → LowerBound (problemOf f positive negative) b
-  search-bound b k e = let a = unknown-answered b k e in unknown-bound pb lent (a .ready) (a .room) (a .walks)
+  search-bound b filled e = let a = unknown-answered b filled e in unknown-bound pb lent (a .ready) (a .room) (a .walks)
 
   -- with a slot for each of the 2 ^ n points it is never said
-  pub search-room : 2 ^ (problemOf f positive negative .variables) ≤ lent → (b k : ℕ)
-      → searchReply f positive negative lent ≡ unknown b k → ⊥
-  search-room large b k e = let a = unknown-answered b k e in never-unknown pb lent (a .ready) (a .room) large
-      (a .walks) b k refl
+  pub search-room : 2 ^ (problemOf f positive negative .variables) ≤ lent → (b filled : ℕ)
+      → searchReply f positive negative lent ≡ unknown b filled → ⊥
+  search-room large b filled e = let a = unknown-answered b filled e in never-unknown pb lent (a .ready) (a .room) large
+      (a .walks) b filled refl
 
 -- D3.8: "Where 2^n is at most 65,536 and at least 2^n slots are lent, it is never said.": in each of the three lent
 -- slices
@@ -155,8 +155,8 @@ pub search-room-lent : (f : Formula) (positive negative points falsified depths 
     → 2 ^ (problemOf f positive negative .variables) ≤ maxSlots
     → 2 ^ (problemOf f positive negative .variables) ≤ length (pointsOf points)
     → 2 ^ (problemOf f positive negative .variables) ≤ length falsified
-    → 2 ^ (problemOf f positive negative .variables) ≤ length depths → (b k : ℕ)
-    → searchReply f positive negative (lentBy points falsified depths) ≡ unknown b k → ⊥
+    → 2 ^ (problemOf f positive negative .variables) ≤ length depths → (b filled : ℕ)
+    → searchReply f positive negative (lentBy points falsified depths) ≡ unknown b filled → ⊥
 search-room-lent f positive negative points falsified depths few a b c =
     search-room f positive negative (lentBy points falsified depths)
     (lent-enough (2 ^ (problemOf f positive negative .variables)) (length (pointsOf points)) (length falsified)

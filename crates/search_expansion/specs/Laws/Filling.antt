@@ -14,9 +14,9 @@ use Rattle.search_theory.specs.Walk.{Slot, Expansion, full, Fills}
 
 -- what lets a flip of x be tried, of a point at depth d, with `filled` slots filled: the links are an index of their
 -- points, with two links for each head, and each slice has room for `capacity` slots
-pub record Fillable (n count : ℕ) (images moved : List ℕ) (capacity x d filled heads : ℕ) (links : List ℕ)
+pub record Fillable (n permutations : ℕ) (images moved : List ℕ) (capacity x d filled heads : ℕ) (links : List ℕ)
     (m : Memory) : Type 0 where
-  pub coverable : Coverable heads n filled (m .points) links count images moved x
+  pub coverable : Coverable heads n filled (m .points) links permutations images moved x
   pub room : Lends capacity m
   pub most : capacity ≤ maxSlots
   pub shallow : d < maxSlots

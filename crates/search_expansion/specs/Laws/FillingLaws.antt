@@ -138,8 +138,8 @@ module _ (heads n filled : ℕ) (points links : List ℕ) where
       }
 
 -- what lets the flip be added: a slot that there is has a head
-pub fillable-addable : {n count : ℕ} {images moved : List ℕ} {capacity x d filled heads : ℕ} {links : List ℕ}
-    {m : Memory} → Fillable n count images moved capacity x d filled heads links m
+pub fillable-addable : {n permutations : ℕ} {images moved : List ℕ} {capacity x d filled heads : ℕ} {links : List ℕ}
+    {m : Memory} → Fillable n permutations images moved capacity x d filled heads links m
     → Headed (filled + 1) capacity heads → filled < capacity → (v y : ℕ) → v < n → y ≡ flip x v
     → Addable heads n filled (m .points) links y
 fillable-addable {n = n} {x = x} {filled = filled} {heads = heads} {links = links} {m = m} f headed lt v y small q =

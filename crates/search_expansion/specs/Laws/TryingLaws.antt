@@ -59,9 +59,9 @@ module _ (es : List Permutation) (capacity x d n listed filled₀ heads : ℕ) (
     trying-less left′ lt q = le-of-eq (fewer left′ lt q)
 
     -- what lets the next flip be tried
-    pub trying-fillable : {count : ℕ} {images moved : List ℕ}
-        → Fillable n count images moved capacity x d filled₀ heads links₀ m₀
-        → Fillable n count images moved capacity x d filled heads links m
+    pub trying-fillable : {permutations : ℕ} {images moved : List ℕ}
+        → Fillable n permutations images moved capacity x d filled₀ heads links₀ m₀
+        → Fillable n permutations images moved capacity x d filled heads links m
     trying-fillable f =
         let c = f .coverable in
         record {

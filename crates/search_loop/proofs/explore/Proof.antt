@@ -29,7 +29,7 @@ abbrev μ-loop : tie.MeasureT-loop
 
 loop-holds : tie.Need-loop-holds Inv-loop μ-loop
 loop-holds c =
-    (exploring-begins _ _ _ _ _ _ _ _ (c .before .before .before .before .before .before .before .pre .2) (c .before .before .before .before .before .before .before .pre .3), length-replicate {A = ℕ} 16 0, imaged-none _ _ 16 _ (c .before .before .before .before .before .before .before .pre .0 .group))
+    (exploring-begins _ _ _ _ _ _ _ _ (c .before .before .before .before .before .before .before .pre .2) (c .before .before .before .before .before .before .before .pre .3), length-replicate {A = ℕ} 16 0, imaged-none _ _ 16 _ (c .before .before .before .before .before .before .before .pre .0 .few-permutations))
 
 -- no more slots are filled than there are
 few : (c : tie.At-loop Inv-loop μ-loop) → c .loop .filled ≤ c .before .before .before .before .before .before .before .before .args .g .room

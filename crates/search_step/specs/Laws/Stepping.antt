@@ -41,7 +41,7 @@ framed g images positive negative =
 -- what is known of it once refusals 10 to 13 have passed
 pub record Searchable (g : Frame) (images positive negative : List ℕ) : Type 0 where
   pub few : g .variables ≤ maxVariables
-  pub group : g .permutations ≤ maxPermutations
+  pub few-permutations : g .permutations ≤ maxPermutations
   pub permuting : Permuting (g .variables) (g .permutations) images
   pub clauses : length (clausesOf positive negative) ≤ maxClauses
   pub ready : Ready (framed g images positive negative)
@@ -60,7 +60,7 @@ StillLinked n heads (Goes filled) points links = Indexed heads n (take filled po
 
 -- `moved` has the images of the point of the slot of index i, which is the next that is processed
 abbrev pub Next : ℕ → ℕ → List ℕ → List ℕ → ℕ → List ℕ → Type 0
-Next n count images points i moved = Imaged n count images (getD points i 0) moved
+Next n permutations images points i moved = Imaged n permutations images (getD points i 0) moved
 
 module _ (pb : Problem) (capacity : ℕ) where
   -- the search has come to the slot of index i: in front of what the memory `old` has, m holds the processed slots p, i

@@ -39,25 +39,25 @@ use Rattle.solver.specs.Laws.Steps.{unsatisfiableWith, Refuted, Certifie
 abbrev pub NoRefusal : Reply → Type 0
 NoRefusal a = (code place : ℕ) → a ≡ refused code place → ⊥
 
-satisfiable-stands : {x d k : ℕ} → NoRefusal (satisfiable x d k)
+satisfiable-stands : {x d filled : ℕ} → NoRefusal (satisfiable x d filled)
 satisfiable-stands code place e = let z : _≡_ {A = ℕ} 0 1 = cc in omega arith
 
-unsatisfiable-stands : {k : ℕ} → NoRefusal (unsatisfiable k)
+unsatisfiable-stands : {filled : ℕ} → NoRefusal (unsatisfiable filled)
 unsatisfiable-stands code place e = let z : _≡_ {A = ℕ} 0 1 = cc in omega arith
 
-unknown-stands : {b k : ℕ} → NoRefusal (unknown b k)
+unknown-stands : {b filled : ℕ} → NoRefusal (unknown b filled)
 unknown-stands code place e = let z : _≡_ {A = ℕ} 0 1 = cc in omega arith
 
 -- ---- and those that are no refutation
 
-pub satisfiable-differs : {x d j : ℕ} (k : ℕ) → satisfiable x d j ≡ unsatisfiable k → ⊥
-satisfiable-differs k e = let z : _≡_ {A = ℕ} 0 1 = cc in omega arith
+pub satisfiable-differs : {x d j : ℕ} (filled : ℕ) → satisfiable x d j ≡ unsatisfiable filled → ⊥
+satisfiable-differs filled e = let z : _≡_ {A = ℕ} 0 1 = cc in omega arith
 
-pub unknown-differs : {b j : ℕ} (k : ℕ) → unknown b j ≡ unsatisfiable k → ⊥
-unknown-differs k e = let z : _≡_ {A = ℕ} 0 1 = cc in omega arith
+pub unknown-differs : {b j : ℕ} (filled : ℕ) → unknown b j ≡ unsatisfiable filled → ⊥
+unknown-differs filled e = let z : _≡_ {A = ℕ} 0 1 = cc in omega arith
 
-pub refusal-differs : {code place : ℕ} (k : ℕ) → refused code place ≡ unsatisfiable k → ⊥
-refusal-differs k e = let z : _≡_ {A = ℕ} 0 1 = cc in omega arith
+pub refusal-differs : {code place : ℕ} (filled : ℕ) → refused code place ≡ unsatisfiable filled → ⊥
+refusal-differs filled e = let z : _≡_ {A = ℕ} 0 1 = cc in omega arith
 
 -- ---- a sheet that is not refused is read, and the builder answers it
 
@@ -78,34 +78,34 @@ answered (by-value f p q) l a e ok = record { readable = tt; reply = e; accepted
 
 -- ---- the certificate is answered for where the sheet cannot be met
 
-refuted-of : (a : Reply) (w : ℕ → Reply) (c : Reply) → onRefutation a none (λ k. some (w k)) ≡ some c
-    → (k : ℕ) × (a ≡ unsatisfiable k) × (w k ≡ c)
+refuted-of : (a : Reply) (w : ℕ → Reply) (c : Reply) → onRefutation a none (λ filled. some (w filled)) ≡ some c
+    → (filled : ℕ) × (a ≡ unsatisfiable filled) × (w filled ≡ c)
 unfolding onRefutation
-refuted-of (unsatisfiable k) w c e = let same : w k ≡ c = cc in (k, refl, same)
+refuted-of (unsatisfiable filled) w c e = let same : w filled ≡ c = cc in (filled, refl, same)
 refuted-of (refused code place) w c e = let z : _≡_ {A = ℕ} 0 1 = cc in absurd (omega arith)
-refuted-of (satisfiable x d k) w c e = let z : _≡_ {A = ℕ} 0 1 = cc in absurd (omega arith)
-refuted-of (unknown b k) w c e = let z : _≡_ {A = ℕ} 0 1 = cc in absurd (omega arith)
+refuted-of (satisfiable x d filled) w c e = let z : _≡_ {A = ℕ} 0 1 = cc in absurd (omega arith)
+refuted-of (unknown b filled) w c e = let z : _≡_ {A = ℕ} 0 1 = cc in absurd (omega arith)
 refuted-of parsed w c e = let z : _≡_ {A = ℕ} 0 1 = cc in absurd (omega arith)
 refuted-of (written size) w c e = let z : _≡_ {A = ℕ} 0 1 = cc in absurd (omega arith)
 refuted-of opened w c e = let z : _≡_ {A = ℕ} 0 1 = cc in absurd (omega arith)
 refuted-of accepted w c e = let z : _≡_ {A = ℕ} 0 1 = cc in absurd (omega arith)
 
-module _ (s : Sheet) (l : Slots) (k : ℕ) (a : SearchAnswers s l (unsatisfiable k)) (out : List ℕ) where
+module _ (s : Sheet) (l : Slots) (filled : ℕ) (a : SearchAnswers s l (unsatisfiable filled)) (out : List ℕ) where
   abbrev needed : ℕ
-  needed = lengthNeeded (problemIn s) k
+  needed = lengthNeeded (problemIn s) filled
 
-  certified : Certified s l k needed out
-  certified = claim .certified s l k a out
+  certified : Certified s l filled needed out
+  certified = claim .certified s l filled a out
 
   -- a certificate that is written has that length, there was room for it, and it is accepted
-  pub written-accepted : (size : ℕ) → writerReply s l k out ≡ written size
+  pub written-accepted : (size : ℕ) → writerReply s l filled out ≡ written size
       → (size ≤ length out) × (checkReply (formulaIn s) (positiveIn s) (negativeIn s)
-      (take size (writerOutput s l k out)) ≡ accepted) × (drop size (writerOutput s l k out) ≡ drop size out)
+      (take size (writerOutput s l filled out)) ≡ accepted) × (drop size (writerOutput s l filled out) ≡ drop size out)
   written-accepted size e = by (leb needed (length out)) refl
     where
       by : (b : Bool) → leb needed (length out) ≡ b
           → (size ≤ length out) × (checkReply (formulaIn s) (positiveIn s) (negativeIn s)
-          (take size (writerOutput s l k out)) ≡ accepted) × (drop size (writerOutput s l k out) ≡ drop size out)
+          (take size (writerOutput s l filled out)) ≡ accepted) × (drop size (writerOutput s l filled out) ≡ drop size out)
       by false q = absurd (written-not-refused size 19 needed
           (sym e ∙ certified .too-short (leb-false needed (length out) q) .0))
       by true q =
@@ -113,16 +113,16 @@ module _ (s : Sheet) (l : Slots) (k : ℕ) (a : SearchAnswers s l (unsatisfiable
           let both : written size ≡ written needed = sym e ∙ certified .answers le in
           let same : needed ≡ size = cc in
           subst (λ (n : ℕ). (n ≤ length out) × (checkReply (formulaIn s) (positiveIn s) (negativeIn s)
-          (take n (writerOutput s l k out)) ≡ accepted) × (drop n (writerOutput s l k out) ≡ drop n out)) same
+          (take n (writerOutput s l filled out)) ≡ accepted) × (drop n (writerOutput s l filled out) ≡ drop n out)) same
           (le, certified .checks le, certified .behind le)
 
   -- the writer refuses for want of room alone, and then leaves the output
-  pub refused-short : (code place : ℕ) → writerReply s l k out ≡ refused code place
-      → (code ≡ 19) × (length out < place) × (writerOutput s l k out ≡ out)
+  pub refused-short : (code place : ℕ) → writerReply s l filled out ≡ refused code place
+      → (code ≡ 19) × (length out < place) × (writerOutput s l filled out ≡ out)
   refused-short code place e = by (leb needed (length out)) refl
     where
       by : (b : Bool) → leb needed (length out) ≡ b
-          → (code ≡ 19) × (length out < place) × (writerOutput s l k out ≡ out)
+          → (code ≡ 19) × (length out < place) × (writerOutput s l filled out ≡ out)
       by false q =
           let lt = leb-false needed (length out) q in
           let both : refused code place ≡ refused 19 needed = sym e ∙ certified .too-short lt .0 in
@@ -142,20 +142,20 @@ module _ (s : Sheet) (l : Slots) (t : SolverReply) (out₀ out₁ : List ℕ) (r
 
   -- where there is a reply on the certificate, the sheet cannot be met, and the output is the writer's
   told : (c : Reply) → t .certificate ≡ some c
-      → (k : ℕ) × SearchAnswers s l (unsatisfiable k) × (writerReply s l k out₀ ≡ c) × (out₁ ≡ writerOutput s l k out₀)
+      → (filled : ℕ) × SearchAnswers s l (unsatisfiable filled) × (writerReply s l filled out₀ ≡ c) × (out₁ ≡ writerOutput s l filled out₀)
   unfolding certificateReply certificateOutput
   told c e =
-      let w = refuted-of (sheetReply s (lent l)) (λ k. writerReply s l k out₀) c (sym certificate ∙ e) in (
+      let w = refuted-of (sheetReply s (lent l)) (λ filled. writerReply s l filled out₀) c (sym certificate ∙ e) in (
         w .0,
         answered s l (unsatisfiable (w .0)) (w .1) unsatisfiable-stands,
         w .2,
-        output ∙ ap (λ (a : Reply). onRefutation a out₀ (λ k. writerOutput s l k out₀)) (w .1),
+        output ∙ ap (λ (a : Reply). onRefutation a out₀ (λ filled. writerOutput s l filled out₀)) (w .1),
       )
 
   pub promised : Promises s l t out₀ out₁
   promised =
       record {
-        nearest = λ x d k e. claim .nearest s l x d k (answers (satisfiable x d k) e satisfiable-stands);
+        nearest = λ x d filled e. claim .nearest s l x d filled (answers (satisfiable x d filled) e satisfiable-stands);
         exactly = λ ok known. claim .exactly s l (t .reply) (answers (t .reply) refl ok) known;
         certified =
             λ size e.
@@ -171,41 +171,41 @@ module _ (s : Sheet) (l : Slots) (t : SolverReply) (out₀ out₁ : List ℕ) (r
             let c = refused-short s l (w .0) (w .1) out₀ code place (w .2) in
             (c .0, c .1, w .3 ∙ c .2);
         refutes = claim .refutes (formulaIn s) (positiveIn s) (negativeIn s);
-        bound = λ b k e. claim .bound s l b k (answers (unknown b k) e unknown-stands);
-        enough-room = λ b k few p q r e. claim .enough-room s l b k few p q r (answers (unknown b k) e unknown-stands);
+        bound = λ b filled e. claim .bound s l b filled (answers (unknown b filled) e unknown-stands);
+        enough-room = λ b filled few p q r e. claim .enough-room s l b filled few p q r (answers (unknown b filled) e unknown-stands);
       }
 
 -- ---- the certificate of the slots that a search left
 
-module _ (f : Formula) (positive negative points falsified depths : List ℕ) (k : ℕ)
-    (ok : Refuted f positive negative points falsified depths k) (out : List ℕ) where
+module _ (f : Formula) (positive negative points falsified depths : List ℕ) (filled : ℕ)
+    (ok : Refuted f positive negative points falsified depths filled) (out : List ℕ) where
   abbrev sheet : Sheet
   sheet = by-value f positive negative
 
-  answer : SearchAnswers sheet (ok .slots) (unsatisfiable k)
+  answer : SearchAnswers sheet (ok .slots) (unsatisfiable filled)
   answer = record { readable = tt; reply = ok .reply; accepted = unsatisfiable-stands }
 
-  same-reply : writeReply f positive negative points falsified depths k out ≡ writerReply sheet (ok .slots) k out
+  same-reply : writeReply f positive negative points falsified depths filled out ≡ writerReply sheet (ok .slots) filled out
   same-reply = rw (ok .left-points, ok .left-falsified, ok .left-depths)
 
-  same-output : writeOutput f positive negative points falsified depths k out ≡ writerOutput sheet (ok .slots) k out
+  same-output : writeOutput f positive negative points falsified depths filled out ≡ writerOutput sheet (ok .slots) filled out
   same-output = rw (ok .left-points, ok .left-falsified, ok .left-depths)
 
-  module _ (after : List ℕ) (output : after ≡ writeOutput f positive negative points falsified depths k out) where
+  module _ (after : List ℕ) (output : after ≡ writeOutput f positive negative points falsified depths filled out) where
     -- the checker is handed what it accepts
     pub acceptable : length after ≡ length out → (size : ℕ)
-        → written size ≡ writeReply f positive negative points falsified depths k out
+        → written size ≡ writeReply f positive negative points falsified depths filled out
         → (size ≤ length after) × (checkReply f positive negative (take size after) ≡ accepted)
     acceptable long size e =
-        let w = written-accepted sheet (ok .slots) k answer out size (sym (e ∙ same-reply)) in (
+        let w = written-accepted sheet (ok .slots) filled answer out size (sym (e ∙ same-reply)) in (
           le-trans (w .0) (le-of-eq (sym long)),
           ap (λ o. checkReply f positive negative (take size o))
               (output ∙ same-output) ∙ w .1,
         )
 
-    pub certifies : (size : ℕ) (r : Solution) → r ≡ unsatisfiableWith k size
-        → written size ≡ writeReply f positive negative points falsified depths k out
-        → Certifies f positive negative points falsified depths k out r after
+    pub certifies : (size : ℕ) (r : Solution) → r ≡ unsatisfiableWith filled size
+        → written size ≡ writeReply f positive negative points falsified depths filled out
+        → Certifies f positive negative points falsified depths filled out r after
     unfolding replyOfSolution
     certifies size r e w =
         record {
@@ -216,11 +216,11 @@ module _ (f : Formula) (positive negative points falsified depths : List ℕ) (k
         }
 
     pub uncertifies : (code place : ℕ)
-        → refused code place ≡ writeReply f positive negative points falsified depths k out
-        → Certifies f positive negative points falsified depths k out (Uncertified k place) after
+        → refused code place ≡ writeReply f positive negative points falsified depths filled out
+        → Certifies f positive negative points falsified depths filled out (Uncertified filled place) after
     unfolding replyOfSolution
     uncertifies code place w =
-        let short = refused-short sheet (ok .slots) k answer out code place (sym (w ∙ same-reply)) in
+        let short = refused-short sheet (ok .slots) filled answer out code place (sym (w ∙ same-reply)) in
         record {
           reply = refl;
           certificate = ap (λ (c : ℕ). some (refused c place)) (sym (short .0))
@@ -231,13 +231,13 @@ module _ (f : Formula) (positive negative points falsified depths : List ℕ) (k
 -- ---- a formula by value
 
 -- what is kept of a reply that is no refutation
-kept-of : {A : Type 0} (a : Reply) (kept : A) (new : ℕ → A) → ((k : ℕ) → a ≡ unsatisfiable k → ⊥)
+kept-of : {A : Type 0} (a : Reply) (kept : A) (new : ℕ → A) → ((filled : ℕ) → a ≡ unsatisfiable filled → ⊥)
     → onRefutation a kept new ≡ kept
 unfolding onRefutation
-kept-of (unsatisfiable k) kept new ne = absurd (ne k refl)
+kept-of (unsatisfiable filled) kept new ne = absurd (ne filled refl)
 kept-of (refused code place) kept new ne = refl
-kept-of (satisfiable x d k) kept new ne = refl
-kept-of (unknown b k) kept new ne = refl
+kept-of (satisfiable x d filled) kept new ne = refl
+kept-of (unknown b filled) kept new ne = refl
 kept-of parsed kept new ne = refl
 kept-of (written size) kept new ne = refl
 kept-of opened kept new ne = refl
@@ -246,10 +246,10 @@ kept-of accepted kept new ne = refl
 -- a search that refutes leaves slots of which a certificate can be written
 pub refuted : (f : Formula) (positive negative : List ℕ) (l : Slots) (outcome : Outcome)
     (points₁ falsified₁ depths₁ : List ℕ)
-    → Searched f positive negative (l .points) (l .falsified) (l .depths) outcome points₁ falsified₁ depths₁ → (k : ℕ)
-    → outcome ≡ Unsatisfiable k
-    → Refuted f positive negative points₁ falsified₁ depths₁ k
-refuted f positive negative l outcome points₁ falsified₁ depths₁ call k e =
+    → Searched f positive negative (l .points) (l .falsified) (l .depths) outcome points₁ falsified₁ depths₁ → (filled : ℕ)
+    → outcome ≡ Unsatisfiable filled
+    → Refuted f positive negative points₁ falsified₁ depths₁ filled
+refuted f positive negative l outcome points₁ falsified₁ depths₁ call filled e =
     record {
       slots = l;
       reply = sym (call .reply) ∙ ap replyOfOutcome e;
@@ -276,16 +276,16 @@ module _ (f : Formula) (positive negative : List ℕ) (l : Slots) (out : List �
 
     -- a search that refutes nothing leaves the output
     pub solves : (r : Solution) (q : Outcome) → outcome ≡ q → replyOfSolution r .reply ≡ replyOfOutcome q
-        → replyOfSolution r .certificate ≡ none → ((k : ℕ) → replyOfOutcome q ≡ unsatisfiable k → ⊥)
+        → replyOfSolution r .certificate ≡ none → ((filled : ℕ) → replyOfOutcome q ≡ unsatisfiable filled → ⊥)
         → Solved by-value-sheet l out r points₁ falsified₁ depths₁ out
     unfolding certificateReply certificateOutput
     solves r q same e n ne =
         let said : sheetReply by-value-sheet (lent l) ≡ replyOfOutcome q = reply-is ∙ ap replyOfOutcome same in
         let reply = e ∙ sym said in
-        let known : (k : ℕ) → sheetReply by-value-sheet (lent l) ≡ unsatisfiable k → ⊥ = λ k h. ne k (sym said ∙ h) in
+        let known : (filled : ℕ) → sheetReply by-value-sheet (lent l) ≡ unsatisfiable filled → ⊥ = λ filled h. ne filled (sym said ∙ h) in
         let certificate = n ∙ sym (kept-of (sheetReply by-value-sheet (lent l)) none
-        (λ k. some (writerReply by-value-sheet l k out)) known) in
-        let output = sym (kept-of (sheetReply by-value-sheet (lent l)) out (λ k. writerOutput by-value-sheet l k out)
+        (λ filled. some (writerReply by-value-sheet l filled out)) known) in
+        let output = sym (kept-of (sheetReply by-value-sheet (lent l)) out (λ filled. writerOutput by-value-sheet l filled out)
         known) in
         record {
           reply = reply;
@@ -297,25 +297,25 @@ module _ (f : Formula) (positive negative : List ℕ) (l : Slots) (out : List �
           promises = promised by-value-sheet l (replyOfSolution r) out out reply certificate output;
         }
 
-    module _ (k : ℕ) (refutation : outcome ≡ Unsatisfiable k) where
-      abbrev slots-refuted : Refuted f positive negative points₁ falsified₁ depths₁ k
-      slots-refuted = refuted f positive negative l outcome points₁ falsified₁ depths₁ call k refutation
+    module _ (filled : ℕ) (refutation : outcome ≡ Unsatisfiable filled) where
+      abbrev slots-refuted : Refuted f positive negative points₁ falsified₁ depths₁ filled
+      slots-refuted = refuted f positive negative l outcome points₁ falsified₁ depths₁ call filled refutation
 
       pub solves-refuted : (r : Solution) (out₁ : List ℕ)
-          → Certifies f positive negative points₁ falsified₁ depths₁ k out r out₁
+          → Certifies f positive negative points₁ falsified₁ depths₁ filled out r out₁
           → Solved by-value-sheet l out r points₁ falsified₁ depths₁ out₁
       unfolding certificateReply certificateOutput refuted
       solves-refuted r out₁ c =
-          let now-refuted : sheetReply by-value-sheet (lent l) ≡ unsatisfiable k = reply-is
+          let now-refuted : sheetReply by-value-sheet (lent l) ≡ unsatisfiable filled = reply-is
           ∙ ap replyOfOutcome refutation in
           let reply = c .reply ∙ sym now-refuted in
           let certificate : replyOfSolution r .certificate ≡ certificateReply by-value-sheet l out =
-          c .certificate ∙ ap some (same-reply f positive negative points₁ falsified₁ depths₁ k slots-refuted out)
-          ∙ ap (λ (a : Reply). onRefutation a none (λ k. some (writerReply by-value-sheet l k out))) (sym now-refuted)
+          c .certificate ∙ ap some (same-reply f positive negative points₁ falsified₁ depths₁ filled slots-refuted out)
+          ∙ ap (λ (a : Reply). onRefutation a none (λ filled. some (writerReply by-value-sheet l filled out))) (sym now-refuted)
           in
           let output : out₁ ≡ certificateOutput by-value-sheet l out =
-          c .output ∙ same-output f positive negative points₁ falsified₁ depths₁ k slots-refuted out
-          ∙ ap (λ (a : Reply). onRefutation a out (λ k. writerOutput by-value-sheet l k out)) (sym now-refuted) in
+          c .output ∙ same-output f positive negative points₁ falsified₁ depths₁ filled slots-refuted out
+          ∙ ap (λ (a : Reply). onRefutation a out (λ filled. writerOutput by-value-sheet l filled out)) (sym now-refuted) in
           record {
             reply = reply;
             certificate = certificate;
@@ -344,9 +344,9 @@ module _ (text positive negative : List ℕ) (l : Slots) (out : List ℕ) where
       λ part old. ap (λ (a : Reply). afterReading a old
       (searchSlice part (formulaIn read-sheet) (positiveIn read-sheet) (negativeIn read-sheet) (lent l) old)) e in
       let certificate : none ≡ certificateReply read-sheet l out = ap
-      (λ (a : Reply). onRefutation a none (λ k. some (writerReply read-sheet l k out))) reply in
+      (λ (a : Reply). onRefutation a none (λ filled. some (writerReply read-sheet l filled out))) reply in
       let output : out ≡ certificateOutput read-sheet l out = ap
-      (λ (a : Reply). onRefutation a out (λ k. writerOutput read-sheet l k out)) reply in
+      (λ (a : Reply). onRefutation a out (λ filled. writerOutput read-sheet l filled out)) reply in
       record {
         reply = reply;
         certificate = certificate;
@@ -380,9 +380,9 @@ module _ (text positive negative : List ℕ) (l : Slots) (out : List ℕ) where
       as-read v =
           let reply = v .reply ∙ same-answer in
           let certificate : replyOfSolution r .certificate ≡ certificateReply read-sheet l out = v .certificate
-          ∙ ap (λ (a : Reply). onRefutation a none (λ k. some (writerReply read-sheet l k out))) same-answer in
+          ∙ ap (λ (a : Reply). onRefutation a none (λ filled. some (writerReply read-sheet l filled out))) same-answer in
           let output : out₁ ≡ certificateOutput read-sheet l out = v .output
-          ∙ ap (λ (a : Reply). onRefutation a out (λ k. writerOutput read-sheet l k out)) same-answer in
+          ∙ ap (λ (a : Reply). onRefutation a out (λ filled. writerOutput read-sheet l filled out)) same-answer in
           record {
             reply = reply;
             certificate = certificate;

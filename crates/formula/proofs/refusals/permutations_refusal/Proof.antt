@@ -18,7 +18,7 @@ first-non-permutation-requires c κs = (c .before .before .pre .0, c .before .be
 
 -- past the first test the fault is that of the first which is no permutation
 few : (c : tie.After-first-non-permutation)
-    → permutationFault (c .before .before .before .args .n) (permutationsIn (c .before .before .before .args .n) (c .before .before .before .args .count) (c .before .before .before .args .images .now))
+    → permutationFault (c .before .before .before .args .n) (permutationsIn (c .before .before .before .args .n) (c .before .before .before .args .permutations) (c .before .before .before .args .images .now))
     ≡ faultAt 11 (c .first-non-permutation .result)
 few c = few-enough _ _ (le-trans (le-of-eq (length-permutations _ _ _)) (c .before .if1 .left)) ∙ ap (faultAt 11) (sym (c .first-non-permutation .ensures))
 

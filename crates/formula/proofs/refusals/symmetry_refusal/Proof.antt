@@ -13,10 +13,10 @@ use Rattle.formula.proofs.refusals.symmetry_refusal.Statement.{statemen
 use Rattle.formula.proofs.refusals.symmetry_refusal.Tie as tie
 
 -- no permutation, no fault
-none-faulty : (cs : List Numbered) (n count : ℕ) (bytes : List ℕ) → count < 1 → no-fault ≡ symmetryFault cs (permutationsIn n count bytes)
+none-faulty : (cs : List Numbered) (n permutations : ℕ) (bytes : List ℕ) → permutations < 1 → no-fault ≡ symmetryFault cs (permutationsIn n permutations bytes)
 unfolding symmetryFault permutationsIn
 none-faulty cs n zero bytes lt = refl
-none-faulty cs n (suc count) bytes lt = absurd (not-suc-le-zero (le-of-suc-le-suc lt))
+none-faulty cs n (suc permutations) bytes lt = absurd (not-suc-le-zero (le-of-suc-le-suc lt))
 
 returns : tie.Need-returns
 returns c = none-faulty _ _ _ _ (c .if1 .taken)
