@@ -20,8 +20,7 @@ use denote.RattleType.{owns}
 use denote.Laws.{Is}
 use denote.Plain.{uint-makes, Nothing}
 use denote.Builtin.{usize, u32, u64}
-use denote.Ref.{RefT}
-use denote.Slice.{sliceVal, MutSlice, ShrSlice, finally}
+use denote.Slice.{MutSlice, ShrSlice, finally}
 use denote.Steps.{owned, nothing, heard}
 use denote.Triple.Clauses.{ensured, lasts}
 use denote.Triple.Spec.{tripleOf}
@@ -29,6 +28,7 @@ use denote.Triple.Statement.{Contract}
 use denote.Triple.Walked.{says}
 use Rattle.slot_columns.specs.declared.Slot.{Slot}
 use Rattle.slot_columns.specs.Slots.{joined, front, Within}
+use Rattle.slot_columns.proofs.Columns.{Args, Spelled, args, spelled}
 use Rattle.slot_columns.proofs.Row.{R}
 use Rattle.slot_columns.proofs.copy_back as copy-back
 
@@ -37,14 +37,11 @@ CopyBack 𝓤 H A mem run = tripleOf 𝓤 H A copy-back.signature (copy-back.spe
 
 -- the arguments
 module _ (b₀ o₀ b₁ o₁ b₂ o₂ b₃ o₃ : ℕ) (γ₀ γ₁ γ₂ γ₃ : GName) (ys : List Slot) (ps fs ds : List ℕ) (k n : ℕ) (ν₀ ν₁ ν₂ ν₃ : ℕ) where
-  abbrev Arg : Type 0
-  Arg = RefT (List Slot) × (ℕ × (RefT (List ℕ) × (RefT (List ℕ) × (RefT (List ℕ) × Unit {0}))))
+  abbrev x : Args
+  x = args b₀ o₀ b₁ o₁ b₂ o₂ b₃ o₃ γ₀ γ₁ γ₂ γ₃ ys ps fs ds k
 
-  abbrev x : Arg
-  x = (record { ptr = (b₀, o₀); name = γ₀; now = ys }, (k, (record { ptr = (b₁, o₁); name = γ₁; now = ps }, (record { ptr = (b₂, o₂); name = γ₂; now = fs }, (record { ptr = (b₃, o₃); name = γ₃; now = ds }, tt)))))
-
-  abbrev at : List Val × (List Val × (List Val × (List Val × (List Val × Unit {0}))))
-  at = (sliceVal (b₀, o₀) (length ys) ∷ [], (vint w64 k ∷ [], (sliceVal (b₁, o₁) n ∷ [], (sliceVal (b₂, o₂) n ∷ [], (sliceVal (b₃, o₃) n ∷ [], tt)))))
+  abbrev at : Spelled
+  at = spelled x n n n
 
   abbrev Lasts : Type 0
   Lasts = List Slot × (Unit {0} × (Unit {0} × (Unit {0} × (Unit {0} × Unit {0}))))

@@ -2,7 +2,7 @@
 --     counted      from a turn at each count below k, and from the turn at k, which leaves the loop, the loop
 --     holds, fails     truth values that a test has
 -- Assumes `Given` and the tables' laws.
-use mathlib.Core.Path.{_≡_, refl, sym, _∙_, subst}
+use mathlib.Core.Path.{_≡_, refl, sym, subst}
 use mathlib.Core.Bool.{Bool, true, false}
 use Prim.Native.Nat.{ℕ, zero, suc, _+_, _<_}
 use native.Mathlib.Nat.{zero-add, lt-suc-self}

@@ -1,3 +1,4 @@
+pub mod Columns
 pub mod CopiedBack
 pub mod CopiedOut
 pub mod Counted

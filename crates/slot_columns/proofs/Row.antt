@@ -2,7 +2,8 @@
 --     R, vals        the row, and how a slot is spelled
 --     spells, copies, owes   its relation tells the machine value; it can be copied; what it owns is had for nothing
 --     typed          a slot's machine value has its MIR type
---     scaled, element-place    an index times a slot's 16 bytes is a usize; where the element lies
+--     scaled         an index times the bytes of an element is a usize
+--     element-place  where a slot lies
 -- The laws under a model assume `Given`; all else assumes nothing.
 use mathlib.Core.Path.{_≡_, refl, sym, ap, subst}
 use Prim.Native.Nat.{ℕ, _+_, _*_, _<_, _^_}
@@ -19,11 +20,10 @@ use types.Kit.{Goal, Given, Item, ‵, Step, step, _$_, fjoin}
 use types.Share.{arr-parts}
 use borrow.Author.Needs.{scaled-fits}
 use denote.RattleType.{RattleType}
-use denote.Builtin.{u32, u64}
 use denote.Laws.{Is, Tells, Copy, Makes}
 use denote.Index.{place, place-is}
 use denote.Lend.{Held}
-use denote.Memory.{shares}
+use denote.Memory.{mem, shares}
 use denote.Shadow.{pureI}
 use denote.Slice.{Room, sliceVal, MutSlice, ShrSlice, heres, at-slice, codedHoleys}
 use denote.Struct.Laws as LL
@@ -44,14 +44,8 @@ vals s = val s ∷ []
 pub spells : Tells R (Is R) vals
 spells = LL.tells S.the-type S′.the-laws
 
-pub scaled : (i n : ℕ) → i < n → Room R n → Fits w64 (i * 16)
-scaled i n l room = scaled-fits i n 16 l (room .1)
-
-pub scaled64 : (i n : ℕ) → i < n → Room u64 n → Fits w64 (i * 8)
-scaled64 i n l room = scaled-fits i n 8 l (room .1)
-
-pub scaled32 : (i n : ℕ) → i < n → Room u32 n → Fits w64 (i * 4)
-scaled32 i n l room = scaled-fits i n 4 l (room .1)
+pub scaled : (E : RattleType) (i n : ℕ) → i < n → Room E n → Fits w64 (i * mem E .size)
+scaled E i n l room = scaled-fits i n (mem E .size) l (room .1)
 
 pub element-place : (o i : ℕ) → i * 16 + o ≡ place 16 o i
 element-place o i = sym (place-is 16 o i)

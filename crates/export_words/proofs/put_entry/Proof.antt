@@ -1,39 +1,36 @@
 -- `export_words::put_entry` meets its contract: of each answer the two words that it carries. Assumes nothing.
 use mathlib.Core.List.{List, [], _∷_}
-use mathlib.Core.Path.{_≡_, refl, sym, ap, _∙_}
+use mathlib.Core.Path.{_≡_, refl}
 use Prim.Native.Nat.{ℕ, _≤_}
 use native.Mathlib.Nat.{not-suc-le-zero}
 use native.Mathlib.Omega.{arith}
 use lib.ListN.{length, set}
 use borrow.Author.Needs.{needs}
 use Rattle.math.specs.Lists.{over}
-use Rattle.certificate.specs.declared.Entry.{Entry}
 use Rattle.certificate.specs.Contract.{valueOf}
 use Rattle.export_words.specs.Replies.{entryWords}
+use Rattle.export_words.specs.Laws.WordLaws.{case-words}
 use Rattle.export_words.proofs.put_entry.Statement.{statement}
 use Rattle.export_words.proofs.put_entry.Tie as tie
 
+-- two writes are two words in front of what was there
 two : (a b : ℕ) (l : List ℕ) → 2 ≤ length l → set (set l 0 a) 1 b ≡ over (a ∷ b ∷ []) l
 unfolding over
 two a b [] le = absurd (not-suc-le-zero le)
 two a b (x ∷ []) le = absurd (omega arith)
 two a b (x ∷ y ∷ l) le = refl
 
--- of equal entries the words are equal
-told : {r s : Entry} (reply : List ℕ) → r ≡ s → over (entryWords (valueOf r)) reply ≡ over (entryWords (valueOf s)) reply
-told reply e = ap (λ (r : Entry). over (entryWords (valueOf r)) reply) e
-
 returns : tie.Need-returns
 unfolding entryWords valueOf
 returns c =
     let s = c .before .before .before in
-    two 1 _ (s .args .reply .now) (s .pre) ∙ told _ (sym (c .before .r .given .1))
+    case-words (c .before .r .given .1) (λ r. entryWords (valueOf r)) _ (two 1 _ (s .args .reply .now) (s .pre))
 
 returns-2 : tie.Need-returns-2
 unfolding entryWords valueOf
 returns-2 c =
     let s = c .before .before in
-    two 0 0 (s .args .reply .now) (s .pre) ∙ told _ (sym (c .enum-told .given .1))
+    case-words (c .enum-told .given .1) (λ r. entryWords (valueOf r)) _ (two 0 0 (s .args .reply .now) (s .pre))
 
 pub put-entry-spec : {M : Type 1} → statement M
 put-entry-spec =

@@ -1,18 +1,10 @@
 -- `export_words::put_outcome` meets its contract: of each answer the words that it carries. Assumes nothing.
-use mathlib.Core.List.{List}
-use mathlib.Core.Path.{_≡_, sym, ap, _∙_}
-use Prim.Native.Nat.{ℕ}
 use borrow.Author.Needs.{needs}
-use Rattle.math.specs.Lists.{over}
-use Rattle.search.specs.declared.Outcome.{Outcome}
 use Rattle.search.specs.Contract.{replyOfOutcome}
 use Rattle.export_words.specs.Words.{wordsOf}
+use Rattle.export_words.specs.Laws.WordLaws.{case-words}
 use Rattle.export_words.proofs.put_outcome.Statement.{statement}
 use Rattle.export_words.proofs.put_outcome.Tie as tie
-
--- of equal answers the words are equal
-told : {r s : Outcome} (reply : List ℕ) → r ≡ s → over (wordsOf (replyOfOutcome r)) reply ≡ over (wordsOf (replyOfOutcome s)) reply
-told reply e = ap (λ (r : Outcome). over (wordsOf (replyOfOutcome r)) reply) e
 
 put-words-requires : tie.Need-put-words-requires
 put-words-requires c κs = search needs
@@ -29,26 +21,26 @@ put-words-requires-4 c κs = search needs
 returns : tie.Need-returns
 unfolding wordsOf
 returns c =
-    let b = c .before .before .before .before .before in
-    c .before .before .put-words .ensures ∙ told _ (sym (b .r .given .1))
+    case-words (c .before .before .before .before .before .r .given .1) (λ r. wordsOf (replyOfOutcome r)) _
+    (c .before .before .put-words .ensures)
 
 returns-2 : tie.Need-returns-2
 unfolding wordsOf
 returns-2 c =
-    let b = c .before .before .before .before .before in
-    c .before .before .put-words2 .ensures ∙ told _ (sym (b .r2 .given .1))
+    case-words (c .before .before .before .before .before .r2 .given .1) (λ r. wordsOf (replyOfOutcome r)) _
+    (c .before .before .put-words2 .ensures)
 
 returns-3 : tie.Need-returns-3
 unfolding wordsOf
 returns-3 c =
-    let b = c .before .before .before .before .before in
-    c .before .before .put-words3 .ensures ∙ told _ (sym (b .r3 .given .1))
+    case-words (c .before .before .before .before .before .r3 .given .1) (λ r. wordsOf (replyOfOutcome r)) _
+    (c .before .before .put-words3 .ensures)
 
 returns-4 : tie.Need-returns-4
 unfolding wordsOf
 returns-4 c =
-    let b = c .before .before .before .before .before in
-    c .before .before .put-words4 .ensures ∙ told _ (sym (b .r4 .given .1))
+    case-words (c .before .before .before .before .before .r4 .given .1) (λ r. wordsOf (replyOfOutcome r)) _
+    (c .before .before .put-words4 .ensures)
 
 pub put-outcome-spec : {M : Type 1} → statement M
 put-outcome-spec =

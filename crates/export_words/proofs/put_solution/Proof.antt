@@ -1,17 +1,9 @@
 -- `export_words::put_solution` meets its contract: of each answer the words that it carries. Assumes nothing.
-use mathlib.Core.List.{List}
-use mathlib.Core.Path.{_≡_, sym, ap, _∙_}
-use Prim.Native.Nat.{ℕ}
 use borrow.Author.Needs.{needs}
-use Rattle.math.specs.Lists.{over}
-use Rattle.solver.specs.declared.Solution.{Solution}
 use Rattle.export_words.specs.Replies.{solutionWords}
+use Rattle.export_words.specs.Laws.WordLaws.{case-words}
 use Rattle.export_words.proofs.put_solution.Statement.{statement}
 use Rattle.export_words.proofs.put_solution.Tie as tie
-
--- of equal answers the words are equal
-told : {r s : Solution} (reply : List ℕ) → r ≡ s → over (solutionWords r) reply ≡ over (solutionWords s) reply
-told reply e = ap (λ (r : Solution). over (solutionWords r) reply) e
 
 put-words-requires : tie.Need-put-words-requires
 put-words-requires c κs = search needs
@@ -31,32 +23,32 @@ put-words-requires-5 c κs = search needs
 returns : tie.Need-returns
 unfolding solutionWords
 returns c =
-    let b = c .before .before .before .before .before in
-    c .before .before .put-words .ensures ∙ told _ (sym (b .r .given .1))
+    case-words (c .before .before .before .before .before .r .given .1) solutionWords _
+    (c .before .before .put-words .ensures)
 
 returns-2 : tie.Need-returns-2
 unfolding solutionWords
 returns-2 c =
-    let b = c .before .before .before .before .before in
-    c .before .before .put-words2 .ensures ∙ told _ (sym (b .r2 .given .1))
+    case-words (c .before .before .before .before .before .r2 .given .1) solutionWords _
+    (c .before .before .put-words2 .ensures)
 
 returns-3 : tie.Need-returns-3
 unfolding solutionWords
 returns-3 c =
-    let b = c .before .before .before .before .before in
-    c .before .before .put-words3 .ensures ∙ told _ (sym (b .r3 .given .1))
+    case-words (c .before .before .before .before .before .r3 .given .1) solutionWords _
+    (c .before .before .put-words3 .ensures)
 
 returns-4 : tie.Need-returns-4
 unfolding solutionWords
 returns-4 c =
-    let b = c .before .before .before .before .before in
-    c .before .before .put-words4 .ensures ∙ told _ (sym (b .r4 .given .1))
+    case-words (c .before .before .before .before .before .r4 .given .1) solutionWords _
+    (c .before .before .put-words4 .ensures)
 
 returns-5 : tie.Need-returns-5
 unfolding solutionWords
 returns-5 c =
-    let b = c .before .before .before .before .before in
-    c .before .before .put-words5 .ensures ∙ told _ (sym (b .r5 .given .1))
+    case-words (c .before .before .before .before .before .r5 .given .1) solutionWords _
+    (c .before .before .put-words5 .ensures)
 
 pub put-solution-spec : {M : Type 1} → statement M
 put-solution-spec =
