@@ -1,4 +1,5 @@
--- Document 01, 'Certificate': the bytes of a certificate, which files are well formed, and the reading of one. Assumes nothing.
+-- Document 01, 'Certificate': the bytes of a certificate, which files are well formed, and the reading of one. Assumes
+-- nothing.
 use mathlib.Core.Bool.{Bool, _&&_}
 use mathlib.Core.List.{List, [], _∷_, _++_}
 use mathlib.Core.Option.{Option}
@@ -8,7 +9,8 @@ use lib.Dec.{leb, eqb}
 use lib.ListN.{length, getD, getElem?, take, drop}
 use Rattle.math.specs.Lists.{_∈_}
 use Rattle.permutation_theory.specs.Permutations.{Permutation, permutationsIn}
-use Rattle.certificate.specs.Bytes.{bytesOf, numberFrom, joined, entries, numbersIn, fieldWidth, permutationWidth, pointWidth, numberWidth}
+use Rattle.certificate.specs.Bytes.{bytesOf, numberFrom, joined, entries, numbersIn, fieldWidth, permutationWidth}
+use Rattle.certificate.specs.Bytes.{pointWidth, numberWidth}
 
 -- ---- the contents
 
@@ -29,7 +31,8 @@ contentsLength = 32
 -- the eight numbers in the order in which they stand
 unfoldable pub fieldsOf : FileContents → List ℕ
 fieldsOf c =
-    c .variables ∷ c .clauses ∷ c .permutations ∷ c .permutationsAt ∷ c .points ∷ c .pointsAt ∷ c .numbers ∷ c .numbersAt ∷ []
+    c .variables ∷ c .clauses ∷ c .permutations ∷ c .permutationsAt ∷ c .points ∷ c .pointsAt ∷ c .numbers
+    ∷ c .numbersAt ∷ []
 
 unfoldable pub fromFields : List ℕ → FileContents
 fromFields fs =
@@ -46,7 +49,8 @@ fromFields fs =
 
 -- ---- the bytes
 
--- C3: "Bodies follow without gaps": the contents of a certificate, from n, m and the number of permutations, points and clause numbers
+-- C3: "Bodies follow without gaps": the contents of a certificate, from n, m and the number of permutations, points and
+-- clause numbers
 unfoldable pub layout : ℕ → ℕ → ℕ → ℕ → ℕ → FileContents
 layout n m a p k =
     record {
@@ -69,9 +73,11 @@ unfoldable pub encode : ℕ → ℕ → List Permutation → List ℕ → List �
 unfolding joined bytesOf fieldsOf layout
 encode n m permutations points numbers =
     joined (bytesOf fieldWidth) (fieldsOf (layout n m (length permutations) (length points) (length numbers)))
-    ++ joined (λ (e : Permutation). e .images) permutations ++ joined (bytesOf pointWidth) points ++ joined (bytesOf numberWidth) numbers
+    ++ joined (λ (e : Permutation). e .images) permutations ++ joined (bytesOf pointWidth) points
+    ++ joined (bytesOf numberWidth) numbers
 
--- what fits into a certificate: permutations of n numbers each, as many clause numbers as points, every number within its bytes
+-- what fits into a certificate: permutations of n numbers each, as many clause numbers as points, every number within
+-- its bytes
 pub record Encodable (n m : ℕ) (permutations : List Permutation) (points numbers : List ℕ) : Type 0 where
   pub variablesFit : n < 256 ^ fieldWidth
   pub clausesFit : m < 256 ^ fieldWidth
@@ -80,7 +86,8 @@ pub record Encodable (n m : ℕ) (permutations : List Permutation) (points numbe
   pub pointsFit : (x : ℕ) → x ∈ points → x < 256 ^ pointWidth
   pub numbersFit : (k : ℕ) → k ∈ numbers → k < 256 ^ numberWidth
   pub paired : length points ≡ length numbers
-  pub offsetsFit : contentsLength + length permutations * permutationWidth n + length points * pointWidth < 256 ^ fieldWidth
+  pub offsetsFit : contentsLength + length permutations * permutationWidth n + length points * pointWidth
+      < 256 ^ fieldWidth
 
 -- ---- a file
 
@@ -93,7 +100,8 @@ contentsOf file = fromFields (numbersIn fieldWidth 8 file)
 pub record WellFormed (file : List ℕ) : Type 0 where
   pub long : contentsLength ≤ length file
   pub permutationsFirst : contentsOf file .permutationsAt ≡ contentsLength
-  pub pointsNext : contentsOf file .pointsAt ≡ contentsLength + contentsOf file .permutations * permutationWidth (contentsOf file .variables)
+  pub pointsNext : contentsOf file .pointsAt
+      ≡ contentsLength + contentsOf file .permutations * permutationWidth (contentsOf file .variables)
   pub numbersLast : contentsOf file .numbersAt ≡ contentsOf file .pointsAt + contentsOf file .points * pointWidth
   pub countsAgree : contentsOf file .points ≡ contentsOf file .numbers
   pub lengthExact : length file ≡ contentsOf file .numbersAt + contentsOf file .numbers * numberWidth
@@ -101,7 +109,8 @@ pub record WellFormed (file : List ℕ) : Type 0 where
 -- the same, computed: first of contents and a file's length, then of a file
 unfoldable pub fitting : FileContents → ℕ → Bool
 fitting c size =
-    eqb (c .permutationsAt) contentsLength && eqb (c .pointsAt) (contentsLength + c .permutations * permutationWidth (c .variables))
+    eqb (c .permutationsAt) contentsLength
+    && eqb (c .pointsAt) (contentsLength + c .permutations * permutationWidth (c .variables))
     && eqb (c .numbersAt) (c .pointsAt + c .points * pointWidth) && eqb (c .points) (c .numbers)
     && eqb size (c .numbersAt + c .numbers * numberWidth)
 
@@ -112,7 +121,8 @@ wellFormed file = leb contentsLength (length file) && fitting (contentsOf file) 
 -- C8: "Each body is handed on as its own part of the file."
 unfoldable pub permutationsBody : List ℕ → List ℕ
 unfolding contentsOf
-permutationsBody file = let c = contentsOf file in take (c .permutations * permutationWidth (c .variables)) (drop (c .permutationsAt) file)
+permutationsBody file = let c = contentsOf file in take (c .permutations * permutationWidth (c .variables))
+    (drop (c .permutationsAt) file)
 
 unfoldable pub pointsBody : List ℕ → List ℕ
 unfolding contentsOf
@@ -125,7 +135,8 @@ numbersBody file = let c = contentsOf file in take (c .numbers * numberWidth) (d
 -- C5: "The reading of such a file is its lists of exchanges, points and rule numbers"
 unfoldable pub filePermutations : List ℕ → List Permutation
 unfolding permutationsBody permutationsIn
-filePermutations file = let c = contentsOf file in permutationsIn (c .variables) (c .permutations) (permutationsBody file)
+filePermutations file = let c = contentsOf file in permutationsIn (c .variables) (c .permutations)
+    (permutationsBody file)
 
 unfoldable pub filePoints : List ℕ → List ℕ
 unfolding pointsBody entries numberFrom

@@ -1,5 +1,5 @@
--- Document 01, 'When the desk says no': the rows 14, 16, 17 and 19. The tests of one point are the writer's and the checker's alike.
--- Assumes nothing.
+-- Document 01, 'When the desk says no': the rows 14, 16, 17 and 19. The tests of one point are the writer's and the
+-- checker's alike. Assumes nothing.
 use mathlib.Core.Bool.{Bool, false, not, cond, _&&_}
 use mathlib.Core.List.{List, [], _∷_}
 use mathlib.Core.Option.{Option, some, none}
@@ -16,12 +16,14 @@ unfoldable pub fileFault : List ℕ → Fault
 unfolding wellFormed
 fileFault file = cond (wellFormed file) no-fault (fault 14 (length file))
 
--- R16: "bit above n, equal to an earlier point": the point of index i passes if it has no bit at n or above and equals no earlier one
+-- R16: "bit above n, equal to an earlier point": the point of index i passes if it has no bit at n or above and equals
+-- no earlier one
 unfoldable pub pointPasses : ℕ → List ℕ → ℕ → Bool
 unfolding any
 pointPasses n points i = ltb (getD points i 0) (2 ^ n) && not (has (getD points i 0) (take i points))
 
--- R16: "no point, too many (over 65,536; in the writer over P) .. | 16 | point's number, 0 for a bad count": the first count points, at most limit
+-- R16: "no point, too many (over 65,536; in the writer over P) .. | 16 | point's number, 0 for a bad count": the first
+-- count points, at most limit
 unfoldable pub pointsFault : ℕ → ℕ → ℕ → List ℕ → Fault
 unfolding firstFailing range pointPasses faultAt
 pointsFault limit n count points =
@@ -39,7 +41,8 @@ unfolding satisfies
 falsifies none x = false
 falsifies (some c) x = not (satisfies c x)
 
--- R17: "rule number not 1 to m, or its point meets it": the point of index i passes if its number is that of a clause, which it falsifies
+-- R17: "rule number not 1 to m, or its point meets it": the point of index i passes if its number is that of a clause,
+-- which it falsifies
 unfoldable pub numberPasses : List Numbered → List ℕ → List ℕ → ℕ → Bool
 unfolding clauseNumbered falsifies
 numberPasses clauses points numbers i = falsifies (clauseNumbered clauses (getD numbers i 0)) (getD points i 0)
@@ -47,7 +50,8 @@ numberPasses clauses points numbers i = falsifies (clauseNumbered clauses (getD 
 -- R17: "rule number not 1 to m, or its point meets it | 17 | point's number"
 unfoldable pub numbersFault : List Numbered → ℕ → List ℕ → List ℕ → Fault
 unfolding firstFailing range numberPasses faultAt
-numbersFault clauses count points numbers = faultAt 17 (firstFailing (numberPasses clauses points numbers) (below count))
+numbersFault clauses count points numbers = faultAt 17 (firstFailing (numberPasses clauses points numbers)
+    (below count))
 
 -- R19: "output too short | 19 | length needed (bytes here)"
 unfoldable pub roomFault : ℕ → ℕ → Fault

@@ -9,7 +9,8 @@ use Rattle.formula.specs.Limits.{capacity}
 use Rattle.formula.specs.Problem.{Problem, problemOf}
 use Rattle.formula.specs.Refusals.{formulaFault, permutationFault, symmetryFault}
 use Rattle.formula.specs.Reply.{Reply, written, Fault, first, unless, unlessKept}
-use Rattle.certificate.specs.Certificate.{encode, certificateLength, contentsOf, WellFormed, filePermutations, filePoints, fileNumbers}
+use Rattle.certificate.specs.Certificate.{encode, certificateLength, contentsOf, WellFormed, filePermutations}
+use Rattle.certificate.specs.Certificate.{filePoints, fileNumbers}
 use Rattle.certificate.specs.Rows.{pointsFault, numbersFault, roomFault}
 
 -- the length of the certificate of a problem and that many slots
@@ -19,7 +20,8 @@ lengthNeeded pb filled = certificateLength (pb .variables) (length (pb .permutat
 
 -- N5: "Writer (from slots and a count): 10, 11, 12, 16, 17, 19." N8: "Each is tested over everything before the next"
 unfoldable pub writeFault : Formula → List ℕ → List ℕ → List ℕ → List ℕ → List ℕ → ℕ → List ℕ → Fault
-unfolding problemOf formulaFault permutationFault symmetryFault pointsFault capacity numbersFault roomFault lengthNeeded first
+unfolding problemOf formulaFault permutationFault symmetryFault pointsFault capacity numbersFault roomFault lengthNeeded
+    first
 writeFault f positive negative points falsified depths filled out =
     let pb = problemOf f positive negative in
     let xs = pointsOf points in
@@ -33,9 +35,11 @@ writeFault f positive negative points falsified depths filled out =
 unfoldable pub writeReply : Formula → List ℕ → List ℕ → List ℕ → List ℕ → List ℕ → ℕ → List ℕ → Reply
 unfolding writeFault unless
 writeReply f positive negative points falsified depths filled out =
-    unless (writeFault f positive negative points falsified depths filled out) (written (lengthNeeded (problemOf f positive negative) filled))
+    unless (writeFault f positive negative points falsified depths filled out)
+    (written (lengthNeeded (problemOf f positive negative) filled))
 
--- C7: "what the writer puts out from that sheet and its rules, the lent slots as the builder left them and the number it reported as filled"
+-- C7: "what the writer puts out from that sheet and its rules, the lent slots as the builder left them and the number
+-- it reported as filled"
 unfoldable pub certificateOf : Problem → List ℕ → List ℕ → ℕ → List ℕ
 unfolding encode
 certificateOf pb points falsified filled =
@@ -49,7 +53,8 @@ writeOutput f positive negative points falsified depths filled out =
     let new = certificateOf pb points falsified filled ++ drop (lengthNeeded pb filled) out in
     unlessKept (writeFault f positive negative points falsified depths filled out) new out
 
--- C5: "the reading of what the writer puts out is exactly the sheet's exchanges and the points and rule numbers of the slots given"
+-- C5: "the reading of what the writer puts out is exactly the sheet's exchanges and the points and rule numbers of the
+-- slots given"
 pub record ReadsAs (pb : Problem) (points falsified : List ℕ) (file : List ℕ) : Type 0 where
   pub inOrder : WellFormed file
   pub readsVariables : contentsOf file .variables ≡ pb .variables

@@ -11,7 +11,8 @@ ghost use Rattle.certificate.specs.Bytes.{numberFrom, numbersIn, pointWi
 ghost use Rattle.certificate.specs.Certificate.{numberAt};
 ghost use Rattle.certificate.specs.Contract.{valueOf, ImageRead, PointRead, NumberRead};
 
-// C1: the number that at most eight bytes stand for, low byte first. One step a byte. Its callers hand in parts of 4 or 8 bytes.
+// C1: the number that at most eight bytes stand for, low byte first. One step a byte. Its callers hand in parts of 4 or
+// 8 bytes.
 fn number_from(bytes: &[u8]) -> u64
     requires { ⌜ length (now bytes) ≤ 8 ⌝ }
     ensures { λ r. ⌜ (r ≡ numberFrom (now (bytes .entry))) × (r < 256 ^ length (now (bytes .entry))) ⌝ }
@@ -27,7 +28,8 @@ fn number_from(bytes: &[u8]) -> u64
     r
 }
 
-// The number of index i of those that stand in the bytes, `width` bytes each. Its callers see to it that it lies there whole.
+// The number of index i of those that stand in the bytes, `width` bytes each. Its callers see to it that it lies there
+// whole.
 fn entry(bytes: &[u8], width: usize, i: usize) -> u64
     requires { ⌜ (width ≤ 8) × (i * width + width ≤ length (now bytes)) ⌝ }
     ensures { λ r. ⌜ (r ≡ numberFrom (take width (drop (i * width) (now (bytes .entry))))) × (r < 256 ^ width) ⌝ }
@@ -95,7 +97,8 @@ pub fn image_at(body: &[u8], n: usize, j: usize, i: usize) -> Entry
 // Copies the first `count` points of a body into a slice of points. Eight steps a point. Its callers see to the room.
 pub fn points_into(to: &mut [u64], body: &[u8], count: usize)
     requires { ⌜ (count ≤ length (pointsOf (now to))) × (count * pointWidth ≤ length (now body)) ⌝ }
-    ensures { λ _. ⌜ pointsOf (now (to .exit)) ≡ over (numbersIn pointWidth count (now (body .entry))) (pointsOf (now (to .entry))) ⌝ }
+    ensures { λ _. ⌜ pointsOf (now (to .exit))
+        ≡ over (numbersIn pointWidth count (now (body .entry))) (pointsOf (now (to .entry))) ⌝ }
 {
     let mut i = 0;
     while i < count {

@@ -53,8 +53,8 @@ fn contents_from(file: &[u8]) -> Contents
     }
 }
 
-// C4: whether the contents fit a file of `size` bytes, which `read` found to be 32 at least. Each body is compared with what is left of the
-// file behind the one before it, so that no sum leaves the file and none wraps.
+// C4: whether the contents fit a file of `size` bytes, which `read` found to be 32 at least. Each body is compared with
+// what is left of the file behind the one before it, so that no sum leaves the file and none wraps.
 fn in_order(c: Contents, size: usize) -> bool
     requires { ⌜ 32 ≤ size ⌝ }
     ensures { λ r. ⌜ r ≡ fitting (contentsIn c) size ⌝ }
@@ -88,7 +88,8 @@ fn in_order(c: Contents, size: usize) -> bool
     behind - points == numbers
 }
 
-// N7, R14: reads a file's contents without checking what its bodies hold; refusal 14 has the file's length as its place.
+// N7, R14: reads a file's contents without checking what its bodies hold; refusal 14 has the file's length as its
+// place.
 pub fn read(file: &[u8]) -> Opened
     ensures { λ r. ⌜ OpenedAs (now (file .entry)) r ⌝ }
 {

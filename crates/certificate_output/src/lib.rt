@@ -38,7 +38,8 @@ pub fn put_number(out: &mut [u8], at: usize, width: usize, x: u64)
 // Stores four numbers of the contents from place `at` on.
 fn put_fields(out: &mut [u8], at: usize, a: u64, b: u64, c: u64, d: u64)
     requires { ⌜ at + 16 ≤ length (now out) ⌝ }
-    ensures { λ _. ⌜ now (out .exit) ≡ spliced at (joined (bytesOf fieldWidth) (a ∷ b ∷ c ∷ d ∷ [])) (now (out .entry)) ⌝ }
+    ensures { λ _. ⌜ now (out .exit) ≡ spliced at (joined (bytesOf fieldWidth) (a ∷ b ∷ c ∷ d ∷ [])) (now (out .entry))
+        ⌝ }
 {
     let second = at + 4;
     let third = at + 8;
@@ -49,7 +50,8 @@ fn put_fields(out: &mut [u8], at: usize, a: u64, b: u64, c: u64, d: u64)
     put_number(out, fourth, 4, d);
 }
 
-// C2: stores the contents of a certificate: n, m, then count and offset of each body. The caller says where the points and the numbers begin.
+// C2: stores the contents of a certificate: n, m, then count and offset of each body. The caller says where the points
+// and the numbers begin.
 pub fn put_contents(
     out: &mut [u8],
     n: u32,
@@ -59,8 +61,10 @@ pub fn put_contents(
     points_at: usize,
     numbers_at: usize,
 )
-    requires { ⌜ (contentsLength ≤ length (now out)) × («points_at» ≡ contentsLength + permutations * n) × («numbers_at» ≡ contentsLength + permutations * n + count * pointWidth) ⌝ }
-    ensures { λ _. ⌜ now (out .exit) ≡ spliced 0 (joined (bytesOf fieldWidth) (fieldsOf (layout n m permutations count count))) (now (out .entry)) ⌝ }
+    requires { ⌜ (contentsLength ≤ length (now out)) × («points_at» ≡ contentsLength + permutations * n)
+        × («numbers_at» ≡ contentsLength + permutations * n + count * pointWidth) ⌝ }
+    ensures { λ _. ⌜ now (out .exit) ≡ spliced 0 (joined (bytesOf fieldWidth)
+        (fieldsOf (layout n m permutations count count))) (now (out .entry)) ⌝ }
 {
     let points = count as u64;
     let numbers = count as u64;
@@ -91,7 +95,8 @@ pub fn put_bytes(out: &mut [u8], at: usize, bytes: &[u8], count: usize)
 // C3: stores the first `count` points from place `at` on, eight bytes each. One step a point.
 pub fn put_points(out: &mut [u8], at: usize, points: &[u64], count: usize)
     requires { ⌜ (at + count * pointWidth ≤ length (now out)) × (count ≤ length (pointsOf (now points))) ⌝ }
-    ensures { λ _. ⌜ now (out .exit) ≡ spliced at (joined (bytesOf pointWidth) (take count (pointsOf (now (points .entry))))) (now (out .entry)) ⌝ }
+    ensures { λ _. ⌜ now (out .exit) ≡ spliced at (joined (bytesOf pointWidth)
+        (take count (pointsOf (now (points .entry))))) (now (out .entry)) ⌝ }
 {
     let mut i = 0;
     while i < count {
@@ -105,7 +110,8 @@ pub fn put_points(out: &mut [u8], at: usize, points: &[u64], count: usize)
 // C3: stores the first `count` clause numbers from place `at` on, four bytes each. One step a number.
 pub fn put_numbers(out: &mut [u8], at: usize, numbers: &[u32], count: usize)
     requires { ⌜ (at + count * numberWidth ≤ length (now out)) × (count ≤ length (now numbers)) ⌝ }
-    ensures { λ _. ⌜ now (out .exit) ≡ spliced at (joined (bytesOf numberWidth) (take count (now (numbers .entry)))) (now (out .entry)) ⌝ }
+    ensures { λ _. ⌜ now (out .exit) ≡ spliced at (joined (bytesOf numberWidth) (take count (now (numbers .entry))))
+        (now (out .entry)) ⌝ }
 {
     let mut next = 0;
     while next < count {

@@ -13,11 +13,13 @@ entryWords none = 0 ∷ 0 ∷ []
 
 -- C1: the eight numbers of a file's contents in their order; no words where there are no contents
 unfoldable pub contentsWords : Option FileContents → List ℕ
-contentsWords (some c) = c .variables ∷ c .clauses ∷ c .permutations ∷ c .permutationsAt ∷ c .points ∷ c .pointsAt ∷ c .numbers ∷ c .numbersAt ∷ []
+contentsWords (some c) = c .variables ∷ c .clauses ∷ c .permutations ∷ c .permutationsAt ∷ c .points ∷ c .pointsAt
+    ∷ c .numbers ∷ c .numbersAt ∷ []
 contentsWords none = []
 
--- F10: the solver's answer as four words. As the search tells it: 1, the point, its distance, slots filled; 3, the bound, slots filled, 0; 0, a refusal's
--- number and place, 0. Beside these 8, slots filled, the size of the certificate written, 0; and 9, slots filled, the size needed for it, 0.
+-- F10: the solver's answer as four words. As the search tells it: 1, the point, its distance, slots filled; 3, the
+-- bound, slots filled, 0; 0, a refusal's number and place, 0. Beside these 8, slots filled, the size of the certificate
+-- written, 0; and 9, slots filled, the size needed for it, 0.
 unfoldable pub solutionWords : Solution → List ℕ
 solutionWords (Satisfiable x d filled) = 1 ∷ x ∷ d ∷ filled ∷ []
 solutionWords (Unsatisfiable filled size) = 8 ∷ filled ∷ size ∷ 0 ∷ []

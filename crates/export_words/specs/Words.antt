@@ -28,7 +28,14 @@ imagesFrom bytes = over (take 1024 bytes) (replicate 1024 0)
 unfoldable pub formulaFrom : ℕ → ℕ → ℕ → ℕ → List ℕ → Formula
 unfolding imagesFrom
 formulaFrom variables clauses target permutations bytes =
-    record { variables = variables; clauses = clauses; target = target; permutations = permutations; images = imagesFrom bytes }
+    record {
+      variables = variables;
+      clauses = clauses;
+      target = target;
+      permutations = permutations;
+      images = imagesFrom
+          bytes;
+    }
 
 -- whether a slice has room for an answer's four words
 abbrev pub hasRoom : List ℕ → Bool

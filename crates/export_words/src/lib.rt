@@ -82,7 +82,8 @@ pub fn put_words(to: &mut [u64], a: u64, b: u64, c: u64, d: u64)
 // Writes a formula's four numbers and its images; the callers see to the room for them. One step a byte of the images.
 pub fn put_formula(numbers: &mut [u64], images: &mut [u8], f: Formula)
     requires { ⌜ (4 ≤ length (now numbers)) × (1024 ≤ length (now images)) ⌝ }
-    ensures { λ _. ⌜ (now (numbers .exit) ≡ over (numbersOf f) (now (numbers .entry))) × (now (images .exit) ≡ over (f .images) (now (images .entry))) ⌝ }
+    ensures { λ _. ⌜ (now (numbers .exit) ≡ over (numbersOf f) (now (numbers .entry)))
+        × (now (images .exit) ≡ over (f .images) (now (images .entry))) ⌝ }
 {
     let bytes = f.images;
     put_words(
@@ -182,10 +183,12 @@ fn put_contents(to: &mut [u64], c: Contents)
     to[7] = c.numbers_at as u64;
 }
 
-// Writes the words of the file reader's answer, and the contents where there are some; the callers see to the room for both.
+// Writes the words of the file reader's answer, and the contents where there are some; the callers see to the room for
+// both.
 pub fn put_opened(contents: &mut [u64], reply: &mut [u64], r: Opened)
     requires { ⌜ (8 ≤ length (now contents)) × (4 ≤ length (now reply)) ⌝ }
-    ensures { λ _. ⌜ (now (contents .exit) ≡ over (contentsWords (handedOut r)) (now (contents .entry))) × (now (reply .exit) ≡ over (wordsOf (replyOfOpened r)) (now (reply .entry))) ⌝ }
+    ensures { λ _. ⌜ (now (contents .exit) ≡ over (contentsWords (handedOut r)) (now (contents .entry)))
+        × (now (reply .exit) ≡ over (wordsOf (replyOfOpened r)) (now (reply .entry))) ⌝ }
 {
     match r {
         Opened::File(c) => {

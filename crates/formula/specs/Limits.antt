@@ -1,7 +1,8 @@
 -- Document 01, 'Sheet': S22: "The limits 64, 4,096, 16 and 65,536 belong to the sheet's own kind." Assumes nothing.
 use Prim.Native.Nat.{ℕ, min}
 
--- the most variables, clauses, permutations and slots; the images of all permutations take maxVariables · maxPermutations bytes
+-- the most variables, clauses, permutations and slots; the images of all permutations take maxVariables ·
+-- maxPermutations bytes
 abbrev pub maxVariables : ℕ
 maxVariables = 64
 

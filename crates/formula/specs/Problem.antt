@@ -1,5 +1,5 @@
--- Document 01, 'Sheet': what a sheet by value with its rules says, as the one record that search, certificate and checker go by.
--- Assumes nothing.
+-- Document 01, 'Sheet': what a sheet by value with its rules says, as the one record that search, certificate and
+-- checker go by. Assumes nothing.
 use mathlib.Core.List.{List}
 use Prim.Native.Nat.{ℕ, _<_, _^_}
 use lib.ListN.{replicate}
@@ -16,7 +16,8 @@ pub record Problem : Type 0 where
   pub permutations : List Permutation
   pub clauses : List Numbered
 
--- S21: "The sheet by value holds n, C, the wish, and the exchanges as 1,024 bytes beside their number", and two slices hold its rules
+-- S21: "The sheet by value holds n, C, the wish, and the exchanges as 1,024 bytes beside their number", and two slices
+-- hold its rules
 unfoldable pub problemOf : Formula → List ℕ → List ℕ → Problem
 unfolding permutationsIn numberedFrom clausesOf
 problemOf f positive negative =

@@ -37,7 +37,8 @@ fits n m positive negative =
     leb 1 n && leb n maxVariables && leb m maxClauses && eqb (length positive) m && eqb (length negative) m
     && allBelow n positive && allBelow n negative
 
--- R10 without the target, for the checker: "n outside its limits, rule lengths (unequal to C, over 4,096), a bit above n | 10 | 0"
+-- R10 without the target, for the checker: "n outside its limits, rule lengths (unequal to C, over 4,096), a bit above
+-- n | 10 | 0"
 unfoldable pub clausesFault : Formula → List ℕ → List ℕ → Fault
 unfolding fits
 clausesFault f positive negative = cond (fits (f .variables) (f .clauses) positive negative) no-fault (fault 10 0)
@@ -46,12 +47,14 @@ clausesFault f positive negative = cond (fits (f .variables) (f .clauses) positi
 unfoldable pub formulaFault : Formula → List ℕ → List ℕ → Fault
 unfolding fits
 formulaFault f positive negative =
-    cond (fits (f .variables) (f .clauses) positive negative && ltb (f .target) (2 ^ f .variables)) no-fault (fault 10 0)
+    cond (fits (f .variables) (f .clauses) positive negative && ltb (f .target) (2 ^ f .variables)) no-fault
+    (fault 10 0)
 
 -- R11: "over 16 exchanges, or no permutation | 11 | its number; 17 if too many, tested first"
 unfoldable pub permutationFault : ℕ → List Permutation → Fault
 unfolding firstFailing isPermutation faultAt
-permutationFault n es = cond (leb (length es) maxPermutations) (faultAt 11 (firstFailing (isPermutation n) es)) (fault 11 17)
+permutationFault n es = cond (leb (length es) maxPermutations) (faultAt 11 (firstFailing (isPermutation n) es))
+    (fault 11 17)
 
 -- R12: "exchange doesn't keep the rules | 12 | its number"
 unfoldable pub symmetryFault : List Numbered → List Permutation → Fault
@@ -63,7 +66,8 @@ unfoldable pub problemFault : Formula → List ℕ → List ℕ → Fault
 unfolding first formulaFault permutationFault symmetryFault problemOf
 problemFault f positive negative =
     let pb = problemOf f positive negative in
-    first (formulaFault f positive negative ∷ permutationFault (pb .variables) (pb .permutations) ∷ symmetryFault (pb .clauses) (pb .permutations) ∷ [])
+    first (formulaFault f positive negative ∷ permutationFault (pb .variables) (pb .permutations)
+    ∷ symmetryFault (pb .clauses) (pb .permutations) ∷ [])
 
 -- F10: what the code's answer of a test means
 abbrev pub faultOf : Checked → Fault

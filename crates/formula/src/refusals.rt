@@ -15,7 +15,8 @@ ghost use Rattle.points.specs.Points.{numbered};
 ghost use Rattle.point_slices.specs.Slices.{pointsOf, clausesOf};
 ghost use Rattle.permutation_images.specs.Laws.Contracts.{Listed};
 ghost use Rattle.permutation_theory.specs.Permutations.{isPermutation, keeps, permutationsIn};
-ghost use Rattle.formula.specs.Refusals.{allBelow, fits, clausesFault, formulaFault, permutationFault, symmetryFault, problemFault, faultOf};
+ghost use Rattle.formula.specs.Refusals.{allBelow, fits, clausesFault, formulaFault, permutationFault};
+ghost use Rattle.formula.specs.Refusals.{symmetryFault, problemFault, faultOf};
 
 // Whether no number of the slice has a bit at n or above. One step a number.
 fn all_below(xs: &[u64], n: u32) -> bool
@@ -83,7 +84,8 @@ pub fn formula_refusal(f: Formula, positive: &[u64], negative: &[u64]) -> Checke
     Checked::Refused { code: 10, place: 0 }
 }
 
-// The number, from 1, of the first of the listed that is no permutation; 0 if all are. Refusals 10 and 11 see to what it requires.
+// The number, from 1, of the first of the listed that is no permutation; 0 if all are. Refusals 10 and 11 see to what
+// it requires.
 fn first_non_permutation(images: &[u8], n: u32, permutations: u32) -> usize
     requires { ⌜ (n ≤ 64) × (permutations * n ≤ length (now images)) ⌝ }
     ensures { λ r. ⌜ r ≡ firstFailing (isPermutation n) (permutationsIn n permutations (now (images .entry))) ⌝ }
@@ -121,7 +123,8 @@ pub fn permutations_refusal(images: &[u8], n: u32, permutations: u32) -> Checked
     }
 }
 
-// The number, from 1, of the first of the listed permutations that does not keep the clauses; 0 if all do, whatever the guesses are.
+// The number, from 1, of the first of the listed permutations that does not keep the clauses; 0 if all do, whatever the
+// guesses are.
 fn first_non_symmetry(
     guesses: &[u32],
     images: &[u8],
@@ -131,7 +134,8 @@ fn first_non_symmetry(
     negative: &[u64],
 ) -> usize
     requires { ⌜ Listed n permutations (now images) ⌝ }
-    ensures { λ r. ⌜ r ≡ firstFailing (keeps (numbered (clausesOf (now (positive .entry)) (now (negative .entry))))) (permutationsIn n permutations (now (images .entry))) ⌝ }
+    ensures { λ r. ⌜ r ≡ firstFailing (keeps (numbered (clausesOf (now (positive .entry)) (now (negative .entry)))))
+        (permutationsIn n permutations (now (images .entry))) ⌝ }
 {
     let size = n as usize;
     let end = permutations as usize;
@@ -156,16 +160,17 @@ fn guessed_non_symmetry(
     negative: &[u64],
 ) -> usize
     requires { ⌜ Listed n permutations (now images) ⌝ }
-    ensures { λ r. ⌜ r ≡ firstFailing (keeps (numbered (clausesOf (now (positive .entry)) (now (negative .entry))))) (permutationsIn n permutations (now (images .entry))) ⌝ }
+    ensures { λ r. ⌜ r ≡ firstFailing (keeps (numbered (clausesOf (now (positive .entry)) (now (negative .entry)))))
+        (permutationsIn n permutations (now (images .entry))) ⌝ }
 {
     let mut guesses = [0u32; ENTRIES];
     make_guesses(&mut guesses, positive, negative);
     first_non_symmetry(&guesses, images, n, permutations, positive, negative)
 }
 
-// Refusal 12. For each permutation the image of each clause takes about one comparison where the guesses have it, and never more than 16
-// and one with each clause: with 16 permutations and 4,096 clauses at most 16 · 4,096 · 4,112. No permutation costs nothing. Refusals 10
-// and 11 see to what it requires.
+// Refusal 12. For each permutation the image of each clause takes about one comparison where the guesses have it, and
+// never more than 16 and one with each clause: with 16 permutations and 4,096 clauses at most 16 · 4,096 · 4,112. No
+// permutation costs nothing. Refusals 10 and 11 see to what it requires.
 pub fn symmetry_refusal(
     images: &[u8],
     n: u32,
@@ -174,7 +179,8 @@ pub fn symmetry_refusal(
     negative: &[u64],
 ) -> Checked
     requires { ⌜ Listed n permutations (now images) ⌝ }
-    ensures { λ r. ⌜ faultOf r ≡ symmetryFault (numbered (clausesOf (now (positive .entry)) (now (negative .entry)))) (permutationsIn n permutations (now (images .entry))) ⌝ }
+    ensures { λ r. ⌜ faultOf r ≡ symmetryFault (numbered (clausesOf (now (positive .entry)) (now (negative .entry))))
+        (permutationsIn n permutations (now (images .entry))) ⌝ }
 {
     if permutations < 1 {
         return Checked::Passed;

@@ -9,7 +9,8 @@ ghost use Rattle.formula.specs.Limits.{capacity};
 
 // The shortest length of the three, and at most 65,536.
 pub fn room(points: &[u64], falsified: &[u32], depths: &[u32]) -> usize
-    ensures { λ r. ⌜ r ≡ capacity (length (pointsOf (now (points .entry)))) (length (now (falsified .entry))) (length (now (depths .entry))) ⌝ }
+    ensures { λ r. ⌜ r ≡ capacity (length (pointsOf (now (points .entry)))) (length (now (falsified .entry)))
+        (length (now (depths .entry))) ⌝ }
 {
     let most = Formula::MAX_SLOTS as usize;
     let held = point_count(points);

@@ -1,5 +1,5 @@
--- What the walks of `copy_out` and `copy_back` share: both take the slots, a count and three columns, and count up to it.
--- Assumes nothing.
+-- What the walks of `copy_out` and `copy_back` share: both take the slots, a count and three columns, and count up to
+-- it. Assumes nothing.
 use Prim.Native.Nat.{ℕ, suc, _+_, _<_, _≤_, _^_}
 use native.Mathlib.Nat.{lt-of-lt-of-le, lt-of-le-of-lt}
 use native.Mathlib.Omega.{arith}

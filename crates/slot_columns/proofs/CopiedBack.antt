@@ -15,7 +15,8 @@ use prog.Routine.{Routine}
 use prog.Wp.{Heap}
 use ghost.Atoms.{Atoms}
 use contract.Monad.{Fun, fact}
-use types.Kit.{Goal, Soaks, Given, Item, ‵, ⋆, raw, _⊛_, some, later, Seq, Step, step, _$_, _∵_, !, qed, use1, use2, move, drop, split, join, pick, rewrite, await, fsplit, fjoin, feqL, frame, done}
+use types.Kit.{Goal, Soaks, Given, Item, ‵, ⋆, raw, _⊛_, some, later, Seq, Step, step, _$_, _∵_, !, qed, use1, use2}
+use types.Kit.{move, drop, split, join, pick, rewrite, await, fsplit, fjoin, feqL, frame, done}
 use denote.RattleType.{owns}
 use denote.Laws.{Is}
 use denote.Plain.{uint-makes, Nothing}

@@ -47,7 +47,8 @@ pub fn copy_out(
     depths: &mut [u32],
 )
     requires { ⌜ Within k (length (now slots)) (length (now points)) (length (now falsified)) (length (now depths)) ⌝ }
-    ensures { λ _. ⌜ (now (points .exit) ≡ front k (pointsIn (now (slots .entry))) (now (points .entry))) × ((now (falsified .exit) ≡ front k (falsifiedIn (now (slots .entry))) (now (falsified .entry)))
+    ensures { λ _. ⌜ (now (points .exit) ≡ front k (pointsIn (now (slots .entry))) (now (points .entry)))
+        × ((now (falsified .exit) ≡ front k (falsifiedIn (now (slots .entry))) (now (falsified .entry)))
         × (now (depths .exit) ≡ front k (depthsIn (now (slots .entry))) (now (depths .entry)))) ⌝ }
 {
     let mut i = 0;
@@ -63,7 +64,8 @@ pub fn copy_out(
 // Copies back: the first k places of three slices become the first k slots.
 pub fn copy_back(slots: &mut [Slot], k: usize, points: &[u64], falsified: &[u32], depths: &[u32])
     requires { ⌜ Within k (length (now slots)) (length (now points)) (length (now falsified)) (length (now depths)) ⌝ }
-    ensures { λ _. ⌜ now (slots .exit) ≡ front k (joined (now (points .entry)) (now (falsified .entry)) (now (depths .entry))) (now (slots .entry)) ⌝ }
+    ensures { λ _. ⌜ now (slots .exit) ≡ front k (joined (now (points .entry)) (now (falsified .entry))
+        (now (depths .entry))) (now (slots .entry)) ⌝ }
 {
     let mut i = 0;
     while i < k {

@@ -1,5 +1,5 @@
--- Laws of the certificate: its length, that the test of a file says what is meant, and that what is put out is well formed and reads back.
--- Assumes nothing.
+-- Laws of the certificate: its length, that the test of a file says what is meant, and that what is put out is well
+-- formed and reads back. Assumes nothing.
 use mathlib.Core.Bool.{Bool, true, false, _&&_}
 use mathlib.Core.List.{List, _++_, append-assoc}
 use mathlib.Core.Path.{_≡_, refl, sym, ap, ap₂, _∙_}
@@ -12,9 +12,13 @@ use Rattle.math.specs.Laws.ListLaws.{and-split, and-join, not-true-false}
 use Rattle.math.specs.Lists.{_∈_}
 use Rattle.math.specs.Laws.PartLaws.{each-nil, each-cons, part-middle, part-last}
 use Rattle.permutation_theory.specs.Permutations.{Permutation, permutationsIn}
-use Rattle.certificate.specs.Bytes.{bytesOf, numberFrom, joined, numbersIn, fieldWidth, permutationWidth, pointWidth, numberWidth}
-use Rattle.certificate.specs.Laws.BytesLaws.{length-bytesOf, numberFrom-bytesOf, length-joined, entries-joined, entries-all, permutations-entries}
-use Rattle.certificate.specs.Certificate.{FileContents, contentsLength, fieldsOf, fromFields, layout, certificateLength, encode, Encodable, contentsOf, WellFormed, fitting, wellFormed, filePermutations, filePoints, fileNumbers}
+use Rattle.certificate.specs.Bytes.{bytesOf, numberFrom, joined, numbersIn, fieldWidth, permutationWidth}
+use Rattle.certificate.specs.Bytes.{pointWidth, numberWidth}
+use Rattle.certificate.specs.Laws.BytesLaws.{length-bytesOf, numberFrom-bytesOf, length-joined, entries-joined}
+use Rattle.certificate.specs.Laws.BytesLaws.{entries-all, permutations-entries}
+use Rattle.certificate.specs.Certificate.{FileContents, contentsLength, fieldsOf, fromFields, layout}
+use Rattle.certificate.specs.Certificate.{certificateLength, encode, Encodable, contentsOf, WellFormed, fitting}
+use Rattle.certificate.specs.Certificate.{wellFormed, filePermutations, filePoints, fileNumbers}
 
 -- ---- the test of a file
 
@@ -82,11 +86,14 @@ wellFormed-complete file w =
 -- a file shorter than its contents is none; of a longer one its contents and its length decide
 pub short-file : (file : List ℕ) → length file < contentsLength → wellFormed file ≡ false
 unfolding wellFormed
-short-file file h = ap (λ (b : Bool). b && fitting (contentsOf file) (length file)) (lt-leb contentsLength (length file) h)
+short-file file h = ap (λ (b : Bool). b && fitting (contentsOf file) (length file))
+    (lt-leb contentsLength (length file) h)
 
-pub long-file : (file : List ℕ) → contentsLength ≤ length file → wellFormed file ≡ fitting (contentsOf file) (length file)
+pub long-file : (file : List ℕ) → contentsLength ≤ length file
+    → wellFormed file ≡ fitting (contentsOf file) (length file)
 unfolding wellFormed
-long-file file h = ap (λ (b : Bool). b && fitting (contentsOf file) (length file)) (le-leb contentsLength (length file) h)
+long-file file h = ap (λ (b : Bool). b && fitting (contentsOf file) (length file))
+    (le-leb contentsLength (length file) h)
 
 -- ---- what is put out: the contents and three bodies, joined
 
@@ -126,8 +133,10 @@ module _ (n m : ℕ) (es : List Permutation) (ps ns : List ℕ) where
     begins-points : length (contentsPart ++ permutationsPart) ≡ contentsLength + length es * permutationWidth n
     begins-points = length-append contentsPart permutationsPart ∙ ap₂ _+_ length-contentsPart length-permutationsPart
 
-    begins-numbers : length (contentsPart ++ permutationsPart ++ pointsPart) ≡ contentsLength + length es * permutationWidth n + length ps * pointWidth
-    begins-numbers = length-append (contentsPart ++ permutationsPart) pointsPart ∙ ap₂ _+_ begins-points length-pointsPart
+    begins-numbers : length (contentsPart ++ permutationsPart ++ pointsPart)
+        ≡ contentsLength + length es * permutationWidth n + length ps * pointWidth
+    begins-numbers = length-append (contentsPart ++ permutationsPart) pointsPart
+        ∙ ap₂ _+_ begins-points length-pointsPart
 
     pub length-encode : length (encode n m es ps ns) ≡ certificateLength n (length es) (length ps)
     unfolding encode certificateLength
@@ -135,35 +144,43 @@ module _ (n m : ℕ) (es : List Permutation) (ps ns : List ℕ) where
         length-append (contentsPart ++ permutationsPart ++ pointsPart) numbersPart
         ∙ ap₂ _+_ begins-numbers (length-numbersPart ∙ ap (λ (k : ℕ). k * numberWidth) (sym (fit .paired)))
 
-    fields-back : (x : ℕ) → x ∈ fieldsOf (layout n m (length es) (length ps) (length ns)) → numberFrom (bytesOf fieldWidth x) ≡ x
+    fields-back : (x : ℕ) → x ∈ fieldsOf (layout n m (length es) (length ps) (length ns))
+        → numberFrom (bytesOf fieldWidth x) ≡ x
     unfolding fieldsOf layout
     fields-back =
         let back = numberFrom-bytesOf fieldWidth in
         let P : ℕ → Type 0 = λ x. numberFrom (bytesOf fieldWidth x) ≡ x in
-        let last : contentsLength + length es * permutationWidth n + length ps * pointWidth < 256 ^ fieldWidth = fit .offsetsFit in
+        let last : contentsLength + length es * permutationWidth n + length ps * pointWidth
+        < 256 ^ fieldWidth = fit .offsetsFit in
         let same : length ps ≡ length ns = fit .paired in
         let points : length ps < 256 ^ fieldWidth = omega arith in
         let numbers : length ns < 256 ^ fieldWidth = omega arith in
         let middle : contentsLength + length es * permutationWidth n < 256 ^ fieldWidth = omega arith in
-        each-cons P (back n (fit .variablesFit)) (each-cons P (back m (fit .clausesFit)) (each-cons P (back (length es) (fit .countFits))
+        each-cons P (back n (fit .variablesFit)) (each-cons P (back m (fit .clausesFit))
+        (each-cons P (back (length es) (fit .countFits))
         (each-cons P (back contentsLength (lit< tt)) (each-cons P (back (length ps) points)
-        (each-cons P (back (contentsLength + length es * permutationWidth n) middle) (each-cons P (back (length ns) numbers)
-        (each-cons P (back (contentsLength + length es * permutationWidth n + length ps * pointWidth) last) (each-nil P))))))))
+        (each-cons P (back (contentsLength + length es * permutationWidth n) middle)
+        (each-cons P (back (length ns) numbers)
+        (each-cons P (back (contentsLength + length es * permutationWidth n + length ps * pointWidth) last)
+        (each-nil P))))))))
 
     pub contents-encode : contentsOf (encode n m es ps ns) ≡ layout n m (length es) (length ps) (length ns)
     unfolding contentsOf encode fieldsOf
     contents-encode =
         ap (λ l. fromFields (numbersIn fieldWidth 8 l))
-        (append-assoc (contentsPart ++ permutationsPart) pointsPart numbersPart ∙ append-assoc contentsPart permutationsPart (pointsPart ++ numbersPart))
+        (append-assoc (contentsPart ++ permutationsPart) pointsPart numbersPart
+        ∙ append-assoc contentsPart permutationsPart (pointsPart ++ numbersPart))
         ∙ ap fromFields
-        (entries-joined (bytesOf fieldWidth) fieldWidth numberFrom (fieldsOf (layout n m (length es) (length ps) (length ns)))
+        (entries-joined (bytesOf fieldWidth) fieldWidth numberFrom
+        (fieldsOf (layout n m (length es) (length ps) (length ns)))
         (permutationsPart ++ (pointsPart ++ numbersPart)) (λ x _. length-bytesOf fieldWidth x) fields-back)
 
     -- D2.4: what is put out is well formed
     pub encode-wellFormed : WellFormed (encode n m es ps ns)
     unfolding layout certificateLength
     encode-wellFormed =
-        let same : contentsOf (encode n m es ps ns) ≡ layout n m (length es) (length ps) (length ns) = contents-encode in
+        let same : contentsOf (encode n m es ps ns)
+        ≡ layout n m (length es) (length ps) (length ns) = contents-encode in
         let size : length (encode n m es ps ns) ≡ certificateLength n (length es) (length ps) = length-encode in
         record {
           long = rw size (omega arith);
@@ -174,29 +191,42 @@ module _ (n m : ℕ) (es : List Permutation) (ps ns : List ℕ) where
           lengthExact = rw (same, size, fit .paired);
         }
 
-    -- C5: "the reading of what the writer puts out is exactly the sheet's exchanges and the points and rule numbers of the slots given"
+    -- C5: "the reading of what the writer puts out is exactly the sheet's exchanges and the points and rule numbers of
+    -- the slots given"
     pub encode-permutations : filePermutations (encode n m es ps ns) ≡ es
     unfolding filePermutations layout encode
     encode-permutations =
-        ap (λ (c : FileContents). permutationsIn (c .variables) (c .permutations) (take (c .permutations * permutationWidth (c .variables)) (drop (c .permutationsAt) (encode n m es ps ns)))) contents-encode
+        ap (λ (c : FileContents). permutationsIn (c .variables) (c .permutations)
+        (take (c .permutations * permutationWidth (c .variables)) (drop (c .permutationsAt) (encode n m es ps ns))))
+        contents-encode
         ∙ ap (permutationsIn n (length es))
-        (ap (λ l. take (length es * permutationWidth n) (drop contentsLength l)) (append-assoc (contentsPart ++ permutationsPart) pointsPart numbersPart)
-        ∙ part-middle contentsPart permutationsPart (pointsPart ++ numbersPart) contentsLength (length es * permutationWidth n) length-contentsPart length-permutationsPart)
+        (ap (λ l. take (length es * permutationWidth n) (drop contentsLength l))
+        (append-assoc (contentsPart ++ permutationsPart) pointsPart numbersPart)
+        ∙ part-middle contentsPart permutationsPart (pointsPart ++ numbersPart) contentsLength
+        (length es * permutationWidth n) length-contentsPart length-permutationsPart)
         ∙ permutations-entries n (length es) permutationsPart
-        ∙ entries-all (λ (e : Permutation). e .images) n (λ bs. record { images = bs }) es (fit .imagesFit) (λ e _. refl)
+        ∙ entries-all (λ (e : Permutation). e .images) n (λ bs. record { images = bs }) es (fit .imagesFit)
+        (λ e _. refl)
 
     pub encode-points : filePoints (encode n m es ps ns) ≡ ps
     unfolding filePoints layout encode
     encode-points =
-        ap (λ (c : FileContents). numbersIn pointWidth (c .points) (take (c .points * pointWidth) (drop (c .pointsAt) (encode n m es ps ns)))) contents-encode
+        ap (λ (c : FileContents). numbersIn pointWidth (c .points)
+        (take (c .points * pointWidth) (drop (c .pointsAt) (encode n m es ps ns)))) contents-encode
         ∙ ap (numbersIn pointWidth (length ps))
-        (part-middle (contentsPart ++ permutationsPart) pointsPart numbersPart (contentsLength + length es * permutationWidth n) (length ps * pointWidth) begins-points length-pointsPart)
-        ∙ entries-all (bytesOf pointWidth) pointWidth numberFrom ps (λ x _. length-bytesOf pointWidth x) (λ x h. numberFrom-bytesOf pointWidth x (fit .pointsFit x h))
+        (part-middle (contentsPart ++ permutationsPart) pointsPart numbersPart
+        (contentsLength + length es * permutationWidth n) (length ps * pointWidth) begins-points length-pointsPart)
+        ∙ entries-all (bytesOf pointWidth) pointWidth numberFrom ps (λ x _. length-bytesOf pointWidth x)
+        (λ x h. numberFrom-bytesOf pointWidth x (fit .pointsFit x h))
 
     pub encode-numbers : fileNumbers (encode n m es ps ns) ≡ ns
     unfolding fileNumbers layout encode
     encode-numbers =
-        ap (λ (c : FileContents). numbersIn numberWidth (c .numbers) (take (c .numbers * numberWidth) (drop (c .numbersAt) (encode n m es ps ns)))) contents-encode
+        ap (λ (c : FileContents). numbersIn numberWidth (c .numbers)
+        (take (c .numbers * numberWidth) (drop (c .numbersAt) (encode n m es ps ns)))) contents-encode
         ∙ ap (numbersIn numberWidth (length ns))
-        (part-last (contentsPart ++ permutationsPart ++ pointsPart) numbersPart (contentsLength + length es * permutationWidth n + length ps * pointWidth) (length ns * numberWidth) begins-numbers length-numbersPart)
-        ∙ entries-all (bytesOf numberWidth) numberWidth numberFrom ns (λ x _. length-bytesOf numberWidth x) (λ x h. numberFrom-bytesOf numberWidth x (fit .numbersFit x h))
+        (part-last (contentsPart ++ permutationsPart ++ pointsPart) numbersPart
+        (contentsLength + length es * permutationWidth n + length ps * pointWidth) (length ns * numberWidth)
+        begins-numbers length-numbersPart)
+        ∙ entries-all (bytesOf numberWidth) numberWidth numberFrom ns (λ x _. length-bytesOf numberWidth x)
+        (λ x h. numberFrom-bytesOf numberWidth x (fit .numbersFit x h))

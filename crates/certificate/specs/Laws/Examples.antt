@@ -46,11 +46,13 @@ unfolding encode contentsOf
 numbersAtA = refl
 
 -- the writer, from three slots and an output of just that length; and of one byte less
-pub writtenA : writeReply caseA positiveA negativeA (0 ∷ 1 ∷ 3 ∷ []) (1 ∷ 2 ∷ 4 ∷ []) (0 ∷ 1 ∷ 2 ∷ []) 3 (replicate 70 9) ≡ written 70
+pub writtenA : writeReply caseA positiveA negativeA (0 ∷ 1 ∷ 3 ∷ []) (1 ∷ 2 ∷ 4 ∷ []) (0 ∷ 1 ∷ 2 ∷ []) 3
+    (replicate 70 9) ≡ written 70
 unfolding writeReply
 writtenA = refl
 
-pub shortA : writeReply caseA positiveA negativeA (0 ∷ 1 ∷ 3 ∷ []) (1 ∷ 2 ∷ 4 ∷ []) (0 ∷ 1 ∷ 2 ∷ []) 3 (replicate 69 9) ≡ refused 19 70
+pub shortA : writeReply caseA positiveA negativeA (0 ∷ 1 ∷ 3 ∷ []) (1 ∷ 2 ∷ 4 ∷ []) (0 ∷ 1 ∷ 2 ∷ []) 3 (replicate 69 9)
+    ≡ refused 19 70
 unfolding writeReply
 shortA = refl
 

@@ -1,4 +1,5 @@
--- Laws of the writer: what its tests leave certain, and that what it puts out is well formed and reads back. Assumes nothing.
+-- Laws of the writer: what its tests leave certain, and that what it puts out is well formed and reads back. Assumes
+-- nothing.
 use mathlib.Core.Bool.{_&&_}
 use mathlib.Core.List.{List, [], _∷_, _++_}
 use mathlib.Core.Path.{_≡_, refl, sym, ap, _∙_, subst}
@@ -22,9 +23,12 @@ use Rattle.formula.specs.Refusals.{Fits, formulaFault, permutationFault, symmet
 use Rattle.formula.specs.Laws.RefusalLaws.{formula-passes}
 use Rattle.formula.specs.Reply.{unlessKept, no-fault, first, written}
 use Rattle.certificate.specs.Certificate.{FileContents, layout, certificateLength, Encodable}
-use Rattle.certificate.specs.Laws.CertificateLaws.{length-encode, contents-encode, encode-wellFormed, encode-permutations, encode-points, encode-numbers}
-use Rattle.formula.specs.Laws.ReplyLaws.{first-none, first-join, first-split, tested, each-passed, below-passed, not-refused, written-not-refused, unless-sound}
-use Rattle.certificate.specs.Laws.RowLaws.{points-counted, points-passed, point-passes-take, clause-found, numbered-range, number-passed}
+use Rattle.certificate.specs.Laws.CertificateLaws.{length-encode, contents-encode, encode-wellFormed}
+use Rattle.certificate.specs.Laws.CertificateLaws.{encode-permutations, encode-points, encode-numbers}
+use Rattle.formula.specs.Laws.ReplyLaws.{first-none, first-join, first-split, tested, each-passed, below-passed}
+use Rattle.formula.specs.Laws.ReplyLaws.{not-refused, written-not-refused, unless-sound}
+use Rattle.certificate.specs.Laws.RowLaws.{points-counted, points-passed, point-passes-take, clause-found}
+use Rattle.certificate.specs.Laws.RowLaws.{numbered-range, number-passed}
 use Rattle.certificate.specs.Rows.{pointPasses, pointsFault, numberPasses, numbersFault, roomFault}
 use Rattle.certificate.specs.Writer.{lengthNeeded, writeFault, writeReply, certificateOf, writeOutput, ReadsAs}
 
@@ -47,8 +51,11 @@ module _ (f : Formula) (positive negative points falsified depths : List ℕ) (f
 
   -- the writer's rows, in their order
   pub write-rows : writeFault f positive negative points falsified depths filled out
-      ≡ first (formulaFault f positive negative ∷ permutationFault (pb .variables) (pb .permutations) ∷ symmetryFault (pb .clauses) (pb .permutations)
-      ∷ pointsFault lent (pb .variables) filled (pointsOf points) ∷ numbersFault (pb .clauses) filled (pointsOf points) falsified ∷ roomFault (lengthNeeded pb filled) (length out) ∷ [])
+      ≡ first (formulaFault f positive negative ∷ permutationFault (pb .variables) (pb .permutations)
+      ∷ symmetryFault (pb .clauses) (pb .permutations)
+      ∷ pointsFault lent (pb .variables) filled (pointsOf points)
+      ∷ numbersFault (pb .clauses) filled (pointsOf points) falsified ∷ roomFault (lengthNeeded pb filled) (length out)
+      ∷ [])
   unfolding writeFault
   write-rows = refl
 
@@ -65,7 +72,9 @@ module _ (f : Formula) (positive negative points falsified depths : List ℕ) (f
   pub passed-writer : WriterPassed → writeFault f positive negative points falsified depths filled out ≡ no-fault
   passed-writer w =
       write-rows
-      ∙ first-join _ _ (w .row10) (first-join _ _ (w .row11) (first-join _ _ (w .row12) (first-join _ _ (w .row16) (first-join _ _ (w .row17) (first-join _ _ (w .row19) first-none)))))
+      ∙ first-join _ _ (w .row10) (first-join _ _ (w .row11)
+      (first-join _ _ (w .row12) (first-join _ _ (w .row16)
+      (first-join _ _ (w .row17) (first-join _ _ (w .row19) first-none)))))
 
   -- the points and the clause numbers of the slots given
   abbrev xs : List ℕ
@@ -75,10 +84,12 @@ module _ (f : Formula) (positive negative points falsified depths : List ℕ) (f
   ks = take filled falsified
 
   -- row 16: the slots given are among those lent
-  pub few-slots : pointsFault lent (pb .variables) filled (pointsOf points) ≡ no-fault → (filled ≤ maxSlots) × (filled ≤ length points) × (filled ≤ length falsified)
+  pub few-slots : pointsFault lent (pb .variables) filled (pointsOf points) ≡ no-fault
+      → (filled ≤ maxSlots) × (filled ≤ length points) × (filled ≤ length falsified)
   unfolding capacity
   few-slots h =
-      let w = points-counted lent (pb .variables) filled (pointsOf points) h .1 in (omega arith, omega arith, omega arith)
+      let w = points-counted lent (pb .variables) filled (pointsOf points) h .1 in
+      (omega arith, omega arith, omega arith)
 
   module _ (passed : WriterPassed) where
     limited : Fits (f .variables) (f .clauses) positive negative
@@ -94,12 +105,14 @@ module _ (f : Formula) (positive negative points falsified depths : List ℕ) (f
     length-ks = length-take-le filled falsified (few .2)
 
     -- row 11
-    permutations-fit : (length (pb .permutations) ≤ maxPermutations) × ((e : Permutation) → e ∈ pb .permutations → length (e .images) ≡ f .variables)
+    permutations-fit : (length (pb .permutations) ≤ maxPermutations)
+        × ((e : Permutation) → e ∈ pb .permutations → length (e .images) ≡ f .variables)
     unfolding permutationFault isPermutation problemOf
     permutations-fit =
         let t = tested (leb (length (pb .permutations)) maxPermutations) _ 11 17 (passed .row11) in (
           leb-true (length (pb .permutations)) maxPermutations (t .0),
-          λ e m. eqb-true (length (e .images)) (f .variables) (and-split _ _ (each-passed 11 (isPermutation (f .variables)) (pb .permutations) (t .1) e m) .0),
+          λ e m. eqb-true (length (e .images)) (f .variables)
+              (and-split _ _ (each-passed 11 (isPermutation (f .variables)) (pb .permutations) (t .1) e m) .0),
         )
 
     -- row 16
@@ -108,7 +121,8 @@ module _ (f : Formula) (positive negative points falsified depths : List ℕ) (f
     slots-passed =
         let t = tested (leb 1 filled && leb filled lent) _ 16 0 (passed .row16) in
         points-passed (f .variables) xs (λ i lt. let h : i < filled = subst (λ (k : ℕ). i < k) length-xs lt in
-        point-passes-take (f .variables) points filled i h ∙ below-passed 16 (pointPasses (f .variables) points) filled (t .1) i h)
+        point-passes-take (f .variables) points filled i h
+        ∙ below-passed 16 (pointPasses (f .variables) points) filled (t .1) i h)
 
     -- row 17
     numbers-fit : (k : ℕ) → k ∈ ks → k ≤ maxClauses
@@ -116,7 +130,8 @@ module _ (f : Formula) (positive negative points falsified depths : List ℕ) (f
     numbers-fit k m =
         let w = in-getD 0 m in
         let lt : w .0 < filled = subst (λ (j : ℕ). w .0 < j) length-ks (w .1) in
-        let found = number-passed (pb .clauses) points falsified (w .0) (below-passed 17 (numberPasses (pb .clauses) points falsified) filled (passed .row17) (w .0) lt) in
+        let found = number-passed (pb .clauses) points falsified (w .0)
+        (below-passed 17 (numberPasses (pb .clauses) points falsified) filled (passed .row17) (w .0) lt) in
         let r = clause-found (pb .clauses) (getD falsified (w .0) 0) (found .0) (found .1) in
         let named : r .0 .number ≡ getD falsified (w .0) 0 = r .2 in
         let here : getD ks (w .0) 0 ≡ getD falsified (w .0) 0 = getD-take filled falsified (w .0) 0 lt in
@@ -135,7 +150,8 @@ module _ (f : Formula) (positive negative points falsified depths : List ℕ) (f
         let few-clauses : f .clauses ≤ maxClauses = l .few-clauses in
         let e = permutations-fit in
         let few-permutations : length (pb .permutations) ≤ maxPermutations = e .0 in
-        let area : length (pb .permutations) * f .variables ≤ maxPermutations * maxVariables = mul-le-mul few-permutations few-variables in
+        let area : length (pb .permutations) * f .variables
+        ≤ maxPermutations * maxVariables = mul-le-mul few-permutations few-variables in
         let many : length xs ≡ filled = length-xs in
         let limit : filled ≤ maxSlots = few .0 in
         record {
@@ -151,7 +167,8 @@ module _ (f : Formula) (positive negative points falsified depths : List ℕ) (f
 
     room : lengthNeeded pb filled ≤ length out
     unfolding roomFault
-    room = leb-true (lengthNeeded pb filled) (length out) (tested (leb (lengthNeeded pb filled) (length out)) no-fault 19 (lengthNeeded pb filled) (passed .row19) .0)
+    room = leb-true (lengthNeeded pb filled) (length out)
+        (tested (leb (lengthNeeded pb filled) (length out)) no-fault 19 (lengthNeeded pb filled) (passed .row19) .0)
 
     pub certificate-length : length (certificateOf pb points falsified filled) ≡ lengthNeeded pb filled
     unfolding certificateOf lengthNeeded
@@ -178,20 +195,24 @@ module _ (f : Formula) (positive negative points falsified depths : List ℕ) (f
 
   -- the writer puts out exactly where its tests find nothing
   pub output-written : writeFault f positive negative points falsified depths filled out ≡ no-fault
-      → writeOutput f positive negative points falsified depths filled out ≡ certificateOf pb points falsified filled ++ drop (lengthNeeded pb filled) out
+      → writeOutput f positive negative points falsified depths filled out
+      ≡ certificateOf pb points falsified filled ++ drop (lengthNeeded pb filled) out
   unfolding writeOutput
-  output-written h = ap (λ t. unlessKept t (certificateOf pb points falsified filled ++ drop (lengthNeeded pb filled) out) out) h
+  output-written h = ap (λ t. unlessKept t (certificateOf pb points falsified filled
+      ++ drop (lengthNeeded pb filled) out) out) h
 
   pub reply-written : writeFault f positive negative points falsified depths filled out ≡ no-fault
       → writeReply f positive negative points falsified depths filled out ≡ written (lengthNeeded pb filled)
   unfolding writeReply
-  reply-written h = unless-sound (writeFault f positive negative points falsified depths filled out) h (written (lengthNeeded pb filled))
+  reply-written h = unless-sound (writeFault f positive negative points falsified depths filled out) h
+      (written (lengthNeeded pb filled))
 
   pub written-sound : (size : ℕ) → writeReply f positive negative points falsified depths filled out ≡ written size
       → (writeFault f positive negative points falsified depths filled out ≡ no-fault) × (size ≡ lengthNeeded pb filled)
   unfolding writeReply
   written-sound size h =
-      let s = not-refused (writeFault f positive negative points falsified depths filled out) (written (lengthNeeded pb filled)) (written size) h (written-not-refused size) in
+      let s = not-refused (writeFault f positive negative points falsified depths filled out)
+      (written (lengthNeeded pb filled)) (written size) h (written-not-refused size) in
       let r = reply-written s in
       (s, cc)
 
@@ -201,8 +222,11 @@ module _ (f : Formula) (positive negative points falsified depths : List ℕ) (f
   reads-back size h =
       let w = written-sound size h in
       let passed = writer-passed (w .0) in
-      let front : take size (writeOutput f positive negative points falsified depths filled out) ≡ certificateOf pb points falsified filled =
-      ap (take size) (output-written (w .0)) ∙ take-at (certificateOf pb points falsified filled) (drop (lengthNeeded pb filled) out) size (certificate-length passed ∙ sym (w .1)) in
+      let front : take size (writeOutput f positive negative points falsified depths filled out)
+      ≡ certificateOf pb points falsified filled =
+      ap (take size) (output-written (w .0))
+      ∙ take-at (certificateOf pb points falsified filled) (drop (lengthNeeded pb filled) out) size
+      (certificate-length passed ∙ sym (w .1)) in
       rw front (certificate-reads passed)
 
   -- C6: "Output past the certificate is unchanged."
@@ -211,5 +235,7 @@ module _ (f : Formula) (positive negative points falsified depths : List ℕ) (f
   past-unchanged size h =
       let w = written-sound size h in
       let passed = writer-passed (w .0) in
-      ap (drop size) (output-written (w .0)) ∙ drop-at (certificateOf pb points falsified filled) (drop (lengthNeeded pb filled) out) size (certificate-length passed ∙ sym (w .1))
+      ap (drop size) (output-written (w .0))
+      ∙ drop-at (certificateOf pb points falsified filled) (drop (lengthNeeded pb filled) out) size
+      (certificate-length passed ∙ sym (w .1))
       ∙ ap (λ (k : ℕ). drop k out) (sym (w .1))

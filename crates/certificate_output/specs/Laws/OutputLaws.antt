@@ -1,4 +1,5 @@
--- Laws of stores into the output: numbers that stand without gaps, one more at a time, and the eight numbers of the contents. Assumes nothing.
+-- Laws of stores into the output: numbers that stand without gaps, one more at a time, and the eight numbers of the
+-- contents. Assumes nothing.
 use mathlib.Core.List.{List, [], _∷_, _++_}
 use mathlib.Core.Path.{_≡_, refl, sym, ap, ap₂, _∙_}
 use Prim.Native.Nat.{ℕ, _+_, _*_, _≤_, _<_, zero-le}
@@ -16,7 +17,8 @@ use Rattle.certificate.specs.Certificate.{fieldsOf, layout, contentsLength}
 -- behind one part, another
 pub part-stored : (at place : ℕ) (a b old before after : List ℕ) → at ≤ length old → place ≡ at + length a
     → before ≡ spliced at a old → after ≡ spliced place b before → after ≡ spliced at (a ++ b) old
-part-stored at place a b old before after room here e f = f ∙ ap₂ (λ (k : ℕ) (l : List ℕ). spliced k b l) here e ∙ spliced-next at a b old room
+part-stored at place a b old before after room here e f = f ∙ ap₂ (λ (k : ℕ) (l : List ℕ). spliced k b l) here e
+    ∙ spliced-next at a b old room
 
 module _ (w at : ℕ) (old : List ℕ) (room : at ≤ length old) where
   -- no number stored yet
@@ -93,6 +95,8 @@ contents-stored n m a k points numbers old half whole p q e f =
     let front : List ℕ = n ∷ m ∷ a ∷ contentsLength ∷ [] in
     let back : List ℕ = k ∷ points ∷ k ∷ numbers ∷ [] in
     part-stored 0 16 (joined (bytesOf fieldWidth) front) (joined (bytesOf fieldWidth) back) old half whole zero-le
-    (sym (zero-add (length (joined (bytesOf fieldWidth) front)) ∙ length-joined (bytesOf fieldWidth) fieldWidth front (λ y _. length-bytesOf fieldWidth y))) e f
+    (sym (zero-add (length (joined (bytesOf fieldWidth) front))
+    ∙ length-joined (bytesOf fieldWidth) fieldWidth front (λ y _. length-bytesOf fieldWidth y))) e f
     ∙ ap (λ l. spliced 0 l old) (sym (joined-append (bytesOf fieldWidth) front back))
-    ∙ ap₂ (λ (u v : ℕ). spliced 0 (joined (bytesOf fieldWidth) (n ∷ m ∷ a ∷ contentsLength ∷ k ∷ u ∷ k ∷ v ∷ [])) old) p q
+    ∙ ap₂ (λ (u v : ℕ). spliced 0 (joined (bytesOf fieldWidth) (n ∷ m ∷ a ∷ contentsLength ∷ k ∷ u ∷ k ∷ v ∷ [])) old) p
+    q

@@ -154,7 +154,8 @@ module _ (f : Formula) (positive negative points falsified depths : List ℕ) wh
     -- an entry of a slice among the first k is that of the slots
     front-at : (part : Slot → ℕ) → part (slot 0 0 0) ≡ 0 → (old : List ℕ) (i : ℕ) → i < filled
         → getD (after part old) i 0 ≡ part (getD l i (slot 0 0 0))
-    front-at part e old i lt = sym (getD-take filled (after part old) i 0 lt) ∙ ap (λ q. getD q i 0) (after-front part old)
+    front-at part e old i lt = sym (getD-take filled (after part old) i 0 lt)
+        ∙ ap (λ q. getD q i 0) (after-front part old)
         ∙ part-at part e l i
 
     within : (i : ℕ) → i < filled → i < length l

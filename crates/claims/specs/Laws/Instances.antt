@@ -90,4 +90,5 @@ bound-A = claim .bound (sheetOf caseA-3) (places 3) 1 3 answered-A-3
 -- 6: with 2 ^ 2 slots it is not left open
 pub enough-room-A : (b filled : ℕ) → SearchAnswers (sheetOf caseA-4) (places 4) (unknown b filled) → ⊥
 unfolding problemOf
-enough-room-A b filled = claim .enough-room (sheetOf caseA-4) (places 4) b filled (lit≤ tt) (lit≤ tt) (lit≤ tt) (lit≤ tt)
+enough-room-A b filled = claim .enough-room (sheetOf caseA-4) (places 4) b filled (lit≤ tt) (lit≤ tt) (lit≤ tt)
+    (lit≤ tt)

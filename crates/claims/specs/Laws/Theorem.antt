@@ -57,7 +57,8 @@ claim =
           );
       certified = certified;
       refutes = accepted-refutes;
-      bound = λ s l b filled a y m. search-bound (formulaIn s) (positiveIn s) (negativeIn s) (lent l) b filled (a .reply) y
+      bound = λ s l b filled a y m. search-bound (formulaIn s) (positiveIn s) (negativeIn s) (lent l) b filled
+          (a .reply) y
           (m .within) (m .satisfying);
       enough-room = λ s l b filled few p q r a.
           search-room (formulaIn s) (positiveIn s) (negativeIn s) (lent l)

@@ -1,4 +1,5 @@
--- `export_words::put_contents` meets its contract: eight writes are the eight numbers in front of what was there. Assumes nothing.
+-- `export_words::put_contents` meets its contract: eight writes are the eight numbers in front of what was there.
+-- Assumes nothing.
 use mathlib.Core.List.{List, [], _∷_}
 use mathlib.Core.Option.{some}
 use mathlib.Core.Path.{_≡_, refl, _∙_}

@@ -1,4 +1,5 @@
--- `export_words::put_opened` meets its contract: of each answer the words that it carries, and the contents where it has some. Assumes nothing.
+-- `export_words::put_opened` meets its contract: of each answer the words that it carries, and the contents where it
+-- has some. Assumes nothing.
 use mathlib.Core.Path.{sym}
 use borrow.Author.Needs.{needs}
 use Rattle.math.specs.Laws.OverLaws.{over-none}

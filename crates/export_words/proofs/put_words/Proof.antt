@@ -1,4 +1,5 @@
--- `export_words::put_words` meets its contract: four writes are the four words in front of what was there. Assumes nothing.
+-- `export_words::put_words` meets its contract: four writes are the four words in front of what was there. Assumes
+-- nothing.
 use mathlib.Core.List.{List, [], _∷_}
 use mathlib.Core.Path.{_≡_, refl}
 use Prim.Native.Nat.{ℕ, _≤_}

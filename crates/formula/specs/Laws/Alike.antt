@@ -4,7 +4,8 @@ use Prim.Native.Nat.{_*_}
 use lib.ListN.{take}
 use Rattle.formula.specs.declared.Formula.{Formula}
 
--- S21: two formulas that agree in n, C, the target, the number of permutations and their bytes: "the reader makes unused bytes 0 and nothing else reads them"
+-- S21: two formulas that agree in n, C, the target, the number of permutations and their bytes: "the reader makes
+-- unused bytes 0 and nothing else reads them"
 pub record Alike (f g : Formula) : Type 0 where
   pub variables : f .variables ≡ g .variables
   pub clauses : f .clauses ≡ g .clauses

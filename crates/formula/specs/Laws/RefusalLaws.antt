@@ -16,13 +16,17 @@ use Rattle.point_slices.specs.Slices.{clausesOf}
 use Rattle.point_theory.specs.Laws.Notions.{ClausesBelow}
 use Rattle.permutation_images.specs.Laws.Contracts.{Movable, Listed}
 use Rattle.permutation_images.specs.Laws.LoopLaws.{length-permutations, clausesIn-numbered}
-use Rattle.permutation_theory.specs.Laws.PermutationLaws.{isPermutation-sound, isPermutation-complete, keeps-sound, keeps-complete, permutation-within}
-use Rattle.permutation_theory.specs.Permutations.{Permutation, IsPermutation, isPermutation, Keeps, keeps, permutationsIn}
+use Rattle.permutation_theory.specs.Laws.PermutationLaws.{isPermutation-sound, isPermutation-complete, keeps-sound}
+use Rattle.permutation_theory.specs.Laws.PermutationLaws.{keeps-complete, permutation-within}
+use Rattle.permutation_theory.specs.Permutations.{Permutation, IsPermutation, isPermutation, Keeps, keeps}
+use Rattle.permutation_theory.specs.Permutations.{permutationsIn}
 use Rattle.formula.specs.declared.Formula.{Formula}
 use Rattle.formula.specs.Limits.{maxVariables, maxClauses, maxPermutations}
-use Rattle.formula.specs.Refusals.{allBelow, Fits, fits, formulaFault, permutationFault, symmetryFault, problemFault}
+use Rattle.formula.specs.Refusals.{allBelow, Fits, fits, formulaFault, permutationFault, symmetryFault}
+use Rattle.formula.specs.Refusals.{problemFault}
 use Rattle.formula.specs.Reply.{Fault, no-fault, fault, faultAt}
-use Rattle.formula.specs.Laws.ReplyLaws.{IsFault, fault-not-sound, faultAt-sound, answers-first, answers-rest, first-last}
+use Rattle.formula.specs.Laws.ReplyLaws.{IsFault, fault-not-sound, faultAt-sound, answers-first, answers-rest}
+use Rattle.formula.specs.Laws.ReplyLaws.{first-last}
 
 -- ---- 10
 
@@ -38,9 +42,12 @@ module _ (n m : ℕ) (positive negative : List ℕ) where
   pub fits-sound : fits n m positive negative ≡ true → Fits n m positive negative
   unfolding fits
   fits-sound h =
-      let g = and-split (leb 1 n && leb n maxVariables && leb m maxClauses && eqb (length positive) m && eqb (length negative) m && allBelow n positive) (allBelow n negative) h in
-      let f = and-split (leb 1 n && leb n maxVariables && leb m maxClauses && eqb (length positive) m && eqb (length negative) m) (allBelow n positive) (g .0) in
-      let e = and-split (leb 1 n && leb n maxVariables && leb m maxClauses && eqb (length positive) m) (eqb (length negative) m) (f .0) in
+      let g = and-split (leb 1 n && leb n maxVariables && leb m maxClauses && eqb (length positive) m
+      && eqb (length negative) m && allBelow n positive) (allBelow n negative) h in
+      let f = and-split (leb 1 n && leb n maxVariables && leb m maxClauses && eqb (length positive) m
+      && eqb (length negative) m) (allBelow n positive) (g .0) in
+      let e = and-split (leb 1 n && leb n maxVariables && leb m maxClauses && eqb (length positive) m)
+      (eqb (length negative) m) (f .0) in
       let d = and-split (leb 1 n && leb n maxVariables && leb m maxClauses) (eqb (length positive) m) (e .0) in
       let c = and-split (leb 1 n && leb n maxVariables) (leb m maxClauses) (d .0) in
       let b = and-split (leb 1 n) (leb n maxVariables) (c .0) in
@@ -57,13 +64,27 @@ module _ (n m : ℕ) (positive negative : List ℕ) where
   pub fits-complete : Fits n m positive negative → fits n m positive negative ≡ true
   unfolding fits
   fits-complete f =
-      rw (le-leb 1 n (f .some-variable), le-leb n maxVariables (f .few-variables), le-leb m maxClauses (f .few-clauses), eq-eqb (length positive) m (f .positive-length), eq-eqb (length negative) m (f .negative-length), allBelow-complete n positive (f .positive-below), allBelow-complete n negative (f .negative-below))
+      rw (
+        le-leb 1 n (f .some-variable),
+        le-leb n maxVariables (f .few-variables),
+        le-leb m maxClauses (f .few-clauses),
+        eq-eqb (length positive) m (f .positive-length),
+        eq-eqb (length negative) m (f .negative-length),
+        allBelow-complete n positive (f .positive-below),
+        allBelow-complete n negative (f .negative-below),
+      )
 
 -- clauses that refusal 10 lets pass list none but the variables below n
-pub fits-below : (n m : ℕ) (positive negative : List ℕ) → Fits n m positive negative → ClausesBelow n (numbered (clausesOf positive negative))
+pub fits-below : (n m : ℕ) (positive negative : List ℕ) → Fits n m positive negative
+    → ClausesBelow n (numbered (clausesOf positive negative))
 fits-below n m positive negative f c k =
-    let w = clause-sets positive negative (c .clause) (subst (λ l. c .clause ∈ l) (clausesIn-numbered 1 (clausesOf positive negative)) (map-in (λ (c : Numbered). c .clause) k)) in
-    record { positive-below = f .positive-below (c .clause .positive) (w .0); negative-below = f .negative-below (c .clause .negative) (w .1) }
+    let w = clause-sets positive negative (c .clause) (subst (λ l. c .clause ∈ l)
+    (clausesIn-numbered 1 (clausesOf positive negative)) (map-in (λ (c : Numbered). c .clause) k)) in
+    record {
+      positive-below = f .positive-below (c .clause .positive) (w .0);
+      negative-below = f .negative-below
+          (c .clause .negative) (w .1);
+    }
 
 -- ---- 11
 
@@ -71,23 +92,28 @@ pub too-many : (n : ℕ) (es : List Permutation) → maxPermutations < length es
 unfolding permutationFault
 too-many n es h = rw (lt-leb (length es) maxPermutations h)
 
-pub few-enough : (n : ℕ) (es : List Permutation) → length es ≤ maxPermutations → permutationFault n es ≡ faultAt 11 (firstFailing (isPermutation n) es)
+pub few-enough : (n : ℕ) (es : List Permutation) → length es ≤ maxPermutations
+    → permutationFault n es ≡ faultAt 11 (firstFailing (isPermutation n) es)
 unfolding permutationFault
 few-enough n es h = rw (le-leb (length es) maxPermutations h)
 
-pub permutation-passes : (n : ℕ) (es : List Permutation) → permutationFault n es ≡ no-fault → (length es ≤ maxPermutations) × ((e : Permutation) → e ∈ es → IsPermutation n e)
+pub permutation-passes : (n : ℕ) (es : List Permutation) → permutationFault n es ≡ no-fault
+    → (length es ≤ maxPermutations) × ((e : Permutation) → e ∈ es → IsPermutation n e)
 unfolding permutationFault
 permutation-passes n es h = by (leb (length es) maxPermutations) refl h
   where
-    by : (b : Bool) → leb (length es) maxPermutations ≡ b → cond b (faultAt 11 (firstFailing (isPermutation n) es)) (fault 11 17) ≡ no-fault
+    by : (b : Bool) → leb (length es) maxPermutations ≡ b
+        → cond b (faultAt 11 (firstFailing (isPermutation n) es)) (fault 11 17) ≡ no-fault
         → (length es ≤ maxPermutations) × ((e : Permutation) → e ∈ es → IsPermutation n e)
     by true few h = (
       leb-true (length es) maxPermutations few,
-      λ e m. isPermutation-sound n e (none-failing (isPermutation n) es (faultAt-sound 11 (firstFailing (isPermutation n) es) h) e m),
+      λ e m. isPermutation-sound n e (none-failing (isPermutation n) es
+          (faultAt-sound 11 (firstFailing (isPermutation n) es) h) e m),
     )
     by false many h = absurd (fault-not-sound 11 17 h)
 
-pub passes-permutation : (n : ℕ) (es : List Permutation) → length es ≤ maxPermutations → ((e : Permutation) → e ∈ es → IsPermutation n e) → permutationFault n es ≡ no-fault
+pub passes-permutation : (n : ℕ) (es : List Permutation) → length es ≤ maxPermutations
+    → ((e : Permutation) → e ∈ es → IsPermutation n e) → permutationFault n es ≡ no-fault
 unfolding permutationFault
 passes-permutation n es few each =
     rw (le-leb (length es) maxPermutations few)
@@ -95,20 +121,26 @@ passes-permutation n es few each =
 
 -- ---- 12
 
-pub symmetry-passes : (cs : List Numbered) (es : List Permutation) → symmetryFault cs es ≡ no-fault → (e : Permutation) → e ∈ es → Keeps e cs
+pub symmetry-passes : (cs : List Numbered) (es : List Permutation) → symmetryFault cs es ≡ no-fault → (e : Permutation)
+    → e ∈ es → Keeps e cs
 unfolding symmetryFault
-symmetry-passes cs es h e m = keeps-sound cs e (none-failing (keeps cs) es (faultAt-sound 12 (firstFailing (keeps cs) es) h) e m)
+symmetry-passes cs es h e m = keeps-sound cs e (none-failing (keeps cs) es
+    (faultAt-sound 12 (firstFailing (keeps cs) es) h) e m)
 
-pub passes-symmetry : (cs : List Numbered) (es : List Permutation) → ((e : Permutation) → e ∈ es → Keeps e cs) → symmetryFault cs es ≡ no-fault
+pub passes-symmetry : (cs : List Numbered) (es : List Permutation) → ((e : Permutation) → e ∈ es → Keeps e cs)
+    → symmetryFault cs es ≡ no-fault
 unfolding symmetryFault
 passes-symmetry cs es each = ap (faultAt 12) (all-passing (keeps cs) es (λ e m. keeps-complete cs e (each e m)))
 
 -- ---- what lets the loops over permutations run: after 10 and 11 the bytes hold them, few and each movable
 
-pub passes-few : (n k : ℕ) (bytes : List ℕ) → permutationFault n (permutationsIn n k bytes) ≡ no-fault → k ≤ maxPermutations
-passes-few n k bytes h = le-trans (le-of-eq (sym (length-permutations n k bytes))) (permutation-passes n (permutationsIn n k bytes) h .0)
+pub passes-few : (n k : ℕ) (bytes : List ℕ) → permutationFault n (permutationsIn n k bytes) ≡ no-fault
+    → k ≤ maxPermutations
+passes-few n k bytes h = le-trans (le-of-eq (sym (length-permutations n k bytes)))
+    (permutation-passes n (permutationsIn n k bytes) h .0)
 
-pub passes-listed : (n k : ℕ) (bytes : List ℕ) → n ≤ maxVariables → k * n ≤ length bytes → permutationFault n (permutationsIn n k bytes) ≡ no-fault → Listed n k bytes
+pub passes-listed : (n k : ℕ) (bytes : List ℕ) → n ≤ maxVariables → k * n ≤ length bytes
+    → permutationFault n (permutationsIn n k bytes) ≡ no-fault → Listed n k bytes
 passes-listed n k bytes few room h =
     let p = permutation-passes n (permutationsIn n k bytes) h in
     record { room = room; movable = λ e m. movable e (p .1 e m) }
@@ -137,32 +169,46 @@ module _ (f : Formula) (positive negative : List ℕ) where
   unfolding problemFault
   stops-10 r e h = answers-first r (formulaFault f positive negative) (eleven ∷ twelve ∷ []) e h
 
-  pub stops-11 : (r : Fault) → formulaFault f positive negative ≡ no-fault → r ≡ eleven → IsFault r → r ≡ problemFault f positive negative
+  pub stops-11 : (r : Fault) → formulaFault f positive negative ≡ no-fault → r ≡ eleven → IsFault r
+      → r ≡ problemFault f positive negative
   unfolding problemFault
-  stops-11 r ten e h = answers-rest r (formulaFault f positive negative) (eleven ∷ twelve ∷ []) ten (answers-first r eleven (twelve ∷ []) e h)
+  stops-11 r ten e h = answers-rest r (formulaFault f positive negative) (eleven ∷ twelve ∷ []) ten
+      (answers-first r eleven (twelve ∷ []) e h)
 
-  pub ends-12 : formulaFault f positive negative ≡ no-fault → eleven ≡ no-fault → twelve ≡ problemFault f positive negative
+  pub ends-12 : formulaFault f positive negative ≡ no-fault → eleven ≡ no-fault
+      → twelve ≡ problemFault f positive negative
   unfolding problemFault
   ends-12 ten el =
-      answers-rest twelve (formulaFault f positive negative) (eleven ∷ twelve ∷ []) ten (answers-rest twelve eleven (twelve ∷ []) el (sym (first-last twelve)))
+      answers-rest twelve (formulaFault f positive negative) (eleven ∷ twelve ∷ []) ten
+      (answers-rest twelve eleven (twelve ∷ []) el (sym (first-last twelve)))
 
   -- what is known once 10 has passed
-  pub formula-passes : formulaFault f positive negative ≡ no-fault → Fits (f .variables) (f .clauses) positive negative × (f .target < 2 ^ f .variables)
+  pub formula-passes : formulaFault f positive negative ≡ no-fault
+      → Fits (f .variables) (f .clauses) positive negative × (f .target < 2 ^ f .variables)
   unfolding formulaFault
-  formula-passes h = by (fits (f .variables) (f .clauses) positive negative && ltb (f .target) (2 ^ f .variables)) refl h
+  formula-passes h = by (fits (f .variables) (f .clauses) positive negative && ltb (f .target) (2 ^ f .variables)) refl
+      h
     where
-      by : (b : Bool) → fits (f .variables) (f .clauses) positive negative && ltb (f .target) (2 ^ f .variables) ≡ b → cond b no-fault (fault 10 0) ≡ no-fault
+      by : (b : Bool) → fits (f .variables) (f .clauses) positive negative && ltb (f .target) (2 ^ f .variables) ≡ b
+          → cond b no-fault (fault 10 0) ≡ no-fault
           → Fits (f .variables) (f .clauses) positive negative × (f .target < 2 ^ f .variables)
       by true e h =
-          let both = and-split (fits (f .variables) (f .clauses) positive negative) (ltb (f .target) (2 ^ f .variables)) e in
-          (fits-sound (f .variables) (f .clauses) positive negative (both .0), ltb-true (f .target) (2 ^ f .variables) (both .1))
+          let both = and-split (fits (f .variables) (f .clauses) positive negative) (ltb (f .target) (2 ^ f .variables))
+          e in (
+            fits-sound (f .variables) (f .clauses) positive negative (both .0),
+            ltb-true (f .target) (2 ^ f .variables)
+                (both .1),
+          )
       by false e h = absurd (fault-not-sound 10 0 h)
 
   -- at most 16 permutations of at most 64 variables lie in 1,024 bytes
-  pub images-room : f .variables ≤ maxVariables → length (f .images) ≡ 1024 → f .permutations ≤ maxPermutations → f .permutations * f .variables ≤ length (f .images)
+  pub images-room : f .variables ≤ maxVariables → length (f .images) ≡ 1024 → f .permutations ≤ maxPermutations
+      → f .permutations * f .variables ≤ length (f .images)
   images-room few size h = le-trans (mul-le-mul h few) (le-of-eq (sym size))
 
-  pub formula-listed : formulaFault f positive negative ≡ no-fault → eleven ≡ no-fault → length (f .images) ≡ 1024 → Listed (f .variables) (f .permutations) (f .images)
+  pub formula-listed : formulaFault f positive negative ≡ no-fault → eleven ≡ no-fault → length (f .images) ≡ 1024
+      → Listed (f .variables) (f .permutations) (f .images)
   formula-listed ten el size =
       let few = formula-passes ten .0 .few-variables in
-      passes-listed (f .variables) (f .permutations) (f .images) few (images-room few size (passes-few (f .variables) (f .permutations) (f .images) el)) el
+      passes-listed (f .variables) (f .permutations) (f .images) few
+      (images-room few size (passes-few (f .variables) (f .permutations) (f .images) el)) el

@@ -1,5 +1,5 @@
--- Laws of tests in order and of replies: a test that passes is skipped, one that does not is the answer, and where nothing was found each
--- passed. Assumes nothing.
+-- Laws of tests in order and of replies: a test that passes is skipped, one that does not is the answer, and where
+-- nothing was found each passed. Assumes nothing.
 use mathlib.Core.Bool.{Bool, true, false, cond, true≢false}
 use mathlib.Core.List.{List, [], _∷_, _++_}
 use mathlib.Core.Path.{_≡_, refl, sym, ap, ap₂, _∙_}
@@ -7,7 +7,8 @@ use Prim.Native.Nat.{ℕ, zero, suc, _<_}
 use native.Mathlib.Omega.{arith}
 use Rattle.math.specs.Lists.{_∈_, firstFailing, below}
 use Rattle.math.specs.Laws.PartLaws.{none-failing, none-failing-below, all-passing, all-passing-below}
-use Rattle.formula.specs.Reply.{Fault, no-fault, fault, faultAt, first, Reply, refused, accepted, written, opened, unless}
+use Rattle.formula.specs.Reply.{Fault, no-fault, fault, faultAt, first, Reply, refused, accepted, written, opened}
+use Rattle.formula.specs.Reply.{unless}
 
 -- whether the test found nothing
 abbrev isSound : Fault → Bool
@@ -21,7 +22,8 @@ pub first-skips : (f : Fault) (fs : List Fault) → f ≡ no-fault → first (f 
 unfolding first
 first-skips f fs e = ap (λ f. first (f ∷ fs)) e
 
-pub first-stops : (f : Fault) (fs : List Fault) (code place : ℕ) → f ≡ fault code place → first (f ∷ fs) ≡ fault code place
+pub first-stops : (f : Fault) (fs : List Fault) (code place : ℕ) → f ≡ fault code place
+    → first (f ∷ fs) ≡ fault code place
 unfolding first
 first-stops f fs code place e = ap (λ f. first (f ∷ fs)) e
 
@@ -83,7 +85,8 @@ first-after [] gs h = refl
 first-after (no-fault ∷ fs) gs h = first-after fs gs h
 first-after (fault code place ∷ fs) gs h = absurd (fault-not-sound code place h)
 
-pub first-before : (fs gs : List Fault) (code place : ℕ) → first fs ≡ fault code place → first (fs ++ gs) ≡ fault code place
+pub first-before : (fs gs : List Fault) (code place : ℕ) → first fs ≡ fault code place
+    → first (fs ++ gs) ≡ fault code place
 unfolding first
 first-before [] gs code place h = absurd (fault-not-sound code place (sym h))
 first-before (no-fault ∷ fs) gs code place h = first-before fs gs code place h
@@ -98,11 +101,13 @@ first-nested (fault code place ∷ fs) gs = refl
 
 -- ---- one test
 
-pub tested : (b : Bool) (t : Fault) (code place : ℕ) → cond b t (fault code place) ≡ no-fault → (b ≡ true) × (t ≡ no-fault)
+pub tested : (b : Bool) (t : Fault) (code place : ℕ) → cond b t (fault code place) ≡ no-fault
+    → (b ≡ true) × (t ≡ no-fault)
 tested true t code place h = (refl, h)
 tested false t code place h = absurd (fault-not-sound code place h)
 
-pub test-passed : (b : Bool) (t : Fault) (code place : ℕ) → b ≡ true → t ≡ no-fault → cond b t (fault code place) ≡ no-fault
+pub test-passed : (b : Bool) (t : Fault) (code place : ℕ) → b ≡ true → t ≡ no-fault
+    → cond b t (fault code place) ≡ no-fault
 test-passed b t code place p q = rw p q
 
 -- ---- a test of each of several things
@@ -129,7 +134,8 @@ unfolding unless
 unless-sound t e r = rw e
 
 -- no fault was found where the reply is not a refusal
-pub not-refused : (t : Fault) (r s : Reply) → unless t r ≡ s → ((code place : ℕ) → s ≡ refused code place → ⊥) → t ≡ no-fault
+pub not-refused : (t : Fault) (r s : Reply) → unless t r ≡ s → ((code place : ℕ) → s ≡ refused code place → ⊥)
+    → t ≡ no-fault
 unfolding unless
 not-refused no-fault r s h ne = refl
 not-refused (fault code place) r s h ne = absurd (ne code place (sym h))
@@ -144,7 +150,8 @@ pub opened-not-refused : (code place : ℕ) → opened ≡ refused code place �
 opened-not-refused code place e = let z : _≡_ {A = ℕ} 0 1 = cc in omega arith
 
 -- a refusal is the fault that was found
-pub refused-fault : (t : Fault) (r : Reply) → ((code place : ℕ) → r ≡ refused code place → ⊥) → (code place : ℕ) → refused code place ≡ unless t r → fault code place ≡ t
+pub refused-fault : (t : Fault) (r : Reply) → ((code place : ℕ) → r ≡ refused code place → ⊥) → (code place : ℕ)
+    → refused code place ≡ unless t r → fault code place ≡ t
 unfolding unless
 refused-fault no-fault r ne code place e = absurd (ne code place (sym e))
 refused-fault (fault c p) r ne code place e =

@@ -28,14 +28,16 @@ pub record Imaged (n permutations : ℕ) (images : List ℕ) (x : ℕ) (moved : 
   pub imaged : take permutations moved ≡ imagesOf (permutationsIn n permutations images) x
 
 -- the links are an index of the first k points, all of n digits as x is, and `moved` has the images of x
-pub record Coverable (heads n k : ℕ) (points links : List ℕ) (permutations : ℕ) (images moved : List ℕ) (x : ℕ) : Type 0 where
-  pub askable : Askable heads n (take k points) links x
-  pub permuting : Permuting n permutations images
-  pub imaged : take permutations moved ≡ imagesOf (permutationsIn n permutations images) x
+pub record Coverable (heads n k : ℕ) (points links : List ℕ) (permutations : ℕ) (images moved : List ℕ) (x : ℕ) : Type 0
+  where
+    pub askable : Askable heads n (take k points) links x
+    pub permuting : Permuting n permutations images
+    pub imaged : take permutations moved ≡ imagesOf (permutationsIn n permutations images) x
 
 -- what was the images of some point is those of the point with the variable v flipped
 abbrev pub Turns : ℕ → ℕ → List ℕ → ℕ → List ℕ → List ℕ → Type 0
-Turns n permutations images v old new = (x : ℕ) → take permutations old ≡ imagesOf (permutationsIn n permutations images) x
+Turns n permutations images v old new = (x : ℕ)
+    → take permutations old ≡ imagesOf (permutationsIn n permutations images) x
     → take permutations new ≡ imagesOf (permutationsIn n permutations images) (flip x v)
 
 -- before index i the images are flipped, whichever the point is; those from i on are as they were

@@ -40,7 +40,8 @@ module _ (n permutations : ℕ) (images : List ℕ) (x : ℕ) where
   image-at : (i : ℕ) → getD (imagesOf (permutationsIn n permutations images) x) i 0
       ≡ imageOfPoint (getD (permutationsIn n permutations images) i noPermutation) x
   unfolding imageOfPoint
-  image-at i = List·getD-map (λ (e : Permutation). imageOfPoint e x) (permutationsIn n permutations images) i noPermutation
+  image-at i = List·getD-map (λ (e : Permutation). imageOfPoint e x) (permutationsIn n permutations images) i
+      noPermutation
 
   -- after i images come i + 1
   pub images-next : (old : List ℕ) (i y : ℕ) → i < permutations → i < length old
@@ -62,13 +63,15 @@ module _ (n permutations : ℕ) (images : List ℕ) (x : ℕ) where
       ∙ over-front permutations (imagesOf (permutationsIn n permutations images) x) old length-images
 
 -- an array of zeros has the images of the empty point, which are empty
-pub imaged-none : (n permutations size : ℕ) (images : List ℕ) → permutations ≤ size → Imaged n permutations images 0 (replicate size 0)
+pub imaged-none : (n permutations size : ℕ) (images : List ℕ) → permutations ≤ size
+    → Imaged n permutations images 0 (replicate size 0)
 unfolding imageOfPoint
 imaged-none n permutations size images le =
     record {
       enough = le-trans le (le-of-eq (sym (length-replicate {A = ℕ} size 0)));
       narrow = pow-pos n;
-      imaged = take-replicate permutations size 0 le ∙ ap (λ (k : ℕ). replicate k 0) (sym (length-permutations n permutations images))
+      imaged = take-replicate permutations size 0 le
+          ∙ ap (λ (k : ℕ). replicate k 0) (sym (length-permutations n permutations images))
           ∙ sym (each (permutationsIn n permutations images));
     }
   where
@@ -109,14 +112,16 @@ module _ {n permutations : ℕ} {images : List ℕ} (g : Permuting n permutation
       }
 
   -- it is the image, flipped where v is sent
-  pub image-flipped : (moved : List ℕ) (x y : ℕ) → take permutations moved ≡ imagesOf (permutationsIn n permutations images) x
+  pub image-flipped : (moved : List ℕ) (x y : ℕ)
+      → take permutations moved ≡ imagesOf (permutationsIn n permutations images) x
       → y ≡ flip (getD moved i 0) (getD images (i * n + v) 0 - 1)
       → y ≡ imageOfPoint own (flip x v)
   image-flipped moved x y imaged is = is ∙ ap₂ (λ (z u : ℕ). flip z (u - 1)) at byte
       ∙ sym (image-flip n own own-proper x v inside)
     where
       at : getD moved i 0 ≡ imageOfPoint own x
-      at = sym (getD-take permutations moved i 0 lt) ∙ ap (λ (l : List ℕ). getD l i 0) imaged ∙ image-at n permutations images x i
+      at = sym (getD-take permutations moved i 0 lt) ∙ ap (λ (l : List ℕ). getD l i 0) imaged
+          ∙ image-at n permutations images x i
 
 -- ---- all images flipped, one by one
 

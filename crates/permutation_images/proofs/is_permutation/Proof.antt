@@ -1,11 +1,13 @@
--- `permutation_images::is_permutation` meets its contract: the test over the whole is, at index i, that over the numbers from i on with what was seen before. Assumes nothing.
+-- `permutation_images::is_permutation` meets its contract: the test over the whole is, at index i, that over the
+-- numbers from i on with what was seen before. Assumes nothing.
 use mathlib.Core.Path.{_≡_, refl, sym, ap, _∙_}
 use Prim.Native.Nat.{_-_, _+_, _≤_, zero-le}
 use native.Mathlib.Omega.{arith}
 use lib.ListN.{length, getD, drop, drop-of-length-le}
 use borrow.Author.Needs.{needs}
 use borrow.Author.Tests.{ne-eqb, not-true, not-false}
-use Rattle.permutation_images.specs.Laws.LoopLaws.{arranged, arranged-test, arranged-stops, arranged-goes-on, fresh-says}
+use Rattle.permutation_images.specs.Laws.LoopLaws.{arranged, arranged-test, arranged-stops, arranged-goes-on}
+use Rattle.permutation_images.specs.Laws.LoopLaws.{fresh-says}
 use Rattle.permutation_theory.specs.Permutations.{isPermutation}
 use Rattle.permutation_images.proofs.is_permutation.Statement.{statement}
 use Rattle.permutation_images.proofs.is_permutation.Tie as tie

@@ -1,10 +1,11 @@
--- Laws of the loops over a permutation and over several: the permutation test with a set of what was seen, the image from the last
--- variable down, where the i-th permutation lies, and a test of each in order. Assumes nothing.
+-- Laws of the loops over a permutation and over several: the permutation test with a set of what was seen, the image
+-- from the last variable down, where the i-th permutation lies, and a test of each in order. Assumes nothing.
 use mathlib.Core.Bool.{Bool, true, false, not, _&&_, xor, true≢false}
 use mathlib.Core.List.{List, [], _∷_, List·Memᴰ·head, List·Memᴰ·tail, List·Memᴰ·not-nil}
 use mathlib.Core.Path.{_≡_, refl, sym, ap, ap₂, _∙_, subst}
 use Prim.Native.Nat.{ℕ, zero, suc, _+_, _-_, _*_, _/_, _%_, _^_, _≤_, _<_}
-use native.Mathlib.Nat.{div-div-eq-div-mul, pow-suc, zero-mul, suc-mul, add-comm, mul-le-mul-right, le-trans, le-of-eq, lt-of-lt-of-le, le-of-suc-le-suc, not-suc-le-zero}
+use native.Mathlib.Nat.{div-div-eq-div-mul, pow-suc, zero-mul, suc-mul, add-comm, mul-le-mul-right, le-trans, le-of-eq}
+use native.Mathlib.Nat.{lt-of-lt-of-le, le-of-suc-le-suc, not-suc-le-zero}
 use native.Mathlib.Numerals.{add-one}
 use native.Mathlib.Omega.{arith}
 use lib.Bits.{bitOr}
@@ -20,8 +21,10 @@ use Rattle.math.specs.Laws.ScanLaws.{onFrom, failing-begins, failing-ends, fail
 use Rattle.math.specs.Laws.SetLaws.{bit-other}
 use Rattle.points.specs.Points.{Clause, numberedFrom, numbered}
 use Rattle.permutation_images.specs.Laws.Contracts.{fresh, Movable, Listed}
-use Rattle.permutation_theory.specs.Laws.PermutationLaws.{isPermutation-sound, isPermutation-complete, permutation-within, permutation-distinct, permutation-of}
-use Rattle.permutation_theory.specs.Permutations.{Permutation, isPermutation, moved, clausesIn, imageAmong, keeps, permutationsIn}
+use Rattle.permutation_theory.specs.Laws.PermutationLaws.{isPermutation-sound, isPermutation-complete}
+use Rattle.permutation_theory.specs.Laws.PermutationLaws.{permutation-within, permutation-distinct, permutation-of}
+use Rattle.permutation_theory.specs.Permutations.{Permutation, isPermutation, moved, clausesIn, imageAmong, keeps}
+use Rattle.permutation_theory.specs.Permutations.{permutationsIn}
 
 -- ---- the permutation test
 
@@ -46,7 +49,8 @@ fresh-says n seen v h =
 fresh-of : (n seen v : ℕ) → 1 ≤ v → v ≤ n → bit seen (v - 1) ≡ false → fresh n seen v ≡ true
 unfolding fresh
 fresh-of n seen v lo hi new =
-    and-join (leb 1 v && leb v n) (not (bit seen (v - 1))) (and-join (leb 1 v) (leb v n) (le-leb 1 v lo) (le-leb v n hi)) (ap not new)
+    and-join (leb 1 v && leb v n) (not (bit seen (v - 1)))
+    (and-join (leb 1 v) (leb v n) (le-leb 1 v lo) (le-leb v n hi)) (ap not new)
 
 -- a digit that was 0 is 1 after the flip
 now-seen : (seen u : ℕ) → bit seen u ≡ false → bit (flip seen u) u ≡ true
@@ -58,7 +62,12 @@ apart u v hu hv ne e = ne (let p : u ≡ v = omega arith in p)
 
 arranged-sound : (n : ℕ) (vs : List ℕ) (seen : ℕ) → arranged n seen vs ≡ true → Arranged n seen vs
 unfolding arranged
-arranged-sound n [] seen h = record { within = λ v m. absurd (List·Memᴰ·not-nil m); distinct = distinct-nil; new = λ v m. absurd (List·Memᴰ·not-nil m) }
+arranged-sound n [] seen h = record {
+  within = λ v m. absurd (List·Memᴰ·not-nil m);
+  distinct = distinct-nil;
+  new =
+      λ v m. absurd (List·Memᴰ·not-nil m);
+}
 arranged-sound n (v ∷ vs) seen h =
     let both = and-split (fresh n seen v) (arranged n (flip seen (v - 1)) vs) h in
     join (fresh-says n seen v (both .0)) (arranged-sound n vs (flip seen (v - 1)) (both .1))
@@ -72,7 +81,8 @@ arranged-sound n (v ∷ vs) seen h =
         }
       where
         other : (u : ℕ) → u ∈ vs → u ≡ v → ⊥
-        other u m e = true≢false (sym (now-seen seen (v - 1) (f .2)) ∙ ap (λ w. bit (flip seen (v - 1)) (w - 1)) (sym e) ∙ a .new u m)
+        other u m e = true≢false (sym (now-seen seen (v - 1) (f .2)) ∙ ap (λ w. bit (flip seen (v - 1)) (w - 1)) (sym e)
+            ∙ a .new u m)
 
         within : (u : ℕ) → u ∈ (v ∷ vs) → (1 ≤ u) × (u ≤ n)
         within u (List·Memᴰ·head e) = subst (λ w. (1 ≤ w) × (w ≤ n)) (sym e) (f .0, f .1)
@@ -80,7 +90,8 @@ arranged-sound n (v ∷ vs) seen h =
 
         new : (u : ℕ) → u ∈ (v ∷ vs) → bit seen (u - 1) ≡ false
         new u (List·Memᴰ·head e) = ap (λ w. bit seen (w - 1)) e ∙ f .2
-        new u (List·Memᴰ·tail m) = sym (bit-other seen (v - 1) (u - 1) (apart u v (a .within u m .0) (f .0) (other u m))) ∙ a .new u m
+        new u (List·Memᴰ·tail m) = sym (bit-other seen (v - 1) (u - 1)
+            (apart u v (a .within u m .0) (f .0) (other u m))) ∙ a .new u m
 
 arranged-complete : (n : ℕ) (vs : List ℕ) (seen : ℕ) → Arranged n seen vs → arranged n seen vs ≡ true
 unfolding arranged
@@ -96,16 +107,23 @@ arranged-complete n (v ∷ vs) seen a =
           within = λ u m. a .within u (List·Memᴰ·tail m);
           distinct = d;
           new = λ u m.
-              bit-other seen (v - 1) (u - 1) (apart u v (a .within u (List·Memᴰ·tail m) .0) (a .within v (here v vs) .0) (λ e. out (subst (λ w. w ∈ vs) e m)))
+              bit-other seen (v - 1) (u - 1) (apart u v (a .within u (List·Memᴰ·tail m) .0) (a .within v (here v vs) .0)
+              (λ e. out (subst (λ w. w ∈ vs) e m)))
               ∙ a .new u (List·Memᴰ·tail m);
         }
 
 pub arranged-test : (n : ℕ) (e : Permutation) → length (e .images) ≡ n → arranged n 0 (e .images) ≡ isPermutation n e
 arranged-test n e size =
     same-tests (arranged n 0 (e .images)) (isPermutation n e)
-    (λ h. let a = arranged-sound n (e .images) 0 h in isPermutation-complete n e (permutation-of n e size (a .within) (a .distinct)))
+    (λ h. let a = arranged-sound n (e .images) 0 h in isPermutation-complete n e
+    (permutation-of n e size (a .within) (a .distinct)))
     (λ h. let p = isPermutation-sound n e h in
-    arranged-complete n (e .images) 0 (record { within = permutation-within n e p; distinct = permutation-distinct n e p; new = λ v m. bit-of-zero (v - 1) }))
+    arranged-complete n (e .images) 0 (record {
+      within = permutation-within n e p;
+      distinct = permutation-distinct n e
+          p;
+      new = λ v m. bit-of-zero (v - 1);
+    }))
 
 module _ (n : ℕ) (es : List ℕ) (seen i : ℕ) (h : i < length es) where
   next : drop i es ≡ getD es i 0 ∷ drop (i + 1) es
@@ -113,14 +131,18 @@ module _ (n : ℕ) (es : List ℕ) (seen i : ℕ) (h : i < length es) where
 
   pub arranged-stops : fresh n seen (getD es i 0) ≡ false → arranged n seen (drop i es) ≡ false
   unfolding arranged
-  arranged-stops e = ap (arranged n seen) next ∙ ap (λ b. b && arranged n (flip seen (getD es i 0 - 1)) (drop (i + 1) es)) e
+  arranged-stops e = ap (arranged n seen) next ∙ ap (λ b. b
+      && arranged n (flip seen (getD es i 0 - 1)) (drop (i + 1) es)) e
 
-  pub arranged-goes-on : fresh n seen (getD es i 0) ≡ true → arranged n seen (drop i es) ≡ arranged n (flip seen (getD es i 0 - 1)) (drop (i + 1) es)
+  pub arranged-goes-on : fresh n seen (getD es i 0) ≡ true
+      → arranged n seen (drop i es) ≡ arranged n (flip seen (getD es i 0 - 1)) (drop (i + 1) es)
   unfolding arranged
-  arranged-goes-on e = ap (arranged n seen) next ∙ ap (λ b. b && arranged n (flip seen (getD es i 0 - 1)) (drop (i + 1) es)) e
+  arranged-goes-on e = ap (arranged n seen) next ∙ ap (λ b. b
+      && arranged n (flip seen (getD es i 0 - 1)) (drop (i + 1) es)) e
 
   -- ---- the image, from the last variable down
-  pub moved-step : (s : ℕ) → moved (drop i es) (s / 2 ^ i) ≡ bitOr (s / 2 ^ i % 2 * 2 ^ (getD es i 0 - 1)) (moved (drop (i + 1) es) (s / 2 ^ (i + 1)))
+  pub moved-step : (s : ℕ) → moved (drop i es) (s / 2 ^ i)
+      ≡ bitOr (s / 2 ^ i % 2 * 2 ^ (getD es i 0 - 1)) (moved (drop (i + 1) es) (s / 2 ^ (i + 1)))
   unfolding moved
   moved-step s =
       ap (λ l. moved l (s / 2 ^ i)) next

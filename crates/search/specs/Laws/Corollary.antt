@@ -52,7 +52,8 @@ pub record Left (part : Slot → ℕ) (l : List Slot) (filled : ℕ) (old new : 
   pub front : take filled new ≡ map part l
   pub behind : drop filled new ≡ drop filled old
 
-left-of : (part : Slot → ℕ) (l : List Slot) (filled : ℕ) (old new : List ℕ) → filled ≡ length l → new ≡ over (map part l) old
+left-of : (part : Slot → ℕ) (l : List Slot) (filled : ℕ) (old new : List ℕ) → filled ≡ length l
+    → new ≡ over (map part l) old
     → Left part l filled old new
 left-of part l filled old new e h =
     let n : length (map part l) ≡ filled = length-map l part ∙ sym e in
@@ -125,8 +126,11 @@ module _ (f : Formula) (positive negative points₀ falsified₀ depths₀ : Lis
         × (NoneSatisfies (problemOf f positive negative) → r ≡ Unsatisfiable (length slotsOf))
     outcome-exactly known =
         let w = search-exactly f positive negative lent (replyOfOutcome r) (sym (call .reply)) not-refusal
-        (λ b filled e. known b filled (same-outcome r (Unknown b filled) e)) in
-        (λ filled e. w .0 filled (ap replyOfOutcome e), λ none. same-outcome r (Unsatisfiable (length slotsOf)) (w .1 none))
+        (λ b filled e. known b filled (same-outcome r (Unknown b filled) e)) in (
+          λ filled e. w .0 filled (ap replyOfOutcome e),
+          λ none. same-outcome r (Unsatisfiable (length slotsOf))
+              (w .1 none),
+        )
 
   -- D3.1: "A choice handed back meets the rules, and every other choice that meets them differs from the client's wish
   -- in at least as many names." D3.2: "The reported changes are the number of names in which the one handed back

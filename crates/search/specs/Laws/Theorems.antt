@@ -105,12 +105,14 @@ module _ (f : Formula) (positive negative : List ℕ) (lent : ℕ) where
   -- D3.2: "The reported changes are the number of names in which the one handed back differs."
   pub search-nearest : (x d filled : ℕ) → searchReply f positive negative lent ≡ satisfiable x d filled
       → Nearest (problemOf f positive negative) x d
-  search-nearest x d filled e = let a = satisfiable-answered x d filled e in found-nearest pb lent (a .ready) (a .room) (a .walks)
+  search-nearest x d filled e = let a = satisfiable-answered x d filled e in found-nearest pb lent (a .ready) (a .room)
+      (a .walks)
 
   -- the depth of its slot equals its distance
   pub search-slot : (x d filled : ℕ) → searchReply f positive negative lent ≡ satisfiable x d filled
       → HandedBack (searchSlots f positive negative lent) x d
-  search-slot x d filled e = let a = satisfiable-answered x d filled e in found-slot pb lent (a .ready) (a .room) (a .walks)
+  search-slot x d filled e = let a = satisfiable-answered x d filled e in found-slot pb lent (a .ready) (a .room)
+      (a .walks)
 
   -- D3.3: "Unless 'no room' is said, 'cannot be met' is said exactly when none of the 2^n choices meets the rules."
   pub search-exactly : (r : Reply) → searchReply f positive negative lent ≡ r

@@ -1,4 +1,5 @@
--- `slot_columns::copy_back` meets its contract: a walk of its MIR, by hand. The four slices are opened once, before the loop, and closed once, after it; between the two each turn reads three parts and stores the slot that they make.
+-- `slot_columns::copy_back` meets its contract: a walk of its MIR, by hand. The four slices are opened once, before the
+-- loop, and closed once, after it; between the two each turn reads three parts and stores the slot that they make.
 -- Assumes nothing.
 use mathlib.Core.Path.{_≡_, refl, sym}
 use mathlib.Core.Bool.{Bool}
@@ -19,8 +20,11 @@ use prog.Wp.{Heap, Out, Env, afterSeq, afterBlock, afterTurn, Wp, atReturn, WpFn
 use ghost.Atoms.{Atoms}
 use contract.Monad.{Fun}
 use contract.Running.{givenOf, tables, tablesOf}
-use types.Kit.{Given, Item, ‵, _⊛_, ⋆, anyQ, atRet, _$_, _∵_, !, qed, by, move, keep, drop, split, join, rewrite, fsplit, fjoin, feqI, suffices, frame, done}
-use types.Run.{look, store, store-raw, init, forget, stop, hop, fld, from, load, lit, unit-lit, of-opd, and-then, no-more, bin, assigns, assigns-last, stays, leaves-loop, returns, enter, alloc1, alloc0, params1, pass1, pass0, free1, free0, exec}
+use types.Kit.{Given, Item, ‵, _⊛_, ⋆, anyQ, atRet, _$_, _∵_, !, qed, by, move, keep, drop, split, join, rewrite}
+use types.Kit.{fsplit, fjoin, feqI, suffices, frame, done}
+use types.Run.{look, store, store-raw, init, forget, stop, hop, fld, from, load, lit, unit-lit, of-opd, and-then}
+use types.Run.{no-more, bin, assigns, assigns-last, stays, leaves-loop, returns, enter, alloc1, alloc0, params1, pass1}
+use types.Run.{pass0, free1, free0, exec}
 use types.Part.{agg, whole, sub, look-in}
 use sound.WpLaws.{WpFn-mono}
 use denote.RattleType.{owns}
@@ -35,15 +39,19 @@ use denote.Steps.{owned, nothing}
 use denote.Triple.Entry.{onEntry}
 use denote.Triple.Spec.{Meets, tripleOf}
 use denote.Triple.Table.{entered}
-use denote.Triple.Walked.{says, needs, Stays, stay-slice, stay-none, stay-none-slice, walkOf, goes-slice, goes-none, goes-none-slice, Walks, ends-at, walked, walk-meets}
+use denote.Triple.Walked.{says, needs, Stays, stay-slice, stay-none, stay-none-slice, walkOf, goes-slice, goes-none}
+use denote.Triple.Walked.{goes-none-slice, Walks, ends-at, walked, walk-meets}
 use denote.Exit.{yes}
 use Rattle.slot_columns.specs.declared.Slot.{Slot}
 use Rattle.slot_columns.specs.Slots.{blank, slotOf, joined, front, Within}
-use Rattle.slot_columns.specs.Laws.SlotLaws.{front-none, front-length, front-inside, front-next, joined-at, joined-long}
+use Rattle.slot_columns.specs.Laws.SlotLaws.{front-none, front-length, front-inside, front-next, joined-at}
+use Rattle.slot_columns.specs.Laws.SlotLaws.{joined-long}
 use Rattle.slot_columns.proofs.Slot.Laws as S′
 use Rattle.slot_columns.proofs.Counted.{counted, holds, fails}
-use Rattle.slot_columns.proofs.Columns.{Args, args, spelled, word, half, lent, parts, rooms, dies, inside, next-fits}
-use Rattle.slot_columns.proofs.Row.{R, vals, spells, owes, typed, fitting, scaled, element-place, mut-again, shr-again}
+use Rattle.slot_columns.proofs.Columns.{Args, args, spelled, word, half, lent, parts, rooms, dies, inside}
+use Rattle.slot_columns.proofs.Columns.{next-fits}
+use Rattle.slot_columns.proofs.Row.{R, vals, spells, owes, typed, fitting, scaled, element-place, mut-again}
+use Rattle.slot_columns.proofs.Row.{shr-again}
 use Rattle.slot_columns.proofs.copy_back.Key.{name as #slot-columns·copy-back}
 use Rattle.slot_columns.proofs.copy_back as this
 use Rattle.slot_columns.proofs.copy_back.Statement as stated
@@ -178,7 +186,8 @@ module _ {M : Type 1} (𝓤 : URA M) (H : Heap 𝓤) (A : Atoms 𝓤) (W : Given
           assigns ! (of-opd ! (unit-lit !)) (from ! (stop !)) (init ! 22 refl (tt, tt)) $
           move ! (0 ∷ 23 ∷ 24 ∷ 25 ∷ []) $ closes-slice ! tt R ys (Z k) long b₀ o₀ $
           move ! (3 ∷ 25 ∷ []) $ shuts-slice ! tt u64 p₁ ps b₁ o₁ $ move ! (4 ∷ 27 ∷ []) $ shuts-slice ! tt u32 p₂ fs b₂ o₂ $ move ! (5 ∷ 29 ∷ []) $ shuts-slice ! tt u32 p₃ ds b₃ o₃ $
-          -- [the tokens of depths, falsified, points; slots' obs, borrow and token; _6 to _18; _1 to _5; _0; points' fractured borrow and res; falsified's; depths'; that each local dies]
+          -- [the tokens of depths, falsified, points; slots' obs, borrow and token; _6 to _18; _1 to _5; _0; points'
+          -- fractured borrow and res; falsified's; depths'; that each local dies]
           returns ! (look ! 24 refl) $ forget ! 6 refl $ forget ! 8 refl $ forget ! 19 refl $ forget ! 20 refl $ forget ! 21 refl $ forget ! 22 refl $ forget ! 23 refl $ forget ! 24 refl $
           move ! (24 ∷ 31 ∷ []) $ free1 ! $ move ! (19 ∷ 30 ∷ []) $ free1 ! $ move ! (19 ∷ 29 ∷ []) $ free1 ! $ move ! (19 ∷ 28 ∷ []) $ free1 ! $ move ! (19 ∷ 27 ∷ []) $ free1 ! $ move ! (19 ∷ 26 ∷ []) $ free1 ! $
           move ! (6 ∷ 25 ∷ []) $ free1 ! $ move ! (6 ∷ 24 ∷ []) $ free1 ! $ move ! (6 ∷ 23 ∷ []) $ free1 ! $ move ! (6 ∷ 22 ∷ []) $ free1 ! $ move ! (6 ∷ 21 ∷ []) $ free1 ! $ move ! (6 ∷ 20 ∷ []) $ free1 ! $ move ! (6 ∷ 19 ∷ []) $ free1 ! $
@@ -199,7 +208,8 @@ module _ {M : Type 1} (𝓤 : URA M) (H : Heap 𝓤) (A : Atoms 𝓤) (W : Given
         pass1 ! (init ! 34 refl (tt, (tt, (record { fits = room₀ .0 }, tt)))) $ pass1 ! (init ! 32 refl (tt, record { fits = gk })) $ pass1 ! (init ! 30 refl (tt, (tt, (record { fits = room₁ .0 }, tt)))) $
         pass1 ! (init ! 28 refl (tt, (tt, (record { fits = room₂ .0 }, tt)))) $ pass1 ! (init ! 26 refl (tt, (tt, (record { fits = room₃ .0 }, tt)))) $ pass0 ! $
         assigns ! (of-opd ! (lit ! tt)) (from ! (stop !)) (init ! 24 refl (tt, record { fits = lit< tt })) $
-        -- what the parameters own, taken apart: [depths' res and fractured borrow; true; falsified's; points'; slots' obs and borrow; the tokens; _18; …]
+        -- what the parameters own, taken apart: [depths' res and fractured borrow; true; falsified's; points'; slots'
+        -- obs and borrow; the tokens; _18; …]
         move ! (39 ∷ 38 ∷ []) $ fsplit ! $ fsplit ! $ drop ! $ fsplit ! $ move ! (2 ∷ []) $ fsplit ! $ drop ! $
         fsplit ! $ fsplit ! $ drop ! $ fsplit ! $ move ! (2 ∷ []) $ fsplit ! $ fsplit ! $ drop ! $ fsplit ! $ move ! (2 ∷ []) $ fsplit ! $ fsplit ! $ drop ! $ fsplit ! $
         move ! (9 ∷ []) $ split ! $ move ! (1 ∷ []) $ split ! $ move ! (1 ∷ []) $ split ! $ move ! (1 ∷ []) $ split ! $

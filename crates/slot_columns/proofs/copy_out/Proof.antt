@@ -1,5 +1,6 @@
--- `slot_columns::copy_out` meets its contract: a walk of its MIR, by hand. The four slices are opened once, before the loop, and closed once, after it; between the two each turn reads one slot and stores its three parts.
--- Assumes nothing.
+-- `slot_columns::copy_out` meets its contract: a walk of its MIR, by hand. The four slices are opened once, before the
+-- loop, and closed once, after it; between the two each turn reads one slot and stores its three parts. Assumes
+-- nothing.
 use mathlib.Core.Path.{_≡_, refl, sym}
 use mathlib.Core.Bool.{Bool}
 use Prim.Native.Nat.{ℕ, _<_, _^_, _+_}
@@ -19,8 +20,11 @@ use prog.Wp.{Heap, Out, Env, afterSeq, afterBlock, afterTurn, Wp, atReturn, WpFn
 use ghost.Atoms.{Atoms}
 use contract.Monad.{Fun}
 use contract.Running.{givenOf, tables, tablesOf}
-use types.Kit.{Given, Item, ‵, _⊛_, ⋆, anyQ, atRet, _$_, _∵_, !, qed, by, move, keep, drop, split, join, rewrite, fsplit, fjoin, feqI, suffices, frame, done}
-use types.Run.{look, look-raw, store, init, forget, stop, hop, fld, from, load, lit, unit-lit, of-opd, bin, assigns, assigns-last, stays, leaves-loop, returns, enter, alloc1, alloc0, params1, pass1, pass0, free1, free0, exec}
+use types.Kit.{Given, Item, ‵, _⊛_, ⋆, anyQ, atRet, _$_, _∵_, !, qed, by, move, keep, drop, split, join, rewrite}
+use types.Kit.{fsplit, fjoin, feqI, suffices, frame, done}
+use types.Run.{look, look-raw, store, init, forget, stop, hop, fld, from, load, lit, unit-lit, of-opd, bin, assigns}
+use types.Run.{assigns-last, stays, leaves-loop, returns, enter, alloc1, alloc0, params1, pass1, pass0, free1, free0}
+use types.Run.{exec}
 use types.Part.{whole, sub, look-in}
 use sound.WpLaws.{WpFn-mono}
 use denote.RattleType.{owns}
@@ -35,7 +39,8 @@ use denote.Steps.{owned, nothing}
 use denote.Triple.Entry.{onEntry}
 use denote.Triple.Spec.{Meets, tripleOf}
 use denote.Triple.Table.{entered}
-use denote.Triple.Walked.{says, needs, Stays, stay-slice, stay-none, stay-none-slice, walkOf, goes-slice, goes-none, goes-none-slice, Walks, ends-at, walked, walk-meets}
+use denote.Triple.Walked.{says, needs, Stays, stay-slice, stay-none, stay-none-slice, walkOf, goes-slice, goes-none}
+use denote.Triple.Walked.{goes-none-slice, Walks, ends-at, walked, walk-meets}
 use denote.Exit.{yes}
 use Rattle.slot_columns.specs.declared.Slot.{Slot}
 use Rattle.slot_columns.specs.Slots.{blank, slotOr, pointsIn, falsifiedIn, depthsIn, front, Within}
@@ -201,7 +206,8 @@ module _ {M : Type 1} (𝓤 : URA M) (H : Heap 𝓤) (A : Atoms 𝓤) (W : Given
           move ! (1 ∷ 21 ∷ 22 ∷ 23 ∷ []) $ closes-slice ! tt u64 ps (P k) long₁ b₁ o₁ $
           move ! (4 ∷ 23 ∷ 24 ∷ 25 ∷ []) $ closes-slice ! tt u32 fs (F k) long₂ b₂ o₂ $
           move ! (7 ∷ 25 ∷ 26 ∷ 27 ∷ []) $ closes-slice ! tt u32 ds (D k) long₃ b₃ o₃ $
-          -- [depths' obs, borrow and token; falsified's; points'; slots' token; _6 to _14; _1 to _5; _0; the fractured borrow; res; that each local dies]
+          -- [depths' obs, borrow and token; falsified's; points'; slots' token; _6 to _14; _1 to _5; _0; the fractured
+          -- borrow; res; that each local dies]
           returns ! (look ! 24 refl) $ forget ! 10 refl $ forget ! 12 refl $ forget ! 19 refl $ forget ! 20 refl $ forget ! 21 refl $ forget ! 22 refl $ forget ! 23 refl $ forget ! 24 refl $
           move ! (24 ∷ 27 ∷ []) $ free1 ! $ move ! (19 ∷ 26 ∷ []) $ free1 ! $ move ! (19 ∷ 25 ∷ []) $ free1 ! $ move ! (19 ∷ 24 ∷ []) $ free1 ! $ move ! (19 ∷ 23 ∷ []) $ free1 ! $ move ! (19 ∷ 22 ∷ []) $ free1 ! $
           move ! (10 ∷ 21 ∷ []) $ free1 ! $ move ! (10 ∷ 20 ∷ []) $ free1 ! $ move ! (10 ∷ 19 ∷ []) $ free1 ! $ move ! (10 ∷ 18 ∷ []) $ free1 ! $ move ! (10 ∷ 17 ∷ []) $ free1 ! $
@@ -221,7 +227,8 @@ module _ {M : Type 1} (𝓤 : URA M) (H : Heap 𝓤) (A : Atoms 𝓤) (W : Given
         pass1 ! (init ! 26 refl (tt, (tt, (record { fits = room₀ .0 }, tt)))) $ pass1 ! (init ! 24 refl (tt, record { fits = gk })) $ pass1 ! (init ! 22 refl (tt, (tt, (record { fits = room₁ .0 }, tt)))) $
         pass1 ! (init ! 20 refl (tt, (tt, (record { fits = room₂ .0 }, tt)))) $ pass1 ! (init ! 18 refl (tt, (tt, (record { fits = room₃ .0 }, tt)))) $ pass0 ! $
         assigns ! (of-opd ! (lit ! tt)) (from ! (stop !)) (init ! 16 refl (tt, record { fits = lit< tt })) $
-        -- what the parameters own, taken apart: [depths' obs and borrow; true; falsified's; points'; slots' res and fractured borrow; the tokens; _14; …]
+        -- what the parameters own, taken apart: [depths' obs and borrow; true; falsified's; points'; slots' res and
+        -- fractured borrow; the tokens; _14; …]
         move ! (31 ∷ 30 ∷ []) $ fsplit ! $ fsplit ! $ drop ! $ fsplit ! $ move ! (2 ∷ []) $ fsplit ! $ drop ! $
         fsplit ! $ fsplit ! $ drop ! $ fsplit ! $ move ! (2 ∷ []) $ fsplit ! $ fsplit ! $ drop ! $ fsplit ! $ move ! (2 ∷ []) $ fsplit ! $ fsplit ! $ drop ! $ fsplit ! $
         move ! (9 ∷ []) $ split ! $ move ! (1 ∷ []) $ split ! $ move ! (1 ∷ []) $ split ! $ move ! (1 ∷ []) $ split ! $

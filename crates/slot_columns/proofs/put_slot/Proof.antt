@@ -1,5 +1,5 @@
--- `slot_columns::put_slot` meets its contract: a walk of its MIR, by hand. The borrow is opened, the element is taken out of the row and stored to whole, and the borrow is closed at the new list.
--- Assumes nothing.
+-- `slot_columns::put_slot` meets its contract: a walk of its MIR, by hand. The borrow is opened, the element is taken
+-- out of the row and stored to whole, and the borrow is closed at the new list. Assumes nothing.
 use mathlib.Core.Path.{refl, sym, ap, subst}
 use Prim.Native.Nat.{ℕ, _<_, _^_}
 use mathlib.Core.List.{[], _∷_, List}
@@ -16,8 +16,10 @@ use prog.Wp.{Heap, Calls, Loops, WpFn, Tables}
 use ghost.Atoms.{Atoms}
 use contract.Monad.{Fun}
 use contract.Running.{givenOf, tables, tablesOf}
-use types.Kit.{Given, ‵, _⊛_, ⋆, _$_, _∵_, !, qed, by, move, keep, drop, split, join, rewrite, fsplit, fjoin, feqI, suffices, frame, done}
-use types.Run.{look, store-raw, init, forget, stop, hop, fld, from, load, lit, unit-lit, of-opd, bin, assigns, returns, enter, alloc1, alloc0, params1, pass1, pass0, free1, free0}
+use types.Kit.{Given, ‵, _⊛_, ⋆, _$_, _∵_, !, qed, by, move, keep, drop, split, join, rewrite, fsplit, fjoin, feqI}
+use types.Kit.{suffices, frame, done}
+use types.Run.{look, store-raw, init, forget, stop, hop, fld, from, load, lit, unit-lit, of-opd, bin, assigns, returns}
+use types.Run.{enter, alloc1, alloc0, params1, pass1, pass0, free1, free0}
 use types.Part.{whole, sub, look-in}
 use sound.WpLaws.{WpFn-mono}
 use denote.RattleType.{owns}
@@ -34,7 +36,8 @@ use denote.Steps.{owned, nothing}
 use denote.Triple.Entry.{onEntry}
 use denote.Triple.Spec.{Meets, tripleOf}
 use denote.Triple.Table.{entered}
-use denote.Triple.Walked.{says, needs, Stays, stay-slice, stay-none, walkOf, goes-slice, goes-none, Walks, ends-at, walked, walk-meets}
+use denote.Triple.Walked.{says, needs, Stays, stay-slice, stay-none, walkOf, goes-slice, goes-none, Walks, ends-at}
+use denote.Triple.Walked.{walked, walk-meets}
 use denote.Exit.{yes}
 use Rattle.slot_columns.specs.declared.Slot.{Slot}
 use Rattle.slot_columns.specs.Slots.{blank}
@@ -85,7 +88,8 @@ module _ {M : Type 1} (𝓤 : URA M) (H : Heap 𝓤) (A : Atoms 𝓤) (W : Given
         rewrite ! 0 (λ (p : ℕ). ‵ (fat fullShare tyPtr l₅ 0 (vptr b p))) (element-place o i) refl $
         move ! (13 ∷ []) $ fsplit ! $ fsplit ! $ move ! (1 ∷ []) $ fsplit ! $ move ! (16 ∷ []) $ split ! $ move ! (2 ∷ 3 ∷ 0 ∷ []) $
         opens-slice ! tt R ys b o $ elem-out ! R (Is R) (shows 𝓤 H A R) vals spells fullShare ys i blank b o l (λ _.
-        -- [slots[i]; what it owns; the others; the open borrow; obs; auth; true; slots' fact; i's and s's; _5; …; _4; …; _3; …; _2; …; _1; …; _0; …]
+        -- [slots[i]; what it owns; the others; the open borrow; obs; auth; true; slots' fact; i's and s's; _5; …; _4;
+        -- …; _3; …; _2; …; _1; …; _0; …]
         assigns ! (of-opd ! (load ! (from ! (stop !)) (look ! 13 refl))) (from ! (hop ! (look ! 9 refl) (stop !))) (store-raw ! 0 refl (typed 𝓤 H A W s gs)) $
         move ! (1 ∷ []) $ drop ! $ owned ! R (Is R) (owes 𝓤 H A W) s _ gs $ move ! (1 ∷ 0 ∷ []) $ elem-put ! R fullShare ys i s (vals s) b o l $
         closes-slice ! tt R ys zs (length-set ys i s) b o $

@@ -105,7 +105,8 @@ module _ (s : Sheet) (l : Slots) (filled : ℕ) (a : SearchAnswers s l (unsatisf
     where
       by : (b : Bool) → leb needed (length out) ≡ b
           → (size ≤ length out) × (checkReply (formulaIn s) (positiveIn s) (negativeIn s)
-          (take size (writerOutput s l filled out)) ≡ accepted) × (drop size (writerOutput s l filled out) ≡ drop size out)
+          (take size (writerOutput s l filled out)) ≡ accepted)
+          × (drop size (writerOutput s l filled out) ≡ drop size out)
       by false q = absurd (written-not-refused size 19 needed
           (sym e ∙ certified .too-short (leb-false needed (length out) q) .0))
       by true q =
@@ -142,7 +143,8 @@ module _ (s : Sheet) (l : Slots) (t : SolverReply) (out₀ out₁ : List ℕ) (r
 
   -- where there is a reply on the certificate, the sheet cannot be met, and the output is the writer's
   told : (c : Reply) → t .certificate ≡ some c
-      → (filled : ℕ) × SearchAnswers s l (unsatisfiable filled) × (writerReply s l filled out₀ ≡ c) × (out₁ ≡ writerOutput s l filled out₀)
+      → (filled : ℕ) × SearchAnswers s l (unsatisfiable filled) × (writerReply s l filled out₀ ≡ c)
+      × (out₁ ≡ writerOutput s l filled out₀)
   unfolding certificateReply certificateOutput
   told c e =
       let w = refuted-of (sheetReply s (lent l)) (λ filled. writerReply s l filled out₀) c (sym certificate ∙ e) in (
@@ -172,7 +174,8 @@ module _ (s : Sheet) (l : Slots) (t : SolverReply) (out₀ out₁ : List ℕ) (r
             (c .0, c .1, w .3 ∙ c .2);
         refutes = claim .refutes (formulaIn s) (positiveIn s) (negativeIn s);
         bound = λ b filled e. claim .bound s l b filled (answers (unknown b filled) e unknown-stands);
-        enough-room = λ b filled few p q r e. claim .enough-room s l b filled few p q r (answers (unknown b filled) e unknown-stands);
+        enough-room = λ b filled few p q r e. claim .enough-room s l b filled few p q r
+            (answers (unknown b filled) e unknown-stands);
       }
 
 -- ---- the certificate of the slots that a search left
@@ -185,10 +188,12 @@ module _ (f : Formula) (positive negative points falsified depths : List ℕ) (f
   answer : SearchAnswers sheet (ok .slots) (unsatisfiable filled)
   answer = record { readable = tt; reply = ok .reply; accepted = unsatisfiable-stands }
 
-  same-reply : writeReply f positive negative points falsified depths filled out ≡ writerReply sheet (ok .slots) filled out
+  same-reply : writeReply f positive negative points falsified depths filled out
+      ≡ writerReply sheet (ok .slots) filled out
   same-reply = rw (ok .left-points, ok .left-falsified, ok .left-depths)
 
-  same-output : writeOutput f positive negative points falsified depths filled out ≡ writerOutput sheet (ok .slots) filled out
+  same-output : writeOutput f positive negative points falsified depths filled out
+      ≡ writerOutput sheet (ok .slots) filled out
   same-output = rw (ok .left-points, ok .left-falsified, ok .left-depths)
 
   module _ (after : List ℕ) (output : after ≡ writeOutput f positive negative points falsified depths filled out) where
@@ -246,7 +251,8 @@ kept-of accepted kept new ne = refl
 -- a search that refutes leaves slots of which a certificate can be written
 pub refuted : (f : Formula) (positive negative : List ℕ) (l : Slots) (outcome : Outcome)
     (points₁ falsified₁ depths₁ : List ℕ)
-    → Searched f positive negative (l .points) (l .falsified) (l .depths) outcome points₁ falsified₁ depths₁ → (filled : ℕ)
+    → Searched f positive negative (l .points) (l .falsified) (l .depths) outcome points₁ falsified₁ depths₁
+    → (filled : ℕ)
     → outcome ≡ Unsatisfiable filled
     → Refuted f positive negative points₁ falsified₁ depths₁ filled
 refuted f positive negative l outcome points₁ falsified₁ depths₁ call filled e =
@@ -282,10 +288,12 @@ module _ (f : Formula) (positive negative : List ℕ) (l : Slots) (out : List �
     solves r q same e n ne =
         let said : sheetReply by-value-sheet (lent l) ≡ replyOfOutcome q = reply-is ∙ ap replyOfOutcome same in
         let reply = e ∙ sym said in
-        let known : (filled : ℕ) → sheetReply by-value-sheet (lent l) ≡ unsatisfiable filled → ⊥ = λ filled h. ne filled (sym said ∙ h) in
+        let known : (filled : ℕ) → sheetReply by-value-sheet (lent l) ≡ unsatisfiable filled
+        → ⊥ = λ filled h. ne filled (sym said ∙ h) in
         let certificate = n ∙ sym (kept-of (sheetReply by-value-sheet (lent l)) none
         (λ filled. some (writerReply by-value-sheet l filled out)) known) in
-        let output = sym (kept-of (sheetReply by-value-sheet (lent l)) out (λ filled. writerOutput by-value-sheet l filled out)
+        let output = sym (kept-of (sheetReply by-value-sheet (lent l)) out
+        (λ filled. writerOutput by-value-sheet l filled out)
         known) in
         record {
           reply = reply;
@@ -311,11 +319,13 @@ module _ (f : Formula) (positive negative : List ℕ) (l : Slots) (out : List �
           let reply = c .reply ∙ sym now-refuted in
           let certificate : replyOfSolution r .certificate ≡ certificateReply by-value-sheet l out =
           c .certificate ∙ ap some (same-reply f positive negative points₁ falsified₁ depths₁ filled slots-refuted out)
-          ∙ ap (λ (a : Reply). onRefutation a none (λ filled. some (writerReply by-value-sheet l filled out))) (sym now-refuted)
+          ∙ ap (λ (a : Reply). onRefutation a none (λ filled. some (writerReply by-value-sheet l filled out)))
+          (sym now-refuted)
           in
           let output : out₁ ≡ certificateOutput by-value-sheet l out =
           c .output ∙ same-output f positive negative points₁ falsified₁ depths₁ filled slots-refuted out
-          ∙ ap (λ (a : Reply). onRefutation a out (λ filled. writerOutput by-value-sheet l filled out)) (sym now-refuted) in
+          ∙ ap (λ (a : Reply). onRefutation a out (λ filled. writerOutput by-value-sheet l filled out))
+          (sym now-refuted) in
           record {
             reply = reply;
             certificate = certificate;
@@ -380,7 +390,8 @@ module _ (text positive negative : List ℕ) (l : Slots) (out : List ℕ) where
       as-read v =
           let reply = v .reply ∙ same-answer in
           let certificate : replyOfSolution r .certificate ≡ certificateReply read-sheet l out = v .certificate
-          ∙ ap (λ (a : Reply). onRefutation a none (λ filled. some (writerReply read-sheet l filled out))) same-answer in
+          ∙ ap (λ (a : Reply). onRefutation a none (λ filled. some (writerReply read-sheet l filled out))) same-answer
+          in
           let output : out₁ ≡ certificateOutput read-sheet l out = v .output
           ∙ ap (λ (a : Reply). onRefutation a out (λ filled. writerOutput read-sheet l filled out)) same-answer in
           record {

@@ -1,4 +1,5 @@
--- `certificate::bodies::entry_at` meets its contract: the body holds as many numbers as its width goes into its length. Assumes nothing.
+-- `certificate::bodies::entry_at` meets its contract: the body holds as many numbers as its width goes into its length.
+-- Assumes nothing.
 use mathlib.Core.Path.{sym, ap, _∙_}
 use mathlib.Core.Option.{some}
 use Prim.Native.Nat.{suc, _*_, _≤_}

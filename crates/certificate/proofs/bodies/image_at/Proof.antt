@@ -1,4 +1,5 @@
--- `certificate::bodies::image_at` meets its contract: whether the image lies in the body is told without a sum that could wrap. Assumes nothing.
+-- `certificate::bodies::image_at` meets its contract: whether the image lies in the body is told without a sum that
+-- could wrap. Assumes nothing.
 use mathlib.Core.Path.{sym}
 use Prim.Native.Nat.{_+_, _-_, _*_, _≤_, _<_}
 use native.Mathlib.Nat.{le-div-iff-mul-le, div-lt-iff-lt-mul}

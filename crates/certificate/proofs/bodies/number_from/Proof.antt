@@ -1,4 +1,5 @@
--- `certificate::bodies::number_from` meets its contract: at index i the number is that of the bytes from i on. Assumes nothing.
+-- `certificate::bodies::number_from` meets its contract: at index i the number is that of the bytes from i on. Assumes
+-- nothing.
 use mathlib.Core.Path.{_≡_, sym, ap, _∙_, subst}
 use Prim.Native.Nat.{ℕ, suc, _+_, _-_, _*_, _^_, _≤_, _<_}
 use native.Mathlib.Nat.{le-refl, one-le-pow, pow-le-pow-right, pow-succ', zero-lt-suc}
@@ -28,7 +29,8 @@ loop-holds c =
 byte : (c : tie.After-shared-slice-known Inv-loop μ-loop) → getD (c .before .before .before .args .bytes .now) (c .before .before .loop .i - 1) 0 < 256
 byte c = omega (arith, c .shared-slice-known .given (c .before .before .loop .i - 1))
 
--- with the byte before them the bytes still stand for a number below the next power, and at most eight for one of 64 bits
+-- with the byte before them the bytes still stand for a number below the next power, and at most eight for one of 64
+-- bits
 bound : (c : tie.After-shared-slice-known Inv-loop μ-loop)
     → (c .before .before .loop .r * 256 + getD (c .before .before .before .args .bytes .now) (c .before .before .loop .i - 1) 0
     < 256 ^ (length (c .before .before .before .args .bytes .now) - (c .before .before .loop .i - 1)))

@@ -2,7 +2,8 @@
 use Prim.Native.Nat.{_-_}
 use borrow.Author.Needs.{needs}
 use Rattle.certificate.specs.Bytes.{numberWidth}
-use Rattle.certificate.specs.Laws.BytesLaws.{Copying, copying-begins, copying-whole, copying-goes-on, copying-ends}
+use Rattle.certificate.specs.Laws.BytesLaws.{Copying, copying-begins, copying-whole, copying-goes-on}
+use Rattle.certificate.specs.Laws.BytesLaws.{copying-ends}
 use Rattle.certificate.proofs.bodies.numbers_into.Statement.{statement}
 use Rattle.certificate.proofs.bodies.numbers_into.Tie as tie
 

@@ -1,4 +1,5 @@
--- `formula::refusals::all_below` meets its contract: the test over the whole slice is, at index i, that over the numbers from i on. Assumes nothing.
+-- `formula::refusals::all_below` meets its contract: the test over the whole slice is, at index i, that over the
+-- numbers from i on. Assumes nothing.
 use mathlib.Core.Path.{_≡_, refl, sym, ap, _∙_}
 use Prim.Native.Nat.{ℕ, _-_, _^_}
 use native.Mathlib.Omega.{arith}

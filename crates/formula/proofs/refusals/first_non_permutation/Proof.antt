@@ -2,7 +2,8 @@
 use Prim.Native.Nat.{_-_}
 use borrow.Author.Needs.{needs}
 use Rattle.permutation_theory.specs.Permutations.{isPermutation}
-use Rattle.permutation_images.specs.Laws.LoopLaws.{Testing, testing-begins, testing-whole, testing-stops, testing-goes-on, testing-ends}
+use Rattle.permutation_images.specs.Laws.LoopLaws.{Testing, testing-begins, testing-whole, testing-stops}
+use Rattle.permutation_images.specs.Laws.LoopLaws.{testing-goes-on, testing-ends}
 use Rattle.formula.proofs.refusals.first_non_permutation.Statement.{statement}
 use Rattle.formula.proofs.refusals.first_non_permutation.Tie as tie
 

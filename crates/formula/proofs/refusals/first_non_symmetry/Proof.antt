@@ -4,7 +4,8 @@ use borrow.Author.Needs.{needs}
 use Rattle.points.specs.Points.{numbered}
 use Rattle.point_slices.specs.Slices.{clausesOf}
 use Rattle.permutation_theory.specs.Permutations.{keeps}
-use Rattle.permutation_images.specs.Laws.LoopLaws.{listed-movable, Testing, testing-begins, testing-whole, testing-stops, testing-goes-on, testing-ends}
+use Rattle.permutation_images.specs.Laws.LoopLaws.{listed-movable, Testing, testing-begins, testing-whole}
+use Rattle.permutation_images.specs.Laws.LoopLaws.{testing-stops, testing-goes-on, testing-ends}
 use Rattle.formula.proofs.refusals.first_non_symmetry.Statement.{statement}
 use Rattle.formula.proofs.refusals.first_non_symmetry.Tie as tie
 

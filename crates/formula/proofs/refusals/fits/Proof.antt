@@ -1,4 +1,5 @@
--- `formula::refusals::fits` meets its contract: a test that fails refutes the whole, and where all pass it is their conjunction. Assumes nothing.
+-- `formula::refusals::fits` meets its contract: a test that fails refutes the whole, and where all pass it is their
+-- conjunction. Assumes nothing.
 use mathlib.Core.Path.{sym, _∙_}
 use native.Mathlib.Omega.{arith}
 use borrow.Author.Needs.{needs}

@@ -1,4 +1,5 @@
--- `formula::refusals::permutations_refusal` meets its contract: too many first, then the first that is none. Assumes nothing.
+-- `formula::refusals::permutations_refusal` meets its contract: too many first, then the first that is none. Assumes
+-- nothing.
 use mathlib.Core.Path.{_≡_, refl, sym, ap, _∙_}
 use native.Mathlib.Nat.{le-of-eq, le-trans, lt-of-lt-of-le}
 use Rattle.permutation_images.specs.Laws.LoopLaws.{length-permutations}

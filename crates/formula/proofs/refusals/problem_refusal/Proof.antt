@@ -1,8 +1,10 @@
--- `formula::refusals::problem_refusal` meets its contract: each is tested over everything before the next. Assumes nothing.
+-- `formula::refusals::problem_refusal` meets its contract: each is tested over everything before the next. Assumes
+-- nothing.
 use mathlib.Core.Path.{_≡_, sym, ap, _∙_, subst}
 use lib.ListN.{length}
 use borrow.Author.Needs.{needs}
-use Rattle.formula.specs.Laws.RefusalLaws.{stops-10, stops-11, ends-12, formula-passes, images-room, formula-listed}
+use Rattle.formula.specs.Laws.RefusalLaws.{stops-10, stops-11, ends-12, formula-passes, images-room}
+use Rattle.formula.specs.Laws.RefusalLaws.{formula-listed}
 use Rattle.formula.specs.Refusals.{formulaFault, permutationFault, faultOf}
 use Rattle.formula.specs.Reply.{no-fault}
 use Rattle.formula.specs.Laws.ReplyLaws.{IsFault}
