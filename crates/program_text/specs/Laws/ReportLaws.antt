@@ -12,7 +12,7 @@ use Rattle.math.specs.Laws.SpliceLaws.{spliced-front}
 use Rattle.program_text.specs.Decimal.{numeral, lineEnd, field, line}
 use Rattle.program_text.specs.Laws.DecimalLaws.{numeral-length, line-length}
 use Rattle.program_text.specs.Laws.Putting.{Put}
-use Rattle.program_text.specs.Report.{sign, literal, literals, satisfiableHead, valuesEnd, changesHead, slotsBetween, unsatisfiableHead, unknownHead, refusedHead, space, satisfiableText, unsatisfiableText, unknownText, refusedText, Printed}
+use Rattle.program_text.specs.Report.{sign, literal, literals, satisfiableHead, valuesEnd, changesHead, slotsBetween, unsatisfiableHead, space, satisfiableText, unsatisfiableText, Printed}
 
 -- put at the front of the output
 pub put-front : (text out₀ : List ℕ) (r : ℕ) (out₁ : List ℕ) → Put 0 text out₀ r out₁ → Printed text out₀ r out₁
@@ -73,10 +73,7 @@ unfolding unsatisfiableText
 unsatisfiable-length k p =
     omega (arith, length-append (field unsatisfiableHead k) lineEnd, length-append unsatisfiableHead (numeral k), numeral-length 9 k p)
 
-pub unknown-length : (b k : ℕ) → b < 10 ^ 10 → k < 10 ^ 10 → length (unknownText b k) ≤ 312
-unfolding unknownText
-unknown-length b k p q = omega (arith, line-length unknownHead space 9 9 b k p q)
-
-pub refused-length : (code place : ℕ) → code < 10 ^ 10 → place < 10 ^ 20 → length (refusedText code place) ≤ 312
-unfolding refusedText
-refused-length code place p q = omega (arith, line-length refusedHead space 9 19 code place p q)
+-- there is room for a line with two numbers and a short head
+pub line-room : (head out : List ℕ) (a b : ℕ) → length head ≤ 100 → a < 10 ^ 10 → b < 10 ^ 20 → 312 ≤ length out
+    → 0 + length (line head a space b) ≤ length out
+line-room head out a b short p q room = omega (arith, line-length head space 9 19 a b p q)

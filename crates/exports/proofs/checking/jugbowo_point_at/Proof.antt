@@ -1,10 +1,11 @@
 -- `exports::certificates::jugbowo_point_at` meets its contract: with room for it, the entry as the reader of the body answers it. Assumes nothing.
+use borrow.Author.Needs.{needs}
 use Rattle.exports.specs.Laws.CheckingLaws.{tells-no-entry, tells-entry}
 use Rattle.exports.proofs.checking.jugbowo_point_at.Statement.{statement}
 use Rattle.exports.proofs.checking.jugbowo_point_at.Tie as tie
 
 returns : tie.Need-returns
-returns c = tells-no-entry _ (c .before .before .before .args .reply .now) (c .if1 .taken)
+returns c = tells-no-entry _ _ (c .if1 .taken)
 
 point-at-requires : tie.Need-point-at-requires
 point-at-requires c κs = tt
@@ -12,16 +13,11 @@ point-at-requires c κs = tt
 put-entry-requires : tie.Need-put-entry-requires
 put-entry-requires c κs = c .before .before .if1 .left
 
-same-length : tie.Need-same-length
-same-length c = c .before .before .put-entry .kept .0
-
 returns-2 : tie.Need-returns-2
 returns-2 c =
-    let put = c .before .before in
-    let answered = put .before .before in
-    let with-room = answered .before in
-    tells-entry _ (with-room .before .before .before .args .reply .now) (answered .point-at .result) _ (with-room .if1 .left) (answered .point-at .ensures .value) (put .put-entry .ensures)
+    let answered = c .before .before .before .before in
+    tells-entry _ _ _ _ (answered .before .if1 .left) (answered .point-at .ensures .value) (c .before .before .put-entry .ensures)
 
 pub jugbowo-point-at-spec : {M : Type 1} → statement M
 jugbowo-point-at-spec =
-    tie.close (tie.spec returns point-at-requires put-entry-requires same-length returns-2)
+    tie.close (tie.spec returns point-at-requires put-entry-requires (λ c. search needs) returns-2)
