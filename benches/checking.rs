@@ -20,10 +20,10 @@ fn sheet(variables: u32) -> Sheet {
     Sheet { variables, clauses: 1 << LISTED, target: 0, permutations: 0, images: vec![0; 1024], positive, negative }
 }
 
-// The points of m variables, each with its parity told by two more where there are permutations.
-fn points(m: u32, told: bool) -> Vec<u64> {
+// The points of m variables, each with its parity shown by two more where there are permutations.
+fn points(m: u32, shown: bool) -> Vec<u64> {
     let parity = |a: u64| (a & ((1 << LISTED) - 1)).count_ones() % 2;
-    (0..1u64 << m).map(|a| if told { a | 1 << (m + parity(a)) } else { a }).collect()
+    (0..1u64 << m).map(|a| if shown { a | 1 << (m + parity(a)) } else { a }).collect()
 }
 
 fn main() {

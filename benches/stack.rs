@@ -63,26 +63,29 @@ fn main() {
     let (mut points, mut numbers, mut depths) = (vec![0; 8], vec![0; 8], vec![0; 8]);
     let (mut out, mut reply) = (vec![0; 70], vec![0; 4]);
     println!("function bytes-of-stack");
-    let told = |name: &str, bytes: usize| println!("{name} {}", bytes - idle);
+    let report = |name: &str, bytes: usize| println!("{name} {}", bytes - idle);
     let (mut p, mut q, mut four, mut kilo) = (vec![0; 4096], vec![0; 4096], vec![0; 4], vec![0; 1024]);
-    told("read", used(&mut || assert_eq!(library::read(clash, &mut p, &mut q, &mut four, &mut kilo, &mut reply), 1)));
-    told(
+    report("read", used(&mut || assert_eq!(library::read(clash, &mut p, &mut q, &mut four, &mut kilo, &mut reply), 1)));
+    report(
         "search",
         used(&mut || assert_eq!(library::search(&s, &mut points, &mut numbers, &mut depths, &mut reply), 1)),
     );
-    told("write", used(&mut || assert_eq!(library::write(&s, &points, &numbers, &depths, 3, &mut out, &mut reply), 1)));
+    report(
+        "write",
+        used(&mut || assert_eq!(library::write(&s, &points, &numbers, &depths, 3, &mut out, &mut reply), 1)),
+    );
     assert_eq!(reply[..2], [5, 70]);
     let mut slots = library::joined(&points, &numbers, &depths);
-    told("search_slots", used(&mut || assert_eq!(library::search_slots(&s, &mut slots, &mut reply), 1)));
-    told("write_slots", used(&mut || assert_eq!(library::write_slots(&s, &slots, 3, &mut out, &mut reply), 1)));
+    report("search_slots", used(&mut || assert_eq!(library::search_slots(&s, &mut slots, &mut reply), 1)));
+    report("write_slots", used(&mut || assert_eq!(library::write_slots(&s, &slots, 3, &mut out, &mut reply), 1)));
     assert_eq!(reply[..2], [5, 70]);
-    told("check", used(&mut || assert_eq!(library::check(&s, &out, &mut reply), 1)));
+    report("check", used(&mut || assert_eq!(library::check(&s, &out, &mut reply), 1)));
     assert_eq!(reply[0], 7);
     let mut contents = vec![0; 8];
-    told("open", used(&mut || assert_eq!(library::open(&out, &mut contents, &mut reply), 1)));
-    told("point_at", used(&mut || assert_eq!(library::point_at(&out[34..58], 2, &mut reply), 1)));
+    report("open", used(&mut || assert_eq!(library::open(&out, &mut contents, &mut reply), 1)));
+    report("point_at", used(&mut || assert_eq!(library::point_at(&out[34..58], 2, &mut reply), 1)));
     let mut file = vec![0; 70];
-    told(
+    report(
         "solve",
         used(&mut || {
             assert_eq!(library::solve(clash, &mut points, &mut numbers, &mut depths, &mut file, &mut reply), 1)
@@ -90,5 +93,5 @@ fn main() {
     );
     assert_eq!(reply[..3], [8, 3, 70]);
     let mut printed = vec![0; 312];
-    told("nearest", used(&mut || assert_ne!(library::nearest(clash, &mut printed), 0)));
+    report("nearest", used(&mut || assert_ne!(library::nearest(clash, &mut printed), 0)));
 }

@@ -108,10 +108,10 @@ fn foreign(count: &mut Count) {
         [ACCEPTED, 0, 0, 0],
     );
     let (mut contents, mut reply) = ([9; 8], [9; 4]);
-    let told = library::open(&bytes, &mut contents, &mut reply);
+    let returned = library::open(&bytes, &mut contents, &mut reply);
     count.compare(
         "the paper's set: opened",
-        (told, reply, contents),
+        (returned, reply, contents),
         (1, [OPENED, 0, 0, 0], [6, 7, 0, 32, 14, 32, 14, 144]),
     );
 }
@@ -157,8 +157,8 @@ fn damaged_lengths(count: &mut Count) {
     ];
     for (name, part, length) in cases {
         let (mut contents, mut reply) = ([9; 8], [9; 4]);
-        let told = library::open(part, &mut contents, &mut reply);
-        count.compare(&format!("{name}: opened"), (told, reply, contents), (1, [REFUSED, 14, length, 0], [9; 8]));
+        let returned = library::open(part, &mut contents, &mut reply);
+        count.compare(&format!("{name}: opened"), (returned, reply, contents), (1, [REFUSED, 14, length, 0], [9; 8]));
         count.compare(name, checked(&s, part), [REFUSED, 14, length, 0]);
     }
 }
@@ -213,9 +213,9 @@ fn without(file: &File, index: usize) -> File {
 fn solved(text: &[u8], slots: usize, room: usize) -> (Found, Vec<u8>) {
     let mut found = Found { reply: [9; 4], points: vec![9; slots], numbers: vec![9; slots], depths: vec![9; slots] };
     let mut out = vec![9; room];
-    let told =
+    let returned =
         library::solve(text, &mut found.points, &mut found.numbers, &mut found.depths, &mut out, &mut found.reply);
-    assert_eq!(told, 1);
+    assert_eq!(returned, 1);
     (found, out)
 }
 
@@ -316,7 +316,7 @@ fn no_place(count: &mut Count) {
     let bytes = file.bytes();
     let (mut few, mut one, mut reply) = ([9; 3], [9; 1], [9; 4]);
     let (mut contents, mut seven) = ([9; 8], [9; 7]);
-    let told = [
+    let returned = [
         library::check(&s, &bytes, &mut few),
         library::open(&bytes, &mut contents, &mut few),
         library::open(&bytes, &mut seven, &mut reply),
@@ -324,13 +324,14 @@ fn no_place(count: &mut Count) {
         library::point_at(&bytes[32..144], 0, &mut one),
         library::number_at(&bytes[144..], 0, &mut one),
     ];
-    count.compare("no place for the words", told, [0; 6]);
+    count.compare("no place for the words", returned, [0; 6]);
     count.compare("nothing changed", (few, one, reply, contents, seven), ([9; 3], [9; 1], [9; 4], [9; 8], [9; 7]));
     let (mut points, mut numbers, mut depths, mut out) = ([9; 4], [9; 4], [9; 4], [9; 80]);
-    let told = library::solve(&text(2, &formula_a(), &[]), &mut points, &mut numbers, &mut depths, &mut out, &mut few);
+    let returned =
+        library::solve(&text(2, &formula_a(), &[]), &mut points, &mut numbers, &mut depths, &mut out, &mut few);
     count.compare(
         "no place for the solver's words",
-        (told, points, numbers, depths, few),
+        (returned, points, numbers, depths, few),
         (0, [9; 4], [9; 4], [9; 4], [9; 3]),
     );
     count.expect("the output unchanged", out == [9; 80]);

@@ -282,7 +282,7 @@ impl Case {
         let (mut positive, mut negative) = before.clone();
         let (mut numbers, mut images, mut reply) = ([3; 5], [3; 1025], [3; 5]);
         self.same(
-            "told",
+            "returned",
             library::read(&bytes, &mut positive, &mut negative, &mut numbers, &mut images, &mut reply),
             1,
         );
@@ -322,7 +322,7 @@ impl Case {
         let (mut left_points, mut left_numbers, mut left_depths) = (points.clone(), numbers.clone(), depths.clone());
         let mut reply = [3; 5];
         self.same(
-            "told",
+            "returned",
             library::search(&lent(&s), &mut left_points, &mut left_numbers, &mut left_depths, &mut reply),
             1,
         );
@@ -389,16 +389,16 @@ impl Case {
         let needed = wanted.as_ref().map_or(40, Vec::len);
         let room = needed + *self.random.pick(&[0, 0, 1, 9]) - usize::from(self.random.chance(4));
         let before: Vec<u8> = self.random.filled(room).iter().map(|&x| x as u8).collect();
-        let (mut out, mut told) = (before.clone(), [3; 5]);
-        self.same("told", library::write(&lent(&s), &points, &numbers, &depths, count, &mut out, &mut told), 1);
-        self.saw("write", &told);
+        let (mut out, mut answer) = (before.clone(), [3; 5]);
+        self.same("returned", library::write(&lent(&s), &points, &numbers, &depths, count, &mut out, &mut answer), 1);
+        self.saw("write", &answer);
         match reference::write(&s, &points, &numbers, depths.len(), count, room) {
             Ok(file) => {
-                self.same("written", told.to_vec(), vec![5, file.len() as u64, 0, 0, 3]);
+                self.same("written", answer.to_vec(), vec![5, file.len() as u64, 0, 0, 3]);
                 self.same("output", out, [&file[..], &before[file.len()..]].concat());
             }
             Err(r) => {
-                self.same("refused by the writer", told.to_vec(), [&refused(r)[..], &[3]].concat());
+                self.same("refused by the writer", answer.to_vec(), [&refused(r)[..], &[3]].concat());
                 self.same("output after a refusal", out, before);
             }
         }
@@ -418,11 +418,11 @@ impl Case {
         }
         let s = &other;
         let mut reply = [3; 5];
-        self.same("told", library::check(&lent(s), &file, &mut reply), 1);
+        self.same("returned", library::check(&lent(s), &file, &mut reply), 1);
         self.saw("check", &reply);
         let wanted = reference::check(s, &file);
-        let told = wanted.map_or_else(refused, |()| vec![7, 0, 0, 0]);
-        self.same("verdict", reply.to_vec(), [&told[..], &[3]].concat());
+        let expected = wanted.map_or_else(refused, |()| vec![7, 0, 0, 0]);
+        self.same("verdict", reply.to_vec(), [&expected[..], &[3]].concat());
         if whole && !damaged {
             self.holds("the certificate of a search is accepted", wanted.is_ok());
         }
@@ -430,7 +430,7 @@ impl Case {
             self.holds("an accepted certificate refutes", reference::nearest(s).is_none());
         }
         let (mut contents, mut opened) = ([3; 9], [3; 5]);
-        self.same("told", library::open(&file, &mut contents, &mut opened), 1);
+        self.same("returned", library::open(&file, &mut contents, &mut opened), 1);
         self.saw("open", &opened);
         let (words, numbers) = match reference::open(&file) {
             Ok(c) => (vec![6, 0, 0, 0, 3], c.iter().map(|&x| u64::from(x)).chain([3]).collect()),
@@ -463,7 +463,7 @@ impl Case {
         let mut words = vec![3; self.random.below(4) as usize];
         let (mut points, mut numbers, mut depths, mut out) = ([5; 9], [5; 9], [5; 9], [5; 99]);
         let (mut positive, mut negative, mut four, mut images) = ([5; 300], [5; 300], [5; 4], [5; 1024]);
-        let told = [
+        let returned = [
             library::read(&bytes, &mut positive, &mut negative, &mut four, &mut images, &mut words),
             library::read(&bytes, &mut positive, &mut negative, &mut words, &mut images, &mut four),
             library::read(&bytes, &mut positive, &mut negative, &mut four, &mut images[..1023], &mut [0; 4]),
@@ -474,7 +474,7 @@ impl Case {
             library::open(&bytes, &mut words, &mut four),
             library::solve(&bytes, &mut points, &mut numbers, &mut depths, &mut out, &mut words),
         ];
-        self.same("told without room", told, [0; 9]);
+        self.same("returned without room", returned, [0; 9]);
         self.holds(
             "slots and output unchanged",
             points == [5; 9] && numbers == [5; 9] && depths == [5; 9] && out == [5; 99],
@@ -500,12 +500,12 @@ impl Case {
             body.chunks_exact(width).nth(i).map(|b| b.iter().rev().fold(0, |x, &b| x << 8 | u64::from(b)))
         };
         let mut replies = [[3; 3]; 3];
-        let told = [
+        let returned = [
             library::image_at(&body, n, j, i, &mut replies[0]),
             library::point_at(&body, i, &mut replies[1]),
             library::number_at(&body, i, &mut replies[2]),
         ];
-        self.same("told of entries", told, [1; 3]);
+        self.same("returned of entries", returned, [1; 3]);
         self.same("entries", replies, [found(image), found(whole(8)), found(whole(4))]);
     }
 
@@ -525,7 +525,7 @@ impl Case {
         .collect();
         let (mut points, mut numbers, mut depths) = (vec![5; slots], vec![5; slots], vec![5; slots]);
         let (mut out, mut reply) = (before.clone(), [3; 5]);
-        self.same("told", library::solve(&bytes, &mut points, &mut numbers, &mut depths, &mut out, &mut reply), 1);
+        self.same("returned", library::solve(&bytes, &mut points, &mut numbers, &mut depths, &mut out, &mut reply), 1);
         self.saw("solve", &reply);
         let read = reference::read(&bytes, 4096, 4096);
         let walked = read.as_ref().map(|s| reference::walk(s, slots)).map_err(|&r| r);
@@ -577,14 +577,14 @@ fn main() {
             println!("seed {own} ({}): {}", kind.0, case.wrong.join("; "));
         }
     }
-    let told = |((function, word, number), times): (Answer, u64)| {
+    let line = |((function, word, number), times): (Answer, u64)| {
         if word == 0 {
             format!("{function} refused {number}: {times}")
         } else {
             format!("{function} {word}: {times}")
         }
     };
-    println!("answers by first word: {}", seen.into_iter().map(told).collect::<Vec<_>>().join(", "));
+    println!("answers by first word: {}", seen.into_iter().map(line).collect::<Vec<_>>().join(", "));
     println!("differential, seeds {seed} to {}: {} passed, {failed} failed", seed + count - 1, count - failed);
     if failed > 0 {
         std::process::exit(1);

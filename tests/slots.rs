@@ -29,9 +29,9 @@ fn both(s: &Sheet, count: usize, words: usize) -> (Found, Found) {
     let mut falsified: Vec<u32> = slots.iter().map(|t| t.falsified).collect();
     let mut depths: Vec<u32> = slots.iter().map(|t| t.depth).collect();
     let (mut reply, mut wanted) = (vec![9; words], vec![9; words]);
-    let told = library::search_slots(s, &mut slots, &mut reply);
+    let returned = library::search_slots(s, &mut slots, &mut reply);
     let parallel = library::search(s, &mut points, &mut falsified, &mut depths, &mut wanted);
-    ((told, reply, slots), (parallel, wanted, joined(&points, &falsified, &depths)))
+    ((returned, reply, slots), (parallel, wanted, joined(&points, &falsified, &depths)))
 }
 
 // A search in both forms that answers these words; a refusal leaves every slot as it was.
@@ -95,9 +95,9 @@ fn written(
     let depths: Vec<u32> = slots.iter().map(|t| t.depth).collect();
     let (mut out, mut parallel) = (vec![9; bytes], vec![9; bytes]);
     let (mut reply, mut wanted) = (vec![9; words], vec![9; words]);
-    let told = library::write_slots(s, slots, used, &mut out, &mut reply);
+    let returned = library::write_slots(s, slots, used, &mut out, &mut reply);
     let same = library::write(s, &points, &falsified, &depths, used, &mut parallel, &mut wanted);
-    count.expect(&format!("{name}: as the parallel form"), (told, &reply, &out) == (same, &wanted, &parallel));
+    count.expect(&format!("{name}: as the parallel form"), (returned, &reply, &out) == (same, &wanted, &parallel));
     reply
 }
 

@@ -14,8 +14,8 @@ fn same(text: &[u8], slots: usize) -> bool {
     let found = sheets::search(&lending::lent(&s), slots);
     let (reply, filled) = reference::walk(&s, slots);
     let padded = |part: Vec<u64>| [part, vec![9; slots - filled.len()]].concat();
-    let told = lending::words(&reply);
-    found.reply[..told.len()] == told[..]
+    let words = lending::words(&reply);
+    found.reply[..words.len()] == words[..]
         && found.points == padded(filled.iter().map(|f| f.point).collect())
         && found.numbers.iter().map(|&x| x as u64).eq(padded(filled.iter().map(|f| f.rule as u64).collect()))
         && found.depths.iter().map(|&x| x as u64).eq(padded(filled.iter().map(|f| f.depth as u64).collect()))

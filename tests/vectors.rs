@@ -13,12 +13,12 @@ use library::Sheet;
 struct Vector<'a> {
     kind: &'a str,
     id: &'a str,
-    told: HashMap<&'a str, Vec<&'a str>>,
+    given: HashMap<&'a str, Vec<&'a str>>,
 }
 
 impl<'a> Vector<'a> {
     fn words(&self, key: &str) -> &[&'a str] {
-        self.told.get(key).map(|w| w.as_slice()).unwrap_or(&[])
+        self.given.get(key).map(|w| w.as_slice()).unwrap_or(&[])
     }
 
     fn numbers(&self, key: &str) -> Vec<u64> {
@@ -120,10 +120,11 @@ fn reader(v: &Vector, d: &mut Differences) {
     let mut negative = v.filled(lent[1] as usize);
     let before = (positive.clone(), negative.clone());
     let (mut numbers, mut images, mut reply) = (vec![7u64; 5], vec![7u8; 1025], vec![7u64; 5]);
-    let told = library::read(&v.bytes("bytes"), &mut positive, &mut negative, &mut numbers, &mut images, &mut reply);
+    let returned =
+        library::read(&v.bytes("bytes"), &mut positive, &mut negative, &mut numbers, &mut images, &mut reply);
     let answer = v.words("answer");
     let wanted = if answer[0] == "read" { formula(&answer[1..]) } else { (vec![0; 4], vec![0; 1024]) };
-    d.compare("told", told, 1);
+    d.compare("returned", returned, 1);
     d.compare("reply", reply, over(reply_words(answer), &[7; 5]));
     d.compare("numbers", numbers, over(wanted.0, &[7; 5]));
     d.compare("images", images, over(wanted.1, &[7; 1025]));
@@ -139,8 +140,8 @@ fn builder(v: &Vector, d: &mut Differences) {
     let mut depths = narrow(v.filled(lent[2] as usize));
     let before = (points.clone(), falsified.clone(), depths.clone());
     let mut reply = vec![7u64; 5];
-    let told = library::search(&s, &mut points, &mut falsified, &mut depths, &mut reply);
-    d.compare("told", told, 1);
+    let returned = library::search(&s, &mut points, &mut falsified, &mut depths, &mut reply);
+    d.compare("returned", returned, 1);
     d.compare("reply", reply, over(reply_words(v.words("answer")), &[7; 5]));
     d.compare("points", points, over(v.numbers("after-points"), &before.0));
     d.compare("clause numbers", falsified, over(narrow(v.numbers("after-numbers")), &before.1));
@@ -156,8 +157,8 @@ fn writer(v: &Vector, d: &mut Differences) {
     let mut out: Vec<u8> = v.filled(lent[2] as usize).into_iter().map(|x| x as u8).collect();
     let before = out.clone();
     let mut reply = vec![7u64; 5];
-    let told = library::write(&s, &points, &falsified, &depths, lent[1] as u32, &mut out, &mut reply);
-    d.compare("told", told, 1);
+    let returned = library::write(&s, &points, &falsified, &depths, lent[1] as u32, &mut out, &mut reply);
+    d.compare("returned", returned, 1);
     d.compare("reply", reply, over(reply_words(v.words("answer")), &[7; 5]));
     d.compare("output", out, over(v.bytes("after-bytes"), &before));
 }
@@ -171,8 +172,8 @@ fn builder_slots(v: &Vector, d: &mut Differences) {
     let (mut falsified, mut depths) = (narrow(v.filled(n)), narrow(v.filled(n)));
     let mut slots = library::joined(&points, &falsified, &depths);
     let (mut reply, mut wanted) = (vec![7u64; 5], vec![7u64; 5]);
-    let told = library::search_slots(&s, &mut slots, &mut reply);
-    d.compare("told", told, library::search(&s, &mut points, &mut falsified, &mut depths, &mut wanted));
+    let returned = library::search_slots(&s, &mut slots, &mut reply);
+    d.compare("returned", returned, library::search(&s, &mut points, &mut falsified, &mut depths, &mut wanted));
     d.compare("reply", &reply, &wanted);
     d.compare("reply of the vector", reply, over(reply_words(v.words("answer")), &[7; 5]));
     d.compare("slots", slots, library::joined(&points, &falsified, &depths));
@@ -187,8 +188,8 @@ fn writer_slots(v: &Vector, d: &mut Differences) {
     let mut out: Vec<u8> = v.filled(lent[2] as usize).into_iter().map(|x| x as u8).collect();
     let before = out.clone();
     let mut reply = vec![7u64; 5];
-    let told = library::write_slots(&s, &slots, lent[1] as u32, &mut out, &mut reply);
-    d.compare("told", told, 1);
+    let returned = library::write_slots(&s, &slots, lent[1] as u32, &mut out, &mut reply);
+    d.compare("returned", returned, 1);
     d.compare("reply", reply, over(reply_words(v.words("answer")), &[7; 5]));
     d.compare("output", out, over(v.bytes("after-bytes"), &before));
 }
@@ -196,10 +197,10 @@ fn writer_slots(v: &Vector, d: &mut Differences) {
 fn checker(v: &Vector, d: &mut Differences) {
     let file = v.bytes("bytes");
     let mut reply = vec![7u64; 5];
-    let told = library::check(&v.sheet(), &file, &mut reply);
-    d.compare("told", told, 1);
+    let returned = library::check(&v.sheet(), &file, &mut reply);
+    d.compare("returned", returned, 1);
     d.compare("reply", reply, over(reply_words(v.words("answer")), &[7; 5]));
-    if v.told.contains_key("reading") {
+    if v.given.contains_key("reading") {
         reading(v, &file, d);
     }
 }
@@ -210,14 +211,14 @@ fn reading(v: &Vector, file: &[u8], d: &mut Differences) {
     let (images, points, numbers) = (v.bytes("read-images"), v.numbers("read-points"), v.numbers("read-numbers"));
     let mut wanted = vec![7u64; 9];
     if words[0] == "opened" {
-        let told: Vec<u64> = words[1..].iter().map(|w| w.parse().expect("a number")).collect();
+        let sizes: Vec<u64> = words[1..].iter().map(|w| w.parse().expect("a number")).collect();
         let (second, count) = (32 + images.len() as u64, points.len() as u64);
         let third = second + 8 * count;
-        wanted = over(vec![told[0], told[1], told[2], 32, count, second, count, third], &wanted);
+        wanted = over(vec![sizes[0], sizes[1], sizes[2], 32, count, second, count, third], &wanted);
     }
     let (mut contents, mut reply) = (vec![7u64; 9], vec![7u64; 5]);
-    let told = library::open(file, &mut contents, &mut reply);
-    d.compare("opened", told, 1);
+    let returned = library::open(file, &mut contents, &mut reply);
+    d.compare("opened", returned, 1);
     d.compare("reply to opening", reply, over(reply_words(words), &[7; 5]));
     d.compare("contents", &contents, &wanted);
     if words[0] == "opened" && contents == wanted {
@@ -234,8 +235,8 @@ fn read_body(what: &str, wanted: &[u64], d: &mut Differences, at: impl Fn(usize,
     for i in 0..=wanted.len() {
         let entry = wanted.get(i).map_or([0, 0, 7], |&x| [1, x, 7]);
         let mut reply = [7; 3];
-        let told = at(i, &mut reply);
-        d.compare(&format!("{what} of index {i}"), (told, reply), (1, entry));
+        let returned = at(i, &mut reply);
+        d.compare(&format!("{what} of index {i}"), (returned, reply), (1, entry));
     }
 }
 
@@ -245,8 +246,8 @@ fn read_images(body: &[u8], n: usize, wanted: &[u8], d: &mut Differences) {
     let width = n.max(1);
     read_body("image", &wanted, d, |k, reply| library::image_at(body, n, k / width, k % width, reply));
     let mut reply = [7; 3];
-    let told = library::image_at(body, n, 0, n, &mut reply);
-    d.compare("image of a variable above n", (told, reply), (1, [0, 0, 7]));
+    let returned = library::image_at(body, n, 0, n, &mut reply);
+    d.compare("image of a variable above n", (returned, reply), (1, [0, 0, 7]));
 }
 
 fn nearest(v: &Vector, d: &mut Differences) {
@@ -284,13 +285,13 @@ fn vectors(text: &str) -> Vec<Vector<'_>> {
     let blocks = text.split("\n\n").filter(|b| !b.trim().is_empty());
     blocks
         .map(|block| {
-            let mut told = HashMap::new();
+            let mut given = HashMap::new();
             for line in block.lines() {
                 let mut words = line.split(' ');
-                told.insert(words.next().expect("a key"), words.collect::<Vec<&str>>());
+                given.insert(words.next().expect("a key"), words.collect::<Vec<&str>>());
             }
-            let name = told["vector"].clone();
-            Vector { kind: name[0], id: name[1], told }
+            let name = given["vector"].clone();
+            Vector { kind: name[0], id: name[1], given }
         })
         .collect()
 }

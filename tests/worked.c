@@ -22,9 +22,9 @@ static void solved(const char *name, const char *text, size_t slots, const uint6
     static uint32_t falsified[4096], depths[4096];
     static uint8_t out[65536];
     uint64_t reply[4];
-    uint32_t told = jugbowo_solve((const uint8_t *)text, strlen(text), points, slots, falsified, slots, depths, slots,
-                                  out, sizeof out, reply, 4);
-    expect(name, told == 1 && memcmp(reply, wanted, sizeof reply) == 0);
+    uint32_t returned = jugbowo_solve((const uint8_t *)text, strlen(text), points, slots, falsified, slots, depths,
+                                      slots, out, sizeof out, reply, 4);
+    expect(name, returned == 1 && memcmp(reply, wanted, sizeof reply) == 0);
 }
 
 #define CLAUSES_A "1 2 0\n-1 2 0\n1 -2 0\n-1 -2 0\n"

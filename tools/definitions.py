@@ -1,13 +1,12 @@
 #!/usr/bin/env python3
-"""Computes outside vectors with the definitions: each becomes a theorem whose proof is `refl`, in a scratch copy of this
-repository.
+"""Computes outside vectors with the definitions: each becomes a theorem whose proof is `refl`, in a scratch copy of
+this repository.
 
 usage: tools/definitions.py VECTORS SCRATCH KIND [MOST]
-VECTORS is a file of one JSON object a line, SCRATCH a folder that is made anew, KIND reader, builder, checker or writer. A
-vector is left out if its line has more than MOST characters (default 6000), if it comes in parts, or if its n is beyond what
-antt should raise 2 to. Prints how many vectors of each answer were computed, which ids were left out, and what the check
-says. Not part of the gate.
-"""
+
+VECTORS is a file of one JSON object a line, SCRATCH a folder that is made anew, KIND reader, builder, checker or writer. A vector is left out if its line has more than
+MOST characters (default 6000), if it comes in parts, or if its n is beyond what antt should raise 2 to. Prints how
+many vectors of each answer were computed, which ids were left out, and what the check says. Not part of the gate."""
 import collections
 import json
 import os
@@ -71,11 +70,11 @@ def reader(v):
 def builder(v):
     e = v["expect"]
     lent = min(65536, v["points_len"], v["rules_len"], v["depths_len"])
-    told = {"met": "satisfiable %s %s %s" % (e.get("choice"), e.get("changes"), e.get("slots")),
+    answers = {"met": "satisfiable %s %s %s" % (e.get("choice"), e.get("changes"), e.get("slots")),
             "cannot be met": "unsatisfiable %s" % e.get("slots"),
             "no room": "unknown %s %s" % (e.get("d"), e.get("slots"))}
     args = "%s %s %s %d" % (formula(v["sheet"]), listed(v["yes"]), listed(v["no"]), lent)
-    yield "searchReply bit flip", "searchReply %s ≡ %s" % (args, refusal(e) or told[e["answer"]])
+    yield "searchReply bit flip", "searchReply %s ≡ %s" % (args, refusal(e) or answers[e["answer"]])
     for part, name, bits in (("point", "points", 64), ("falsified", "rules", 32), ("depth", "depths", 32)):
         old = filled(v, v[name + "_len"], bits)
         new = listed(over(e.get(name, []), old))
@@ -99,7 +98,8 @@ def checker(v):
 def writer(v):
     e, out = v["expect"], filled(v, v["out_len"], 8)
     args = "%s %s %s %s %s (replicate %d 0) %d %s" % (
-        formula(v["sheet"]), listed(v["yes"]), listed(v["no"]), listed(v["points"]), listed(v["rules"]), v["depths_len"],
+        formula(v["sheet"]), listed(v["yes"]), listed(v["no"]), listed(v["points"]), listed(v["rules"]),
+        v["depths_len"],
         v["count"], listed(out))
     yield "writeReply", "writeReply %s ≡ %s" % (args, refusal(e) or "written %d" % e["length"])
     yield "writeOutput", "writeOutput %s ≡ %s" % (args, listed(over(list(bytes.fromhex(e.get("out", ""))), out)))
@@ -147,8 +147,8 @@ def main():
     print("left out: " + " ".join(v["id"] for v in rows if v not in chosen), flush=True)
     done = subprocess.run(["rt", "check", "vectors"], cwd=scratch, capture_output=True, text=True)
     done = done.stdout + done.stderr
-    told = [line for line in done.splitlines() if "error" in line or line.startswith("rt:")]
-    print("\n".join(told)[-4000:])
+    lines = [line for line in done.splitlines() if "error" in line or line.startswith("rt:")]
+    print("\n".join(lines)[-4000:])
 
 
 main()

@@ -1,7 +1,7 @@
 #!/usr/bin/env python3
-"""README's map of the crates, made from crates.txt (parts and order), the head comment of each crate's code (its first
-sentence) and the modules that stand in its specs/. `tools/map.py` compares and says how to mend a difference, exit status
-1; `tools/map.py --write` writes the map."""
+"""README's map of the crates, made from crates.txt (parts and order), the head comment of each crate's code (its
+first sentence) and the modules that stand in its specs/. `tools/map.py` compares and says how to mend a difference,
+exit status 1; `tools/map.py --write` writes the map."""
 import os
 import re
 import sys
@@ -12,9 +12,11 @@ BEGIN, END = "<!-- made by tools/map.py -->\n", "<!-- end of the map -->\n"
 
 
 def row(crate):
-    told = tree.sentence(tree.head(tree.source(crate)))
+    if not tree.head(tree.source(crate)):
+        sys.exit(f"{tree.source(crate)} does not begin with a comment that says what the crate is")
+    idea = tree.sentence(tree.head(tree.source(crate)))
     names = ", ".join(f"`{module[1]}`" for module in tree.believed(crate))
-    return f"| `{crate}` | {told} | {names} |\n"
+    return f"| `{crate}` | {idea} | {names} |\n"
 
 
 def made():

@@ -1,15 +1,18 @@
 #!/usr/bin/env python3
 """What moved since a commit: `tools/moved.py COMMIT [--renamed FILE] [--times BEFORE AFTER]`.
 
-Prints, by crate and in all, the lines added and removed of definitions (specs/*.antt), contracts (`requires` and `ensures`
-in .rt), laws (specs/Laws), proofs, code, comments (in .rt and .antt), tests (tests, must-fail edits, examples, benches),
-tools and documents; then by name the definitions and the contracts that changed, are new or are gone. Lines are compared as
-a bag, white space folded: one that only moved counts in neither column of 'in all'. Imports and blank lines do not count.
+Prints, by crate and in all, the lines added and removed of definitions (specs/*.antt), contracts (`requires` and
+`ensures` in .rt), laws (specs/Laws), proofs, code, comments (in .rt and .antt), tests (tests, must-fail edits,
+examples, benches), tools and documents; then by name the definitions and the contracts that changed, are new or are
+gone. Lines are compared as a bag, white space folded: one that only moved counts in neither column of 'in all'. Of
+specs and contracts the lines count of declarations that differ as a whole, so that a line that was only broken does
+not. Imports and blank lines do not count.
 
-FILE has one renaming a line, with paths as they are called now but for OLD: `path OLD NEW`, a file or a folder; `name OLD
-NEW [PATH ..]`, an identifier, everywhere or in these files and folders; `phrase PATH: OLD => NEW`, words of one file, where
-an identifier has two meanings or bytes become text. What differs after these, white space aside, has changed. With two logs
-of the gate, as `bash -c 'time .ci/run'` leaves them, it also prints what each crate's check took before and after."""
+FILE has one renaming a line, with paths as they are called now but for OLD: `path OLD NEW`, a file or a folder;
+`name OLD NEW [PATH ..]`, an identifier, everywhere or in these files and folders; `phrase PATH: OLD => NEW`, words
+of one file, where an identifier has two meanings or bytes become text. What differs after these, white space aside,
+has changed. With two logs of the gate, as `bash -c 'time .ci/run'` leaves them, it also prints what each crate's
+check took before and after."""
 import argparse
 import collections
 import os
@@ -83,19 +86,23 @@ def spans(text):
 
 
 def counted(path, text):
-    """(kind, line) of each line that counts."""
-    kind, at = kind_of(path), 0
+    """(kind, what is compared, how many lines it has) of all that counts."""
+    kind, at, source = kind_of(path), 0, path.endswith((".rt", ".antt"))
     contracts = list(spans(text)) if path.endswith(".rt") else []
+    for start, end in contracts:
+        yield "contracts", " ".join(text[start:end].split()), text[start:end].count("\n")
+    declared = "/specs/" in path and path.endswith(".antt")
+    if declared:
+        for name, _, said, lines in tree.items(text):
+            yield kind, said, lines
     for line in text.split("\n"):
         folded = " ".join(line.split())
-        if not folded or path.endswith((".rt", ".antt")) and re.match(r"(ghost use|use|pub mod|mod)\b", folded):
+        if source and folded.startswith(("//", "--")):
+            yield "comments", folded, 1
+        elif not folded or declared or source and re.match(r"(ghost use|use|pub mod|mod)\b", folded):
             pass
-        elif path.endswith((".rt", ".antt")) and folded.startswith(("//", "--")):
-            yield "comments", folded
-        elif any(start <= at < end for start, end in contracts):
-            yield "contracts", folded
-        else:
-            yield kind, folded
+        elif not any(start <= at < end for start, end in contracts):
+            yield kind, folded, 1
         at += len(line) + 1
 
 
@@ -108,39 +115,43 @@ def read(folder, paths):
 
 
 class Tree:
-    """The files of one state of the repository, told with the paths and names of now."""
+    """The files of one state of the repository, with the paths and names of now."""
 
     def __init__(self, files, renamed):
-        self.lines, self.definitions, self.contracts = (collections.Counter() for _ in range(3))
+        self.lines, self.definitions, self.contracts, self.types = (collections.Counter() for _ in range(4))
+        self.sizes = {}
         self.believed = set()
         for old, text in files:
             path = renamed.path(old)
             text = renamed.text(path, text)
             crate = path.split("/")[1] if path.startswith("crates/") else "-"
-            for kind, line in counted(path, text):
+            for kind, line, size in counted(path, text):
                 self.lines[crate, kind, line] += 1
+                self.sizes[line] = size
             if "/specs/" in path and path.endswith(".antt"):
-                for name, defined, said in tree.items(text):
+                for name, defined, said, _ in tree.items(text):
                     if defined:
                         self.definitions[name, said] += 1
                         if kind_of(path) == "definitions":
                             self.believed.add((name, said))
             if path.endswith(".rt"):
-                for name, _, contract, _ in tree.functions(text):
-                    self.contracts[name, tree.clauses(contract)[1]] += 1
+                for name, signature, contract, _ in tree.functions(text):
+                    self.contracts[name, tree.clauses(signature + contract)[1]] += 1
+                self.types.update(tree.types(text))
 
 
 def sums(less, more, key):
-    """By what key gives, how many lines of one bag the other does not have."""
+    """By what key gives, how many lines of one state the other does not have."""
     bags = [collections.defaultdict(collections.Counter), collections.defaultdict(collections.Counter)]
-    for bag, lines in zip(bags, (less, more)):
-        for (crate, kind, line), n in lines.items():
+    for bag, state in zip(bags, (less, more)):
+        for (crate, kind, line), n in state.lines.items():
             bag[key(crate), kind][line] += n
-    return {at: sum((bags[1][at] - bags[0][at]).values()) for at in set(bags[0]) | set(bags[1])}
+    new = {at: bags[1][at] - bags[0][at] for at in set(bags[0]) | set(bags[1])}
+    return {at: sum(n * more.sizes[line] for line, n in lines.items()) for at, lines in new.items()}
 
 
 def table(before, after, key, names):
-    added, removed = sums(before.lines, after.lines, key), sums(after.lines, before.lines, key)
+    added, removed = sums(before, after, key), sums(after, before, key)
     for name in names:
         cells = ["+%d −%d" % (added.get((name, kind), 0), removed.get((name, kind), 0)) for kind in KINDS]
         cells = ["" if cell == "+0 −0" else cell for cell in cells]
@@ -181,12 +192,17 @@ with tempfile.TemporaryDirectory() as folder:
 after = Tree(read(".", listed("git", "ls-files", "-co", "--exclude-standard")), same)
 
 print("| crate | " + " | ".join(KINDS) + " |\n|" + "---|" * (len(KINDS) + 1))
-table(before, after, lambda crate: crate, tree.crates() + ["-"])
+gone = sorted({crate for crate, _, _ in before.lines} - set(tree.crates()) - {"-"})
+table(before, after, lambda crate: crate, tree.crates() + gone + ["-"])
 table(before, after, lambda crate: "in all", ["in all"])
 compared("definitions", before.believed, after.believed, before.definitions, after.definitions)
 inner = [{said for said in state.definitions if said not in state.believed} for state in (before, after)]
 compared("definitions inside (specs/Laws)", *inner, before.definitions, after.definitions)
-compared("contracts", before.contracts, after.contracts, before.contracts, after.contracts)
+both = {said for said in before.definitions if said in after.definitions}
+say("definitions that a reader no longer believes", {name for name, said in (before.believed - after.believed) & both})
+say("definitions that a reader newly believes", {name for name, said in (after.believed - before.believed) & both})
+compared("contracts, with their signatures,", before.contracts, after.contracts, before.contracts, after.contracts)
+compared("types of the code", before.types, after.types, before.types, after.types)
 if logs:
     (was, whole_was), (took, whole) = (tree.seconds(log, names.crates) for log, names in zip(logs, (renamed, same)))
     print(f"\nThe gate: {whole_was} before, {whole} after.\n\n| crate | before, s | after, s |\n|---|---|---|")

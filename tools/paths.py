@@ -2,14 +2,14 @@
 """Paths into what a proof knows, `c .before .before .fill .ensures`. FUNCTION is a path below proofs/.
 
 tools/paths.py CRATE FUNCTION [NEED ..]
-    prints for each need of a function the records from `c` backwards, each with the number of `.before` that lead to it
-    and its fields
+    prints for each need of a function the records from `c` backwards, each with the number of `.before` that lead
+    to it and its fields
 tools/paths.py --fill CRATE FUNCTION
-    replaces, in the function's Proof.antt, each `@@field` by the path from the `c` of its declaration to the nearest
-    record with that field, `@@/field` by the path to the record itself
+    replaces, in the function's Proof.antt, each `@@field` by the path from the `c` of its declaration to the
+    nearest record with that field, `@@/field` by the path to the record itself
 tools/paths.py --unfill CRATE FUNCTION
-    the way back: each path that --fill would make becomes `@@field` or `@@/field`; run it before a change of the code that
-    shifts paths, and --fill after it"""
+    the way back: each path that --fill would make becomes `@@field` or `@@/field`; run it before a change of the
+    code that shifts paths, and --fill after it"""
 import os
 import re
 import subprocess
@@ -24,6 +24,8 @@ crate, function, *wanted = sys.argv[2:] if mode else sys.argv[1:]
 
 with tempfile.TemporaryDirectory() as folder:
     subprocess.run(["rt", "dev", crate, "--generated", folder + "/g"], capture_output=True)
+    if not os.path.exists(f"{folder}/g/Rattle.{crate}.proofs/proofs/{function}/Lts.antt"):
+        sys.exit(f"{crate} has no function {function}, or `rt dev {crate}` stops before its proofs: run it to see")
     text = open(f"{folder}/g/Rattle.{crate}.proofs/proofs/{function}/Lts.antt").read()
 
 before, fields, needs = {}, {}, {}
@@ -73,7 +75,7 @@ def unfilled(record, line):
         records = chain(record)
         own = [name for name in fields.get(records[n], []) if steps(record, name) == n] if n < len(records) else []
         return f"@@/{own[0]}" + (f" .{field}" if field else "") if own else m.group(0)
-    return re.sub(r"(?<![\w.])c((?: \.before)+)(?: \.([a-z0-9-]+))?", shorter, line)
+    return re.sub(r"(?<![\w.])c(?= \.)((?: \.before)*)(?: \.([a-z0-9-]+))?", shorter, line)
 
 
 if not mode:
@@ -87,6 +89,8 @@ proof, at, lines = f"crates/{crate}/proofs/{function}/Proof.antt", None, []
 for line in open(proof):
     named = re.match(r"\S+ : tie\.Need-(\S+)", line)
     placed = re.search(r"\(c : tie\.([^)\s]+)", line)
+    if re.match(r"pub \S+-spec\b", line):
+        at = None  # inline needs have a `c` of their own
     at = placed.group(1) if placed else needs.get(named.group(1), at) if named else at
     lines.append(line if at is None else (filled if mode == "--fill" else unfilled)(at, line))
 open(proof, "w").writelines(lines)

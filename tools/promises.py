@@ -1,8 +1,9 @@
 #!/usr/bin/env python3
-"""docs/PROMISES.md and the tree: the column 'In' of each row lists the files under crates/ that carry the row's label in a
-comment. `tools/promises.py` compares, `tools/promises.py --write` writes the column. Also wrong: a label in crates/ without
-a row, a row that names no file and does not say what it waits for, and a name in the column before that is no word of the
-crates (in backticks, or as crate::function). Prints what is wrong; exit status 1 if anything is."""
+"""docs/PROMISES.md and the tree: the column 'In' of each row lists the files under crates/ that carry the row's
+label in a comment. `tools/promises.py` compares, `tools/promises.py --write` writes the column. Also wrong: a label
+in crates/ without a row, a row that names no file and does not say what it waits for, and a name in the column
+before that is no word of the crates (in backticks, or as crate::function). Prints what is wrong; exit status 1 if
+anything is."""
 import glob
 import os
 import re
@@ -42,9 +43,9 @@ def known():
     return words
 
 
-def unknown(told, words):
-    """The names that a cell tells and the crates do not have."""
-    names = re.findall(r"`([A-Za-z][\w.-]*)`", told) + re.findall(r"\b([a-z_]+(?:::\w+)+)", told)
+def unknown(cell, words):
+    """The names in a cell and the crates do not have."""
+    names = re.findall(r"`([A-Za-z][\w.-]*)`", cell) + re.findall(r"\b([a-z_]+(?:::\w+)+)", cell)
     there = words | set(tree.crates())
     return [name for name in names if not set(re.split(r"\.|::", name)) <= there]
 

@@ -1,8 +1,9 @@
 #!/usr/bin/env python3
-"""What somebody has to read in order to believe the promises: the modules that the contracts of the entry points and the
-claim cite, and all that these import. Prints the list with line counts. Exit status 1 if the list reaches a law (a module
-below specs/Laws), if an entry point has a `requires`, if a module of definitions stands in specs/ though nothing reads it,
-or if README has another figure.
+"""What somebody has to read in order to believe the promises: the modules that the contracts of the entry points
+and the claim cite, and all that these import. Prints the list with line counts. Exit status 1 if the list reaches a
+law (a module below specs/Laws, or a declaration that is no definition), if an entry point has a `requires`, if a
+public function has a contract of its crate's specs/Contract and README's table does not list it, if a module of
+definitions stands in specs/ though nothing reads it, or if README has another figure.
 
 The entry points are those of README's table, and every exported function (`#[no_mangle]`)."""
 import glob
@@ -35,16 +36,27 @@ def exported():
             yield path.split("/")[1], name
 
 
+def contracted():
+    """(crate, function) of each public function whose contract is one of its crate's specs/Contract."""
+    for path in sorted(glob.glob("crates/*/src/*.rt")):
+        text, crate = open(path).read(), path.split("/")[1]
+        records = [name for module, names in tree.imports(text) if module == (crate, "Contract") for name in names]
+        for name, signature, contract, _ in tree.functions(text):
+            promised = re.findall(r"⌜ (\w+)", contract)
+            if signature.lstrip().startswith("pub ") and promised[-1:] and promised[-1] in records:
+                yield crate, name
+
+
 def cited(crate, name):
     """The modules that the contract of a function cites; no contract or a `requires` is wrong."""
     for path in sorted(glob.glob(f"crates/{crate}/src/*.rt")):
         text = open(path).read()
         for found, _, contract, _ in tree.functions(text):
             if found == name:
-                required, told = tree.clauses(contract)
-                if required or not told:
+                required, said = tree.clauses(contract)
+                if required or not said:
                     wrong.append(f"{crate}::{name} has {'a `requires`' if required else 'no contract'}")
-                words = set(re.findall(r"[^\s(){}⌜⌝,]+", told))
+                words = set(re.findall(r"[^\s(){}⌜⌝,]+", said))
                 return [module for module, names in tree.imports(text) if words & set(names)]
     wrong.append(f"{crate}::{name} is not there")
     return []
@@ -55,6 +67,8 @@ def closure(roots):
     by, types, waiting = dict(roots), set(), list(roots)
     while waiting:
         module = waiting.pop()
+        if not os.path.exists(tree.module_path(module)):
+            sys.exit(f"{by[module]} imports {tree.module_path(module)}, which is not there")
         for other, _ in tree.imports(open(tree.module_path(module)).read()):
             if other[1].startswith("declared."):
                 types.add((other[0], other[1].split(".")[1]))
@@ -80,17 +94,25 @@ def listed(title, modules):
 
 os.chdir(tree.TOP)
 wrong = []
-roots = {CLAIM: "the claim"}
-for crate, name in entry_points():
+roots, entries = {CLAIM: "the claim"}, list(entry_points())
+for crate, name in entries:
     roots.update({module: f"{crate}::{name}" for module in cited(crate, name)})
 core, types = closure(roots)
 outer = dict(roots)
 for crate, name in exported():
     outer.update({module: f"{crate}::{name}" for module in cited(crate, name)})
 whole, more_types = closure(outer)
-for module, by in sorted({**core, **whole}.items()):
+beside, _ = closure({module: "tools/reading.py" for module in BESIDE})
+for module, by in sorted({**core, **whole, **beside}.items()):
     if tree.is_law(module):
         wrong.append(f"{by} reaches the law {tree.module_path(module)}")
+    else:
+        for name, defined, _, _ in tree.items(open(tree.module_path(module)).read()):
+            if not defined:
+                wrong.append(f"{tree.module_path(module)} declares {name}, which is no definition")
+for crate, name in contracted():
+    if (crate, name) not in entries:
+        wrong.append(f"{crate}::{name} has a contract of {crate}/specs/Contract, and README's table does not list it")
 for crate in tree.crates():
     for module in tree.believed(crate):
         if module not in whole and module not in BESIDE:

@@ -1,12 +1,14 @@
 #!/usr/bin/env python3
-"""Adds a column to docs/TIMES.md: `tools/times.py TITLE LOG`, with LOG what `bash -c 'time .ci/run'` printed. The newest column
-comes first; crates are those of crates.txt, and a crate that is gone leaves the table."""
+"""Adds a column to docs/TIMES.md: `tools/times.py TITLE LOG`, with LOG what `bash -c 'time .ci/run'` printed. The
+newest column comes first; crates are those of crates.txt, and a crate that is gone leaves the table."""
 import os
 import re
 import sys
 
 import tree
 
+if len(sys.argv) != 3:
+    sys.exit(__doc__)
 title, log = sys.argv[1], os.path.abspath(sys.argv[2])
 os.chdir(tree.TOP)
 text = open("docs/TIMES.md").read()

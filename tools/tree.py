@@ -1,5 +1,5 @@
-"""What the tools of this folder know of the repository: its parts and crates, the modules of specs, what a module holds,
-and the contracts of functions."""
+"""What the tools of this folder know of the repository: its parts and crates, the modules of specs, what a module
+holds, and the contracts of functions."""
 import collections
 import glob
 import os
@@ -9,7 +9,7 @@ TOP = os.path.join(os.path.dirname(os.path.abspath(__file__)), "..")
 
 
 def parts():
-    """The parts of the repository as crates.txt has them: (title, [crate ..]), lowest first."""
+    """The parts of the repository as crates.txt has them: (title, [crate ..])."""
     found = []
     for line in open("crates.txt"):
         title = re.match(r"# -- (.*)", line)
@@ -66,13 +66,14 @@ def believed(crate):
     return [(crate, name) for name in names if name not in ("Lib", "Laws")]
 
 
-IMPORT = re.compile(r"^(?:ghost )?use Rattle·(\w+?)(?:·specs)?(?:\.specs)\.([\w.]*\w)\.\{([^}]*)\};?$", re.M)
+IMPORT = re.compile(r"^(?:ghost )?use Rattle·(\w+?)(?:·specs)?\.specs\.([\w.]*\w)(?:\.\{([^}]*)\}| as \w+|);?$", re.M)
 
 
 def imports(text):
-    """(module, [name ..]) for each import of specs, the types of the code (`declared`) among them."""
+    """(module, [name ..]) for each import of specs, the types of the code (`declared`) among them; no names where the
+    module is imported as a whole."""
     for crate, module, names in IMPORT.findall(text):
-        yield (crate, module), [re.sub(r".* as ", "", name).strip() for name in names.split(",")]
+        yield (crate, module), [re.sub(r".* as ", "", name).strip() for name in names.split(",") if name.strip()]
 
 
 # ---- what a module holds
@@ -80,24 +81,35 @@ def imports(text):
 DECLARED = re.compile(r"^ *(abbrev |unfoldable )?(?:pub )?(record |data )?([^\s:({]+)[^\n]*?(?: :|$)")
 
 
+def folded(lines):
+    """Lines of specs as one, without `pub`, as the layout has it where all stands on one line."""
+    said = " ".join(" ".join(lines).replace("pub ", "").split())
+    return re.sub(r"[;,]? ([)}])", r"\1", re.sub(r"([({]) ", r"\1", said))
+
+
 def items(text):
-    """The declarations of a module: (name, whether it is a definition, its text without comments and `pub`, white space
-    folded)."""
-    found, lines = [], [re.sub(r"(^|\s)-- .*$", "", line).rstrip() for line in text.split("\n")]
-    block = []
+    """What a module declares: (name, whether it is a definition, its text without comments and `pub`, white space
+    folded, how many lines it has). The parameters of a module are a definition called `module`, an import under
+    another name is one called `use`."""
+    found, block = [], []
+    for line in re.findall(r"^(?:ghost )?use Rattle·\S*\.\{[^}]* as [^}]*\}", text, re.M):
+        found += [("use", True, renamed.strip(), 1) for renamed in re.split(r"[{},]", line) if " as " in renamed]
+    lines = [line.rstrip() for line in text.split("\n") if not re.match(r"\s*--( |$)", line)]
     for line in lines + [""]:
         if line.strip():
             block.append(line)
             continue
         while block and re.match(r"\s*(use|pub mod|infix|module)\b", block[0]):
-            heads = [i for i, head in enumerate(block) if head.endswith(" where")] if "module" in block[0] else []
-            block = block[heads[0] + 1:] if heads else block[1:]
+            ends = [i for i, head in enumerate(block) if head.endswith(" where")] if "module" in block[0] else []
+            if ends:
+                found.append(("module", True, folded(block[:ends[0] + 1]), ends[0] + 1))
+            elif "infix" in block[0]:
+                found.append(("infix", True, folded(block[:1]), 1))
+            block = block[ends[0] + 1:] if ends else block[1:]
         if block:
             named = DECLARED.match(block[0])
             name = named.group(3) if named else block[0].split()[0]
-            said = " ".join(" ".join(block).replace("pub ", "").split())
-            said = re.sub(r"[;,]? ([)}])", r"\1", re.sub(r"([({]) ", r"\1", said))  # as the layout has it on one line
-            found.append((name, bool(named and (named.group(1) or named.group(2))), said))
+            found.append((name, bool(named and (named.group(1) or named.group(2))), folded(block), len(block)))
         block = []
     return found
 
@@ -108,8 +120,8 @@ FUNCTION = re.compile(r"^(?: *)(?:pub )?(?:extern \"C\" )?fn (\w+)\(", re.M)
 
 
 def functions(text):
-    """(name, signature, contract, place of the body) of each function of a file; the contract is what stands between its
-    signature and its body."""
+    """(name, signature, contract, place of the body) of each function of a file; the contract is what stands
+    between its signature and its body."""
     for found in FUNCTION.finditer(text):
         opened = re.compile(r"^ *\{$", re.M).search(text, found.end())
         inline = text.find(" {\n", found.end())
@@ -119,6 +131,13 @@ def functions(text):
             yield found.group(1), text[found.start():at], text[at:end], end
         else:
             yield found.group(1), text[found.start():inline], "", inline
+
+
+def types(text):
+    """(name, text) of each struct and enum of a file, comments aside."""
+    text = re.sub(r"^\s*//.*\n", "", text, flags=re.M)
+    for found in re.finditer(r"^(?:pub )?(?:struct|enum) (\w+)[^;{]*(?:\{.*?^\}|;)", text, re.M | re.S):
+        yield found.group(1), " ".join(found.group(0).split())
 
 
 def clauses(contract):

@@ -1,11 +1,11 @@
 #!/usr/bin/env python3
-"""Turns vectors told as one JSON object a line into the plain form that tests/vectors.rs reads.
+"""Turns vectors, one JSON object a line, into the plain form that tests/vectors.rs reads.
 
 usage: convert.py BASE.jsonl > base.txt
-A vector is a block of lines, a key and its words; an empty line ends it. Words are decimal numbers, except that bytes are
-given as runs:
-H:hex:times (these bytes so many times) or U:first:count (that many 8-byte numbers counting up, low byte first).
-"""
+
+A vector is a block of lines, a key and its words; an empty line ends it.
+Words are decimal numbers, except that bytes are given as runs:
+H:hex:times (these bytes so many times) or U:first:count (that many 8-byte numbers counting up, low byte first)."""
 import json
 import sys
 
@@ -24,14 +24,14 @@ def sheet(s):
 def answer(expect):
     if "refused" in expect:
         return ["refused"] + expect["refused"]
-    told = expect.get("answer")
-    if told == "met":
+    kind = expect.get("answer")
+    if kind == "met":
         return ["met", expect["choice"], expect["changes"], expect["slots"]]
-    if told == "cannot be met":
+    if kind == "cannot be met":
         return ["unmet", expect["slots"]]
-    if told == "no room":
+    if kind == "no room":
         return ["room", expect["d"], expect["slots"]]
-    if told == "accepted":
+    if kind == "accepted":
         return ["accepted"]
     if "length" in expect:
         return ["written", expect["length"]]

@@ -226,11 +226,11 @@ pub fn certificate(f: &Formula, slots: &Slots, filled: usize) -> Result<Vec<u8>,
             &mut out,
             &mut reply,
         );
-        let told = refusal(&reply);
-        match (reply[0], told.number) {
+        let refused = refusal(&reply);
+        match (reply[0], refused.number) {
             (sys::WRITTEN, _) => return Ok(out),
-            (_, 19) => out = vec![0; told.place as usize],
-            _ => return Err(told),
+            (_, 19) => out = vec![0; refused.place as usize],
+            _ => return Err(refused),
         }
     }
 }

@@ -45,12 +45,12 @@ falsifies (some c) x = not (satisfies c x)
 -- which it falsifies
 unfoldable pub numberPasses : List Numbered → List ℕ → List ℕ → ℕ → Bool
 unfolding clauseNumbered falsifies
-numberPasses clauses points numbers i = falsifies (clauseNumbered clauses (getD numbers i 0)) (getD points i 0)
+numberPasses clauses points falsified i = falsifies (clauseNumbered clauses (getD falsified i 0)) (getD points i 0)
 
 -- R17: "rule number not 1 to m, or its point meets it | 17 | point's number"
 unfoldable pub numbersFault : List Numbered → ℕ → List ℕ → List ℕ → Fault
 unfolding firstFailing range numberPasses faultAt
-numbersFault clauses count points numbers = faultAt 17 (firstFailing (numberPasses clauses points numbers)
+numbersFault clauses count points falsified = faultAt 17 (firstFailing (numberPasses clauses points falsified)
     (below count))
 
 -- R19: "output too short | 19 | length needed (bytes here)"

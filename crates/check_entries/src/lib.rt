@@ -20,7 +20,7 @@ fn lists_refusal(
     positive: &[u64],
     negative: &[u64],
     points: &[u64],
-    numbers: &[u32],
+    falsified: &[u32],
     count: usize,
     links: &mut [u32],
     heads: usize,
@@ -31,14 +31,14 @@ fn lists_refusal(
     requires { ⌜ Ready n permutations (now images) (now positive) (now negative) count (now points) heads (now links) ⌝ }
     ensures { λ r. ⌜ faultOf r ≡ listsFault n (numbered (clausesOf (now (positive .entry)) (now (negative .entry))))
         (permutationsIn n permutations (now (images .entry)))
-        (take count (pointsOf (now (points .entry)))) (take count (now (numbers .entry))) ⌝ }
+        (take count (pointsOf (now (points .entry)))) (take count (now (falsified .entry))) ⌝ }
 {
     let most = Formula::MAX_SLOTS as usize;
     let sixteen = points_refusal(links, heads, points, n, count, most);
     let Checked::Passed = sixteen else {
         return sixteen;
     };
-    let seventeen = numbers_refusal(positive, negative, points, numbers, count);
+    let seventeen = numbers_refusal(positive, negative, points, falsified, count);
     let Checked::Passed = seventeen else {
         return seventeen;
     };
@@ -46,7 +46,7 @@ fn lists_refusal(
         positive,
         negative,
         points,
-        numbers,
+        falsified,
         count,
         links,
         heads,
@@ -61,7 +61,7 @@ fn copied_refusal(
     positive: &[u64],
     negative: &[u64],
     points: &[u8],
-    numbers: &[u8],
+    falsified: &[u8],
     count: usize,
     images: &[u8],
     n: u32,
@@ -72,13 +72,13 @@ fn copied_refusal(
     heads: usize,
 ) -> Checked
     requires { ⌜ Decodable n permutations (now images) (now positive) (now negative) count heads (now points)
-        (now numbers)
+        (now falsified)
         × Lent heads (pointsOf (now held)) (now named) (now links) ⌝ }
     ensures { λ r. ⌜ faultOf r ≡ entriesFault n permutations (now (images .entry)) (now (positive .entry))
-        (now (negative .entry)) count (now (points .entry)) (now (numbers .entry)) ⌝ }
+        (now (negative .entry)) count (now (points .entry)) (now (falsified .entry)) ⌝ }
 {
     points_into(held, points, count);
-    numbers_into(named, numbers, count);
+    numbers_into(named, falsified, count);
     lists_refusal(
         positive,
         negative,
@@ -98,16 +98,16 @@ fn few_refusal(
     positive: &[u64],
     negative: &[u64],
     points: &[u8],
-    numbers: &[u8],
+    falsified: &[u8],
     count: usize,
     images: &[u8],
     n: u32,
     permutations: u32,
 ) -> Checked
     requires { ⌜ Decodable n permutations (now images) (now positive) (now negative) count 1024 (now points)
-        (now numbers) ⌝ }
+        (now falsified) ⌝ }
     ensures { λ r. ⌜ faultOf r ≡ entriesFault n permutations (now (images .entry)) (now (positive .entry))
-        (now (negative .entry)) count (now (points .entry)) (now (numbers .entry)) ⌝ }
+        (now (negative .entry)) count (now (points .entry)) (now (falsified .entry)) ⌝ }
 {
     let mut held = [0u64; 1024];
     let mut named = [0u32; 1024];
@@ -116,7 +116,7 @@ fn few_refusal(
         positive,
         negative,
         points,
-        numbers,
+        falsified,
         count,
         images,
         n,
@@ -133,16 +133,16 @@ fn many_refusal(
     positive: &[u64],
     negative: &[u64],
     points: &[u8],
-    numbers: &[u8],
+    falsified: &[u8],
     count: usize,
     images: &[u8],
     n: u32,
     permutations: u32,
 ) -> Checked
     requires { ⌜ Decodable n permutations (now images) (now positive) (now negative) count 65536 (now points)
-        (now numbers) ⌝ }
+        (now falsified) ⌝ }
     ensures { λ r. ⌜ faultOf r ≡ entriesFault n permutations (now (images .entry)) (now (positive .entry))
-        (now (negative .entry)) count (now (points .entry)) (now (numbers .entry)) ⌝ }
+        (now (negative .entry)) count (now (points .entry)) (now (falsified .entry)) ⌝ }
 {
     let mut held = [0u64; 65536];
     let mut named = [0u32; 65536];
@@ -151,7 +151,7 @@ fn many_refusal(
         positive,
         negative,
         points,
-        numbers,
+        falsified,
         count,
         images,
         n,
@@ -169,23 +169,23 @@ pub fn decoded_refusal(
     positive: &[u64],
     negative: &[u64],
     points: &[u8],
-    numbers: &[u8],
+    falsified: &[u8],
     count: usize,
     images: &[u8],
     n: u32,
     permutations: u32,
 ) -> Checked
     requires { ⌜ Decodable n permutations (now images) (now positive) (now negative) count 65536 (now points)
-        (now numbers) ⌝ }
+        (now falsified) ⌝ }
     ensures { λ r. ⌜ faultOf r ≡ entriesFault n permutations (now (images .entry)) (now (positive .entry))
-        (now (negative .entry)) count (now (points .entry)) (now (numbers .entry)) ⌝ }
+        (now (negative .entry)) count (now (points .entry)) (now (falsified .entry)) ⌝ }
 {
     if count <= 1024 {
         few_refusal(
             positive,
             negative,
             points,
-            numbers,
+            falsified,
             count,
             images,
             n,
@@ -196,7 +196,7 @@ pub fn decoded_refusal(
             positive,
             negative,
             points,
-            numbers,
+            falsified,
             count,
             images,
             n,

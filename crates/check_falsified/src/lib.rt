@@ -36,13 +36,13 @@ fn number_passes(
     positive: &[u64],
     negative: &[u64],
     points: &[u64],
-    numbers: &[u32],
+    falsified: &[u32],
     i: usize,
 ) -> bool
     ensures { λ r. ⌜ r ≡ numberPasses (numbered (clausesOf (now (positive .entry)) (now (negative .entry))))
-        (pointsOf (now (points .entry))) (now (numbers .entry)) i ⌝ }
+        (pointsOf (now (points .entry))) (now (falsified .entry)) i ⌝ }
 {
-    let k = number_at(numbers, i);
+    let k = number_at(falsified, i);
     let x = point_at(points, i);
     falsifies(positive, negative, k, x)
 }
@@ -52,16 +52,16 @@ fn first_bad_number(
     positive: &[u64],
     negative: &[u64],
     points: &[u64],
-    numbers: &[u32],
+    falsified: &[u32],
     count: usize,
 ) -> usize
     ensures { λ r. ⌜ r ≡ firstFailing (numberPasses (numbered
         (clausesOf (now (positive .entry)) (now (negative .entry)))) (pointsOf (now (points .entry)))
-        (now (numbers .entry))) (below count) ⌝ }
+        (now (falsified .entry))) (below count) ⌝ }
 {
     let mut i = 0;
     while i < count {
-        let fine = number_passes(positive, negative, points, numbers, i);
+        let fine = number_passes(positive, negative, points, falsified, i);
         if !fine {
             return i + 1;
         }
@@ -75,13 +75,13 @@ pub fn numbers_refusal(
     positive: &[u64],
     negative: &[u64],
     points: &[u64],
-    numbers: &[u32],
+    falsified: &[u32],
     count: usize,
 ) -> Checked
     ensures { λ r. ⌜ faultOf r ≡ numbersFault (numbered (clausesOf (now (positive .entry)) (now (negative .entry))))
-        count (pointsOf (now (points .entry))) (now (numbers .entry)) ⌝ }
+        count (pointsOf (now (points .entry))) (now (falsified .entry)) ⌝ }
 {
-    let k = first_bad_number(positive, negative, points, numbers, count);
+    let k = first_bad_number(positive, negative, points, falsified, count);
     if k == 0 {
         Checked::Passed
     } else {

@@ -20,11 +20,11 @@ flipsOf n (some c) x = map (flip x) (variables n c)
 -- the point of index i passes if all its flips are covered
 unfoldable pub flipsPass : ℕ → List Numbered → List Permutation → List ℕ → List ℕ → ℕ → Bool
 unfolding all covered flipsOf clauseNumbered
-flipsPass n clauses permutations points numbers i =
-    all (covered permutations points) (flipsOf n (clauseNumbered clauses (getD numbers i 0)) (getD points i 0))
+flipsPass n clauses permutations points falsified i =
+    all (covered permutations points) (flipsOf n (clauseNumbered clauses (getD falsified i 0)) (getD points i 0))
 
 -- R18: "a flip uncovered | 18 | point's number"
 unfoldable pub flipsFault : ℕ → List Numbered → List Permutation → List ℕ → List ℕ → Fault
 unfolding firstFailing range flipsPass faultAt
-flipsFault n clauses permutations points numbers =
-    faultAt 18 (firstFailing (flipsPass n clauses permutations points numbers) (below (length points)))
+flipsFault n clauses permutations points falsified =
+    faultAt 18 (firstFailing (flipsPass n clauses permutations points falsified) (below (length points)))

@@ -88,7 +88,7 @@ fn flips_pass(
     positive: &[u64],
     negative: &[u64],
     points: &[u64],
-    numbers: &[u32],
+    falsified: &[u32],
     count: usize,
     links: &[u32],
     heads: usize,
@@ -103,9 +103,9 @@ fn flips_pass(
         × Imaged n permutations (now images) (getD (pointsOf (now points)) i 0) (pointsOf (now moved)) ⌝ }
     ensures { λ r. ⌜ r ≡ flipsPass n (numbered (clausesOf (now (positive .entry)) (now (negative .entry))))
         (permutationsIn n permutations (now (images .entry)))
-        (take count (pointsOf (now (points .entry)))) (now (numbers .entry)) i ⌝ }
+        (take count (pointsOf (now (points .entry)))) (now (falsified .entry)) i ⌝ }
 {
-    let k = number_at(numbers, i);
+    let k = number_at(falsified, i);
     let x = point_at(points, i);
     let listed = variables_of(positive, negative, k);
     flips_covered(
@@ -128,7 +128,7 @@ fn first_uncovered(
     positive: &[u64],
     negative: &[u64],
     points: &[u64],
-    numbers: &[u32],
+    falsified: &[u32],
     count: usize,
     links: &[u32],
     heads: usize,
@@ -141,7 +141,7 @@ fn first_uncovered(
     ensures { λ r. ⌜ r ≡ firstFailing (flipsPass n (numbered
         (clausesOf (now (positive .entry)) (now (negative .entry))))
         (permutationsIn n permutations (now (images .entry)))
-        (take count (pointsOf (now (points .entry)))) (now (numbers .entry))) (below count) ⌝ }
+        (take count (pointsOf (now (points .entry)))) (now (falsified .entry))) (below count) ⌝ }
 {
     let mut moved = [0u64; 16];
     let mut seen: Point = 0;
@@ -154,7 +154,7 @@ fn first_uncovered(
             positive,
             negative,
             points,
-            numbers,
+            falsified,
             count,
             links,
             heads,
@@ -179,7 +179,7 @@ pub fn flips_refusal(
     positive: &[u64],
     negative: &[u64],
     points: &[u64],
-    numbers: &[u32],
+    falsified: &[u32],
     count: usize,
     links: &[u32],
     heads: usize,
@@ -191,13 +191,13 @@ pub fn flips_refusal(
         ⌝ }
     ensures { λ r. ⌜ faultOf r ≡ flipsFault n (numbered (clausesOf (now (positive .entry)) (now (negative .entry))))
         (permutationsIn n permutations (now (images .entry)))
-        (take count (pointsOf (now (points .entry)))) (now (numbers .entry)) ⌝ }
+        (take count (pointsOf (now (points .entry)))) (now (falsified .entry)) ⌝ }
 {
     let k = first_uncovered(
         positive,
         negative,
         points,
-        numbers,
+        falsified,
         count,
         links,
         heads,

@@ -69,7 +69,7 @@ orEmpty (some c) = c
 -- to each point the clause of its number
 unfoldable pub transportOf : List Numbered → List ℕ → List ℕ → ℕ → Clause
 unfolding orEmpty clauseNumbered numberBeside
-transportOf clauses points numbers x = orEmpty (clauseNumbered clauses (numberBeside points numbers x))
+transportOf clauses points falsified x = orEmpty (clauseNumbered clauses (numberBeside points falsified x))
 
 -- k is the number of a clause of the formula that a transport function gives to x
 pub record Names (clauses : List Numbered) (g : ℕ → Clause) (x k : ℕ) : Type 0 where

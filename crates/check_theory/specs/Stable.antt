@@ -22,7 +22,8 @@ pub record Transported (n : ℕ) (clauses : List Numbered) (permutations : List 
 
 -- K1: "It accepts a certificate for a sheet's rules exactly if all of these hold": those about its lists, each with its
 -- limit
-pub record Stable (n : ℕ) (clauses : List Numbered) (permutations : List Permutation) (points numbers : List ℕ) : Type 0
+pub record Stable (n : ℕ) (clauses : List Numbered) (permutations : List Permutation) (points falsified : List ℕ) : Type
+    0
   where
     -- "its exchanges are permutations and keep the rules"
     pub fewPermutations : length permutations ≤ maxPermutations
@@ -35,7 +36,7 @@ pub record Stable (n : ℕ) (clauses : List Numbered) (permutations : List Permu
     -- "no point repeats"
     pub distinct : Distinct points
     -- "counts and lengths fit"
-    pub paired : length numbers ≡ length points
+    pub paired : length falsified ≡ length points
     -- "each point fails its rule, and each point got by flipping a name of that rule is covered by the points"
     pub transported : (i : ℕ) → i < length points
-        → Transported n clauses permutations points (getD points i 0) (getD numbers i 0)
+        → Transported n clauses permutations points (getD points i 0) (getD falsified i 0)

@@ -36,14 +36,14 @@ checkFault f positive negative file =
     let n = pb .variables in
     let permutations = filePermutations file in
     let points = filePoints file in
-    let numbers = fileNumbers file in
+    let falsified = fileNumbers file in
     let row14 = fileFault file in
     let row15 = sizesFault n (pb .total) file in
     let row11 = permutationFault n permutations in
     let row12 = symmetryFault (pb .clauses) permutations in
     let row16 = pointsFault maxSlots n (length points) points in
-    let row17 = numbersFault (pb .clauses) (length points) points numbers in
-    let row18 = flipsFault n (pb .clauses) permutations points numbers in
+    let row17 = numbersFault (pb .clauses) (length points) points falsified in
+    let row18 = flipsFault n (pb .clauses) permutations points falsified in
     first (clausesFault f positive negative ∷ row14 ∷ row15 ∷ row11 ∷ row12 ∷ row16 ∷ row17 ∷ row18 ∷ [])
 
 -- K1: "It accepts a certificate for a sheet's rules exactly if all of these hold": accepted where no row finds a fault

@@ -59,12 +59,12 @@ fn bodies_refusal(c: Contents, positive: &[u64], negative: &[u64], file: &[u8]) 
     }
     let count = c.points as usize;
     let points = &file[second..third];
-    let numbers = &file[third..file.len()];
+    let falsified = &file[third..file.len()];
     decoded_refusal(
         positive,
         negative,
         points,
-        numbers,
+        falsified,
         count,
         images,
         n,

@@ -131,8 +131,7 @@ abbrev pub caseB : Case
 caseB = record {
   formula = plain 3 2;
   positive = 3 ∷ 4 ∷ [];
-  negative = 0 ∷ 1
-      ∷ [];
+  negative = 0 ∷ 1 ∷ [];
   lent = 65536;
   reply = satisfiable 2 1 4;
   slots = none;
@@ -144,8 +143,7 @@ abbrev pub caseB-3 : Case
 caseB-3 = record {
   formula = plain 3 2;
   positive = 3 ∷ 4 ∷ [];
-  negative = 0 ∷ 1
-      ∷ [];
+  negative = 0 ∷ 1 ∷ [];
   lent = 3;
   reply = unknown 1 3;
   slots = none;
@@ -170,8 +168,7 @@ abbrev pub case-empty : Case
 case-empty = record {
   formula = plain 1 1;
   positive = 0 ∷ [];
-  negative = 0
-      ∷ [];
+  negative = 0 ∷ [];
   lent = 65536;
   reply = unsatisfiable 1;
   slots = none;
@@ -183,8 +180,7 @@ abbrev pub case-both : Case
 case-both = record {
   formula = plain 1 1;
   positive = 1 ∷ [];
-  negative = 1
-      ∷ [];
+  negative = 1 ∷ [];
   lent = 1;
   reply = satisfiable 0 0 1;
   slots = none;

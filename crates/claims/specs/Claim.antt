@@ -16,7 +16,7 @@ use Rattle.search_theory.specs.Walk.{Slot}
 use Rattle.certificate.specs.Writer.{lengthNeeded, writeReply, writeOutput}
 use Rattle.checker.specs.Checker.{checkReply}
 
--- ---- an accepted sheet, and the builder's answer to it
+-- ---- an accepted sheet, and the search's answer to it
 
 -- W12: "whether read from text or handed to the builder by value": a text with the two clause slices lent to the
 -- reader; or a formula and its clauses
@@ -54,7 +54,7 @@ pub record Slots : Type 0 where
 abbrev pub lent : Slots → ℕ
 lent l = lentBy (l .points) (l .falsified) (l .depths)
 
--- the builder answers r, which is no refusal: W12: "an accepted sheet is one that neither reader nor builder refuses"
+-- the search answers r, which is no refusal: W12: "an accepted sheet is one that neither reader nor builder refuses"
 pub record SearchAnswers (s : Sheet) (l : Slots) (r : Reply) : Type 0 where
   pub readable : Readable s
   pub reply : searchReply (formulaIn s) (positiveIn s) (negativeIn s) (lent l) ≡ r

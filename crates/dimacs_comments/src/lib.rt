@@ -1,5 +1,5 @@
-// The two comments with meaning, the target line and the permutation line, and what the lines have said so far, one
-// function for each kind of line.
+// One function for each kind of line with a meaning: the target line, the permutation line and a line of words. They
+// hand on what the lines have said so far.
 use dimacs_clauses::Begun;
 use dimacs_clauses::Taken;
 use dimacs_clauses::clause_line;

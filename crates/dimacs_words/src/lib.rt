@@ -1,4 +1,4 @@
-// Bytes, runs of bytes, and the numbers that words are.
+// The bytes of a text: blanks and digits, runs of bytes, and words read as numbers.
 ghost use mathlib.Core.Path.{_≡_};
 ghost use Prim.Native.Nat.{_≤_, _<_};
 ghost use lib.ListN.{length, getD};

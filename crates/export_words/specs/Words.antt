@@ -33,14 +33,13 @@ formulaFrom variables clauses target permutations bytes =
       clauses = clauses;
       target = target;
       permutations = permutations;
-      images = imagesFrom
-          bytes;
+      images = imagesFrom bytes;
     }
 
 -- whether a slice has room for an answer's four words
 abbrev pub hasRoom : List ℕ → Bool
 hasRoom reply = leb 4 (length reply)
 
--- and its numbers
+-- the four numbers of a formula, beside its images
 abbrev pub numbersOf : Formula → List ℕ
 numbersOf f = f .variables ∷ f .clauses ∷ f .target ∷ f .permutations ∷ []

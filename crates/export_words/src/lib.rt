@@ -1,5 +1,4 @@
-// Formulas and answers as the numbers, bytes and words in which programs in other languages hand them over and get
-// them.
+// Formulas and answers as numbers, bytes and words in lent slices, for programs in other languages.
 use certificate::Contents;
 use certificate::Entry;
 use certificate::Opened;

@@ -1,4 +1,5 @@
--- What the exported checker and the exported readers of certificates return, and what they leave in the slices lent to them. Assumes nothing.
+-- What the exported checker and the exported readers of certificates return, and what they leave in the slices lent to
+-- them. Assumes nothing.
 use mathlib.Core.Bool.{Bool, cond, _&&_}
 use mathlib.Core.List.{List}
 use mathlib.Core.Option.{Option}
@@ -22,12 +23,13 @@ pub record CheckReturns (f : Formula) (positive negative file reply₀ : List �
 abbrev pub hasContentsRoom : List ℕ → List ℕ → Bool
 hasContentsRoom contents reply = hasRoom reply && leb 8 (length contents)
 
--- N7 for a caller in another language: with room for both, the answer and the contents are the reader's, and a refusal leaves the contents as they were; without,
--- nothing changes
+-- N7 for a caller in another language: with room for both, the answer and the contents are the reader's, and a refusal
+-- leaves the contents as they were; without, nothing changes
 pub record OpenReturns (file contents₀ reply₀ : List ℕ) (r : ℕ) (contents₁ reply₁ : List ℕ) : Type 0 where
   pub returned : r ≡ cond (hasContentsRoom contents₀ reply₀) 1 0
   pub reply : reply₁ ≡ cond (hasContentsRoom contents₀ reply₀) (over (wordsOf (openedReply file)) reply₀) reply₀
-  pub contents : contents₁ ≡ cond (hasContentsRoom contents₀ reply₀) (over (contentsWords (openedContents file)) contents₀) contents₀
+  pub contents : contents₁ ≡ cond (hasContentsRoom contents₀ reply₀)
+      (over (contentsWords (openedContents file)) contents₀) contents₀
 
 -- whether there is room for the two words of an entry
 abbrev pub hasEntryRoom : List ℕ → Bool

@@ -12,7 +12,8 @@ use Rattle.program.specs.Program.{printed}
 abbrev pub hasTextRoom : List ℕ → Bool
 hasTextRoom out = leb 312 (length out)
 
--- "The program `nearest`" for a caller in another language: with room, what it prints and how many bytes that is; without, nothing changes
+-- "The program `nearest`" for a caller in another language: with room, what it prints and how many bytes that is;
+-- without, nothing changes
 pub record NearestReturns (text out₀ : List ℕ) (r : ℕ) (out₁ : List ℕ) : Type 0 where
   pub returned : r ≡ cond (hasTextRoom out₀) (length (printed text)) 0
   pub output : out₁ ≡ cond (hasTextRoom out₀) (over (printed text) out₀) out₀

@@ -13,11 +13,18 @@ use Rattle.export_words.specs.Words.{wordsOf, hasRoom, numbersOf}
 abbrev pub hasFormulaRoom : List ℕ → List ℕ → List ℕ → Bool
 hasFormulaRoom numbers images reply = hasRoom reply && hasRoom numbers && leb 1024 (length images)
 
--- D2.1 for a caller in another language: with room for the answer, it, the formula and the clause slices are the reader's; without, nothing changes
-pub record ReadReturns (text positive₀ negative₀ numbers₀ images₀ reply₀ : List ℕ) (r : ℕ) (positive₁ negative₁ numbers₁ images₁ reply₁ : List ℕ) : Type 0 where
+-- D2.1 for a caller in another language: with room for the answer, it, the formula and the clause slices are the
+-- reader's; without, nothing changes
+pub record ReadReturns (text positive₀ negative₀ numbers₀ images₀ reply₀ : List ℕ) (r : ℕ)
+    (positive₁ negative₁ numbers₁ images₁ reply₁ : List ℕ) : Type 0 where
   pub returned : r ≡ cond (hasFormulaRoom numbers₀ images₀ reply₀) 1 0
-  pub reply : reply₁ ≡ cond (hasFormulaRoom numbers₀ images₀ reply₀) (over (wordsOf (readReply text positive₀ negative₀)) reply₀) reply₀
-  pub numbers : numbers₁ ≡ cond (hasFormulaRoom numbers₀ images₀ reply₀) (over (numbersOf (readFormula text positive₀ negative₀)) numbers₀) numbers₀
-  pub images : images₁ ≡ cond (hasFormulaRoom numbers₀ images₀ reply₀) (over (readFormula text positive₀ negative₀ .images) images₀) images₀
-  pub positive : positive₁ ≡ cond (hasFormulaRoom numbers₀ images₀ reply₀) (readPositive text positive₀ negative₀) positive₀
-  pub negative : negative₁ ≡ cond (hasFormulaRoom numbers₀ images₀ reply₀) (readNegative text positive₀ negative₀) negative₀
+  pub reply : reply₁ ≡ cond (hasFormulaRoom numbers₀ images₀ reply₀)
+      (over (wordsOf (readReply text positive₀ negative₀)) reply₀) reply₀
+  pub numbers : numbers₁ ≡ cond (hasFormulaRoom numbers₀ images₀ reply₀)
+      (over (numbersOf (readFormula text positive₀ negative₀)) numbers₀) numbers₀
+  pub images : images₁ ≡ cond (hasFormulaRoom numbers₀ images₀ reply₀)
+      (over (readFormula text positive₀ negative₀ .images) images₀) images₀
+  pub positive : positive₁ ≡ cond (hasFormulaRoom numbers₀ images₀ reply₀) (readPositive text positive₀ negative₀)
+      positive₀
+  pub negative : negative₁ ≡ cond (hasFormulaRoom numbers₀ images₀ reply₀) (readNegative text positive₀ negative₀)
+      negative₀

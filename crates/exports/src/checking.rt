@@ -15,7 +15,8 @@ ghost use Rattle.certificate.specs.Certificate.{numberAt, imageAt};
 ghost use Rattle.export_words.specs.Words.{formulaFrom};
 ghost use Rattle.exports.specs.Checking.{CheckReturns, OpenReturns, EntryReturns};
 
-// The checker, its answer put into the first four words of `reply`. It returns 1; where `reply` has no room it returns 0 and changes nothing.
+// The checker, its answer put into the first four words of `reply`. It returns 1; where `reply` has no room it returns
+// 0 and changes nothing.
 #[no_mangle]
 pub extern "C" fn jugbowo_check(
     variables: u32,
@@ -28,7 +29,8 @@ pub extern "C" fn jugbowo_check(
     file: &[u8],
     reply: &mut [u64],
 ) -> u32
-    ensures { λ r. ⌜ CheckReturns (formulaFrom variables clauses target permutations (now (images .entry))) (now (positive .entry)) (now (negative .entry)) (now (file .entry)) (now (reply .entry)) r (now (reply .exit)) ⌝ }
+    ensures { λ r. ⌜ CheckReturns (formulaFrom variables clauses target permutations (now (images .entry)))
+        (now (positive .entry)) (now (negative .entry)) (now (file .entry)) (now (reply .entry)) r (now (reply .exit)) ⌝ }
 {
     if reply.len() < WORDS {
         return 0;
@@ -39,11 +41,13 @@ pub extern "C" fn jugbowo_check(
     1
 }
 
-// The reader of a file's contents, its answer put into the first four words of `reply`; where it is opened its contents, eight numbers in their order, are
-// put into the first eight words of `contents`. It returns 1; where one of the two has no room it returns 0 and changes nothing.
+// The reader of a file's contents, its answer put into the first four words of `reply`; where it is opened its
+// contents, eight numbers in their order, are put into the first eight words of `contents`. It returns 1; where one of
+// the two has no room it returns 0 and changes nothing.
 #[no_mangle]
 pub extern "C" fn jugbowo_open(file: &[u8], contents: &mut [u64], reply: &mut [u64]) -> u32
-    ensures { λ r. ⌜ OpenReturns (now (file .entry)) (now (contents .entry)) (now (reply .entry)) r (now (contents .exit)) (now (reply .exit)) ⌝ }
+    ensures { λ r. ⌜ OpenReturns (now (file .entry)) (now (contents .entry)) (now (reply .entry)) r
+        (now (contents .exit)) (now (reply .exit)) ⌝ }
 {
     if reply.len() < WORDS {
         return 0;
@@ -56,8 +60,9 @@ pub extern "C" fn jugbowo_open(file: &[u8], contents: &mut [u64], reply: &mut [u
     1
 }
 
-// Where the permutation of index j in a body of permutations of n variables sends variable i + 1, put into the first two words of `reply`: 1 and the
-// image, or 0 and 0 where it lies outside the body. It returns 1; where `reply` has no room it returns 0 and changes nothing.
+// Where the permutation of index j in a body of permutations of n variables sends variable i + 1, put into the first
+// two words of `reply`: 1 and the image, or 0 and 0 where it lies outside the body. It returns 1; where `reply` has no
+// room it returns 0 and changes nothing.
 #[no_mangle]
 pub extern "C" fn jugbowo_image_at(
     body: &[u8],
@@ -79,7 +84,8 @@ pub extern "C" fn jugbowo_image_at(
 // The point of index i in a body of points, put there like an image.
 #[no_mangle]
 pub extern "C" fn jugbowo_point_at(body: &[u8], i: usize, reply: &mut [u64]) -> u32
-    ensures { λ r. ⌜ EntryReturns (numberAt pointWidth (now (body .entry)) i) (now (reply .entry)) r (now (reply .exit)) ⌝ }
+    ensures { λ r. ⌜ EntryReturns (numberAt pointWidth (now (body .entry)) i) (now (reply .entry)) r (now (reply .exit))
+        ⌝ }
 {
     if reply.len() < ENTRY {
         return 0;
@@ -92,7 +98,8 @@ pub extern "C" fn jugbowo_point_at(body: &[u8], i: usize, reply: &mut [u64]) -> 
 // The clause number of index i in a body of clause numbers, put there like an image.
 #[no_mangle]
 pub extern "C" fn jugbowo_number_at(body: &[u8], i: usize, reply: &mut [u64]) -> u32
-    ensures { λ r. ⌜ EntryReturns (numberAt numberWidth (now (body .entry)) i) (now (reply .entry)) r (now (reply .exit)) ⌝ }
+    ensures { λ r. ⌜ EntryReturns (numberAt numberWidth (now (body .entry)) i) (now (reply .entry)) r
+        (now (reply .exit)) ⌝ }
 {
     if reply.len() < ENTRY {
         return 0;

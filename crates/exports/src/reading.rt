@@ -6,8 +6,9 @@ use export_words::put_parse;
 use formula::Formula;
 ghost use Rattle.exports.specs.Reading.{ReadReturns};
 
-// The reader, its answer put into the first four words of `reply`, beside the formula: its four numbers in `numbers`, its images in `images`,
-// 0 throughout after a refusal. It returns 1; where one of the three has no room it returns 0 and changes nothing.
+// The reader, its answer put into the first four words of `reply`, beside the formula: its four numbers in `numbers`,
+// its images in `images`, 0 throughout after a refusal. It returns 1; where one of the three has no room it returns 0
+// and changes nothing.
 #[no_mangle]
 pub extern "C" fn jugbowo_read(
     text: &[u8],
@@ -17,7 +18,8 @@ pub extern "C" fn jugbowo_read(
     images: &mut [u8],
     reply: &mut [u64],
 ) -> u32
-    ensures { λ r. ⌜ ReadReturns (now (text .entry)) (now (positive .entry)) (now (negative .entry)) (now (numbers .entry)) (now (images .entry)) (now (reply .entry)) r
+    ensures { λ r. ⌜ ReadReturns (now (text .entry)) (now (positive .entry)) (now (negative .entry))
+        (now (numbers .entry)) (now (images .entry)) (now (reply .entry)) r
         (now (positive .exit)) (now (negative .exit)) (now (numbers .exit)) (now (images .exit)) (now (reply .exit)) ⌝ }
 {
     if reply.len() < WORDS {

@@ -6,7 +6,8 @@ use search::search;
 ghost use Rattle.export_words.specs.Words.{formulaFrom};
 ghost use Rattle.exports.specs.Searching.{SearchReturns};
 
-// The search, its answer put into the first four words of `reply`. It returns 1; where `reply` has no room it returns 0 and changes nothing.
+// The search, its answer put into the first four words of `reply`. It returns 1; where `reply` has no room it returns 0
+// and changes nothing.
 #[no_mangle]
 pub extern "C" fn jugbowo_search(
     variables: u32,
@@ -21,7 +22,10 @@ pub extern "C" fn jugbowo_search(
     depths: &mut [u32],
     reply: &mut [u64],
 ) -> u32
-    ensures { λ r. ⌜ SearchReturns (formulaFrom variables clauses target permutations (now (images .entry))) (now (positive .entry)) (now (negative .entry)) (now (points .entry)) (now (falsified .entry)) (now (depths .entry)) (now (reply .entry)) r (now (points .exit)) (now (falsified .exit)) (now (depths .exit)) (now (reply .exit)) ⌝ }
+    ensures { λ r. ⌜ SearchReturns (formulaFrom variables clauses target permutations (now (images .entry)))
+        (now (positive .entry)) (now (negative .entry)) (now (points .entry)) (now (falsified .entry))
+        (now (depths .entry)) (now (reply .entry)) r (now (points .exit)) (now (falsified .exit)) (now (depths .exit))
+        (now (reply .exit)) ⌝ }
 {
     if reply.len() < WORDS {
         return 0;

@@ -4,8 +4,9 @@ use export_words::put_solution;
 use solver::solve;
 ghost use Rattle.exports.specs.Solving.{SolveReturns};
 
-// The solver: a text read, searched and, where it cannot be met, its certificate written to `out` and checked. Its answer is put into the first four
-// words of `reply`. It returns 1; where `reply` has no room it returns 0 and changes nothing.
+// The solver: a text read, searched and, where it cannot be met, its certificate written to `out` and checked. Its
+// answer is put into the first four words of `reply`. It returns 1; where `reply` has no room it returns 0 and changes
+// nothing.
 #[no_mangle]
 pub extern "C" fn jugbowo_solve(
     text: &[u8],
@@ -15,7 +16,8 @@ pub extern "C" fn jugbowo_solve(
     out: &mut [u8],
     reply: &mut [u64],
 ) -> u32
-    ensures { λ r. ⌜ SolveReturns (now (text .entry)) (now (points .entry)) (now (falsified .entry)) (now (depths .entry)) (now (out .entry)) (now (reply .entry)) r
+    ensures { λ r. ⌜ SolveReturns (now (text .entry)) (now (points .entry)) (now (falsified .entry))
+        (now (depths .entry)) (now (out .entry)) (now (reply .entry)) r
         (now (points .exit)) (now (falsified .exit)) (now (depths .exit)) (now (out .exit)) (now (reply .exit)) ⌝ }
 {
     if reply.len() < WORDS {

@@ -6,7 +6,8 @@ use export_words::put_written;
 ghost use Rattle.export_words.specs.Words.{formulaFrom};
 ghost use Rattle.exports.specs.Writing.{WriteReturns};
 
-// The writer, its answer put into the first four words of `reply`. It returns 1; where `reply` has no room it returns 0 and changes nothing.
+// The writer, its answer put into the first four words of `reply`. It returns 1; where `reply` has no room it returns 0
+// and changes nothing.
 #[no_mangle]
 pub extern "C" fn jugbowo_write(
     variables: u32,
@@ -23,7 +24,9 @@ pub extern "C" fn jugbowo_write(
     out: &mut [u8],
     reply: &mut [u64],
 ) -> u32
-    ensures { λ r. ⌜ WriteReturns (formulaFrom variables clauses target permutations (now (images .entry))) (now (positive .entry)) (now (negative .entry)) (now (points .entry)) (now (falsified .entry)) (now (depths .entry)) filled (now (out .entry)) (now (reply .entry)) r (now (out .exit)) (now (reply .exit)) ⌝ }
+    ensures { λ r. ⌜ WriteReturns (formulaFrom variables clauses target permutations (now (images .entry)))
+        (now (positive .entry)) (now (negative .entry)) (now (points .entry)) (now (falsified .entry))
+        (now (depths .entry)) filled (now (out .entry)) (now (reply .entry)) r (now (out .exit)) (now (reply .exit)) ⌝ }
 {
     if reply.len() < WORDS {
         return 0;

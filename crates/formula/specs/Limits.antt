@@ -17,4 +17,4 @@ maxSlots = 65536
 
 -- W2: "The number of slots P is the shortest length lent, at most 65,536 used."
 unfoldable pub capacity : ℕ → ℕ → ℕ → ℕ
-capacity points numbers depths = min maxSlots (min points (min numbers depths))
+capacity points falsified depths = min maxSlots (min points (min falsified depths))

@@ -61,7 +61,7 @@ unfoldable pub symmetryFault : List Numbered → List Permutation → Fault
 unfolding firstFailing keeps faultAt
 symmetryFault cs es = faultAt 12 (firstFailing (keeps cs) es)
 
--- the rows 10, 11 and 12 in this order, which the builder and the writer test first
+-- the rows 10, 11 and 12 in this order, which the search and the writer test first
 unfoldable pub problemFault : Formula → List ℕ → List ℕ → Fault
 unfolding first formulaFault permutationFault symmetryFault problemOf
 problemFault f positive negative =

@@ -1,4 +1,4 @@
--- Lists, bits and counting: definitions first, the laws about each beside it.
+-- Lists, bits and counting: definitions, and their laws.
 pub mod Lists
 pub mod Bits
 pub mod Laws

@@ -1,7 +1,7 @@
-// The program `nearest` (P1): a sheet from standard input; to standard output what document 01 fixes, and nothing
-// else. Where standard input cannot be read it prints nothing there and says so on standard error: a failed read is
-// not the end of a sheet, and no number of 01 means it. The language gives a program no exit status, so that is 0
-// wherever the program ends by itself. At a write into a pipe that nobody reads any more the system ends it by a
+// The program `nearest` (P1): reads a sheet from standard input and writes to standard output what document 01 fixes,
+// and nothing else. Where standard input cannot be read it prints nothing there and says so on standard error: a failed
+// read is not the end of a sheet, and no number of 01 means it. The language gives a program no exit status, so that is
+// 0 wherever the program ends by itself. At a write into a pipe that nobody reads any more the system ends it by a
 // signal, which the language cannot change.
 use libc::STDERR_FILENO;
 use libc::STDIN_FILENO;

@@ -60,7 +60,8 @@ pub fn moved(e: &[u8], s: Point) -> Point
     r
 }
 
-// The image of a point.
+// The image of a point, by its definition. Nothing calls it today: the search and the checker turn the image of one
+// point into that of the next; it is for a point of which no neighbour's image is at hand.
 pub fn image_of_point(e: &[u8], x: Point) -> Point
     requires { ⌜ Movable (now e) ⌝ }
     ensures { λ r. ⌜ r ≡ imageOfPoint (record { images = now (e .entry) }) x ⌝ }

@@ -1,4 +1,4 @@
-// From the bytes of a sheet to the bytes that the program `nearest` prints.
+// What the program `nearest` prints for the bytes of a sheet, as a function.
 use dimacs_lines::Parse;
 use formula::Formula;
 use program_text::put_refused;
@@ -8,7 +8,8 @@ ghost use lib.ListN.{length, take};
 ghost use Rattle.search.specs.Search.{lentBy, searchReply};
 ghost use Rattle.claims.specs.Claim.{formulaIn};
 ghost use Rattle.solver.specs.Solver.{sheetReply};
-ghost use Rattle.program_text.specs.Report.{reportOf, Printed};
+ghost use Rattle.program_text.specs.Report.{reportOf};
+ghost use Rattle.program_text.specs.Laws.Putting.{Printed};
 ghost use Rattle.program.specs.Program.{slots, sheetIn, printed};
 
 // P1: "a sheet of at most 65,536 bytes"

@@ -1,4 +1,5 @@
--- Decimal numbers as text, and lines with numbers in them. Definitions alone; DecimalLaws has what follows. Assumes nothing.
+-- Decimal numbers as text, and lines with numbers in them. Definitions alone; DecimalLaws has what follows. Assumes
+-- nothing.
 use mathlib.Core.List.{List, [], _∷_, _++_}
 use Prim.Native.Nat.{ℕ, zero, suc, _+_, _/_, _%_}
 

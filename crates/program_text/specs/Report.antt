@@ -1,12 +1,9 @@
--- Document 01, 'Sheets to try': the text that the program `nearest` prints for a reply. Definitions alone; ReportLaws has what follows.
--- Assumes nothing.
+-- Document 01, 'Sheets to try': the text that the program `nearest` prints for a reply. Definitions alone; ReportLaws
+-- has what follows. Assumes nothing.
 use mathlib.Core.Bool.{Bool, true, false}
 use mathlib.Core.List.{List, [], _∷_, _++_}
-use mathlib.Core.Path.{_≡_}
 use Prim.Native.Nat.{ℕ, zero, suc, _+_}
-use lib.ListN.{length}
 use Rattle.math.specs.Bits.{bit}
-use Rattle.math.specs.Lists.{over}
 use Rattle.dimacs_format.specs.Text.{ascii}
 use Rattle.program_text.specs.Decimal.{lineEnd, numeral, field, line}
 use Rattle.formula.specs.Reply.{Reply, refused, satisfiable, unsatisfiable, unknown, parsed, written, opened, accepted}
@@ -22,7 +19,7 @@ sign false = ascii " -"
 abbrev pub literal : ℕ → ℕ → List ℕ
 literal x i = field (sign (bit x i)) (i + 1)
 
--- P3: "`v` gives each name ascending": the first k names
+-- P3: "`v` gives each name ascending": the first names
 unfoldable pub literals : ℕ → ℕ → List ℕ
 unfolding numeral sign bit
 literals x zero = []
@@ -93,8 +90,3 @@ reportOf n parsed = []
 reportOf n (written size) = []
 reportOf n opened = []
 reportOf n accepted = []
-
--- a text is put to the front of the output: r counts its bytes, and what is behind them is as it was
-pub record Printed (text out₀ : List ℕ) (r : ℕ) (out₁ : List ℕ) : Type 0 where
-  pub counted : r ≡ length text
-  pub output : out₁ ≡ over text out₀

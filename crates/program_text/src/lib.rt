@@ -9,7 +9,9 @@ ghost use lib.ListN.{length};
 ghost use Rattle.program_text.specs.Decimal.{numeral, field, line};
 ghost use Rattle.program_text.specs.Laws.Putting.{Put};
 ghost use Rattle.search.specs.Contract.{replyOfOutcome};
-ghost use Rattle.program_text.specs.Report.{literal, literals, satisfiableText, unsatisfiableText, unknownText, refusedText, reportOf, Printed};
+ghost use Rattle.program_text.specs.Report.{literal, literals, satisfiableText, unsatisfiableText, unknownText};
+ghost use Rattle.program_text.specs.Report.{refusedText, reportOf};
+ghost use Rattle.program_text.specs.Laws.Putting.{Printed};
 
 // Puts one digit, and answers the place behind it.
 fn put_digit(out: &mut [u8], at: usize, d: u64) -> usize
@@ -55,14 +57,16 @@ pub fn put_field(out: &mut [u8], at: usize, head: &[u8], x: u64) -> usize
 // Puts a line with two numbers: a text in front of each, and a line end.
 pub fn put_line(out: &mut [u8], at: usize, head: &[u8], a: u64, between: &[u8], b: u64) -> usize
     requires { ⌜ at + length (line (now head) a (now between) b) ≤ length (now out) ⌝ }
-    ensures { λ r. ⌜ Put at (line (now (head .entry)) a (now (between .entry)) b) (now (out .entry)) r (now (out .exit)) ⌝ }
+    ensures { λ r. ⌜ Put at (line (now (head .entry)) a (now (between .entry)) b) (now (out .entry)) r (now (out .exit))
+        ⌝ }
 {
     let first = put_field(out, at, head, a);
     let second = put_field(out, first, between, b);
     put_text(out, second, b"\n")
 }
 
-// P3: puts the name of bit i of a point, with a minus where the bit is 0. That takes four bytes at most; `put_literals` sees to them.
+// P3: puts the name of bit i of a point, with a minus where the bit is 0. That takes four bytes at most; `put_literals`
+// sees to them.
 fn put_literal(out: &mut [u8], at: usize, x: Point, i: u32) -> usize
     requires { ⌜ (i < 64) × (at + 4 ≤ length (now out)) ⌝ }
     ensures { λ r. ⌜ Put at (literal x i) (now (out .entry)) r (now (out .exit)) ⌝ }
@@ -90,7 +94,8 @@ fn put_literals(out: &mut [u8], at: usize, x: Point, n: u32) -> usize
     place
 }
 
-// Puts the three lines of a point that meets all clauses. Like the three functions after it, it leaves its requirement to `put_report`.
+// Puts the three lines of a point that meets all clauses. Like the three functions after it, it leaves its requirement
+// to `put_report`.
 fn put_satisfiable(out: &mut [u8], n: u32, x: Point, distance: u32, filled: u32) -> usize
     requires { ⌜ (n ≤ 64) × (312 ≤ length (now out)) ⌝ }
     ensures { λ r. ⌜ Printed (satisfiableText n x distance filled) (now (out .entry)) r (now (out .exit)) ⌝ }
@@ -135,8 +140,8 @@ pub fn put_refused(out: &mut [u8], code: u32, place: usize) -> usize
     put_line(out, 0, b"c refused ", code as u64, b" ", place as u64)
 }
 
-// Puts the text of a reply, for a formula of n variables, to the front of the output and answers its length. No text is longer than 312 bytes
-// where n is at most 64; `program::answer` sees to both.
+// Puts the text of a reply, for a formula of n variables, to the front of the output and answers its length. No text is
+// longer than 312 bytes where n is at most 64; `program::answer` sees to both.
 pub fn put_report(out: &mut [u8], n: u32, r: Outcome) -> usize
     requires { ⌜ (n ≤ 64) × (312 ≤ length (now out)) ⌝ }
     ensures { λ s. ⌜ Printed (reportOf n (replyOfOutcome r)) (now (out .entry)) s (now (out .exit)) ⌝ }

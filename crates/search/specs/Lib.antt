@@ -1,4 +1,4 @@
--- What the builder answers, and what its reply says of an accepted formula.
+-- What the search answers, and what its reply says of an accepted formula.
 pub mod Search
 pub mod Contract
 pub mod Laws

@@ -1,4 +1,4 @@
--- Document 01, 'Walk' and rows 10 to 13 of 'When the desk says no': the builder's reply and what it leaves in the three
+-- Document 01, 'Walk' and rows 10 to 13 of 'When the desk says no': the search's reply and what it leaves in the three
 -- slot slices. Assumes nothing.
 use mathlib.Core.List.{List, [], _∷_, map}
 use Prim.Native.Nat.{ℕ, zero, suc}
@@ -30,7 +30,7 @@ searchFault f positive negative lent =
 abbrev pub lentBy : List ℕ → List ℕ → List ℕ → ℕ
 lentBy points falsified depths = capacity (length (pointsOf points)) (length falsified) (length depths)
 
--- the builder's answer with that many slots lent
+-- the search's answer with that many slots lent
 unfoldable pub searchReply : Formula → List ℕ → List ℕ → ℕ → Reply
 unfolding searchFault unless walked
 searchReply f positive negative lent =

@@ -1,4 +1,4 @@
-// The search slot by slot, oldest first, from any slot on.
+// The loop of the search: slots are processed one by one, oldest first, from whichever slot it is to go on.
 use permutation_coverage::move_images;
 use point_slices::point_at;
 use points::Point;

@@ -16,7 +16,7 @@ use denote.Memory.{shares, pointee}
 use denote.Ref.{RefT}
 use denote.Slice.{sliceTy, sliceVal, slice-vals}
 use Rattle.slot_columns.specs.declared.Slot.{Slot}
-use Rattle.slot_columns.specs.Slots.{Within}
+use Rattle.slot_columns.specs.Laws.Copies.{Within}
 
 -- the slots, the count, the points, the numbers of clauses and the depths
 abbrev pub Args : Type 0

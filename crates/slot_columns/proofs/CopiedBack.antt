@@ -28,7 +28,7 @@ use denote.Triple.Spec.{tripleOf}
 use denote.Triple.Statement.{Contract}
 use denote.Triple.Walked.{says}
 use Rattle.slot_columns.specs.declared.Slot.{Slot}
-use Rattle.slot_columns.specs.Slots.{joined, front, Within}
+use Rattle.slot_columns.specs.Laws.Copies.{joined, front, Within}
 use Rattle.slot_columns.proofs.Columns.{Args, Spelled, args, spelled}
 use Rattle.slot_columns.proofs.Row.{R}
 use Rattle.slot_columns.proofs.copy_back as copy-back

@@ -28,7 +28,7 @@ use denote.Shadow.{pureI}
 use denote.Slice.{Room, sliceVal, MutSlice, ShrSlice, heres, at-slice, codedHoleys}
 use denote.Struct.Laws as LL
 use Rattle.slot_columns.specs.declared.Slot.{Slot}
-use Rattle.slot_columns.specs.Slots.{slotOf}
+use Rattle.slot_columns.specs.Laws.Copies.{slotOf}
 use Rattle.slot_columns.proofs.Slot as S
 use Rattle.slot_columns.proofs.Slot.Laws as S′
 

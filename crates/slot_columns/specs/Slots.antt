@@ -1,22 +1,9 @@
--- The slots as one list of structs, and as three lists. Assumes nothing.
-use mathlib.Core.List.{List, [], _∷_, map}
-use Prim.Native.Nat.{ℕ, _≤_}
-use lib.ListN.{getD, take}
-use Rattle.math.specs.Lists.{over}
+-- Document 01, 'Walk': the slots as one list of structs: their three parts, as three lists. Assumes nothing.
+use mathlib.Core.List.{List, map}
+use Prim.Native.Nat.{ℕ}
 use Rattle.slot_columns.specs.declared.Slot.{Slot}
 
-abbrev pub slotOf : ℕ → ℕ → ℕ → Slot
-slotOf x n d = record { point = x; falsified = n; depth = d }
-
--- a slot of zeros
-abbrev pub blank : Slot
-blank = slotOf 0 0 0
-
--- the slot at an index; behind the end, that of zeros
-abbrev pub slotOr : List Slot → ℕ → Slot
-slotOr xs i = getD xs i blank
-
--- ---- from one list to three
+-- W1: "Each slot holds a point, the rule that moved it and its depth"
 abbrev pub pointsIn : List Slot → List ℕ
 pointsIn xs = map (λ (s : Slot). s .point) xs
 
@@ -25,23 +12,3 @@ falsifiedIn xs = map (λ (s : Slot). s .falsified) xs
 
 abbrev pub depthsIn : List Slot → List ℕ
 depthsIn xs = map (λ (s : Slot). s .depth) xs
-
--- ---- and back
-abbrev pub joined : List ℕ → List ℕ → List ℕ → List Slot
-joined [] ns ds = []
-joined (x ∷ xs) [] ds = []
-joined (x ∷ xs) (n ∷ ns) [] = []
-joined (x ∷ xs) (n ∷ ns) (d ∷ ds) = slotOf x n d ∷ joined xs ns ds
-
--- ---- copies
-
--- the first k of xs in front of what else was there
-abbrev pub front : {X : Type 0} → ℕ → List X → List X → List X
-front k xs old = over (take k xs) old
-
--- a count that four lengths allow
-pub record Within (k slots points falsified depths : ℕ) : Type 0 where
-  pub inSlots : k ≤ slots
-  pub inPoints : k ≤ points
-  pub inFalsified : k ≤ falsified
-  pub inDepths : k ≤ depths

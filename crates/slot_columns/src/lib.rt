@@ -5,7 +5,8 @@ use points::Point;
 ghost use mathlib.Core.Path.{_≡_};
 ghost use Prim.Native.Nat.{_<_};
 ghost use lib.ListN.{length, set};
-ghost use Rattle.slot_columns.specs.Slots.{slotOr, pointsIn, falsifiedIn, depthsIn, joined, Within, front};
+ghost use Rattle.slot_columns.specs.Slots.{pointsIn, falsifiedIn, depthsIn};
+ghost use Rattle.slot_columns.specs.Laws.Copies.{slotOr, joined, Within, front};
 
 // A visited point, the number of the clause that it falsifies (0 while unprocessed), and its depth.
 #[repr(C)]
@@ -15,7 +16,8 @@ pub struct Slot {
     pub depth: u32,
 }
 
-// How many slots are lent.
+// How many slots are lent. This and the next two are for callers in Rattle that keep slots as structs (F9); nothing
+// here calls them.
 pub fn slot_count(slots: &[Slot]) -> usize
     ensures { λ r. ⌜ r ≡ length (now (slots .entry)) ⌝ }
 {

@@ -1,1 +1,2 @@
+-- Laws of the search on the first places of longer slices.
 pub mod Laws

@@ -7,11 +7,11 @@ use search::Outcome;
 use search::search;
 ghost use lib.ListN.{length, take};
 ghost use Rattle.certificate_writer.specs.Contract.{Wrote};
-ghost use Rattle.slot_columns.specs.Slots.{Within};
+ghost use Rattle.slot_columns.specs.Laws.Copies.{Within};
 ghost use Rattle.search.specs.Contract.{Searched};
 
 // The search on the first k places of three slices.
-pub fn search_front(
+pub fn search_prefix(
     f: Formula,
     positive: &[u64],
     negative: &[u64],
@@ -36,7 +36,7 @@ pub fn search_front(
 }
 
 // The writer on the first k places of three slices.
-pub fn write_front(
+pub fn write_prefix(
     f: Formula,
     positive: &[u64],
     negative: &[u64],

@@ -8,7 +8,8 @@ use mathlib.Core.List.{List}
 use lib.Dec.{lit<}
 use lib.ListN.{length}
 use Rattle.slot_columns.specs.declared.Slot.{Slot}
-use Rattle.slot_columns.specs.Slots.{pointsIn, falsifiedIn, depthsIn, front, Within}
+use Rattle.slot_columns.specs.Slots.{pointsIn, falsifiedIn, depthsIn}
+use Rattle.slot_columns.specs.Laws.Copies.{front, Within}
 use Rattle.slot_columns.specs.Laws.SlotLaws.{front-length, column-long}
 
 module _ (ys : List Slot) where

@@ -1,1 +1,1 @@
-pub mod SearchedFront
+pub mod SearchedPrefix

@@ -4,7 +4,7 @@ use point_slices::least;
 use search::Outcome;
 use slot_columns::copy_back;
 use slot_columns::copy_out;
-use slot_prefixes::search_front;
+use slot_prefixes::search_prefix;
 ghost use Rattle.slot_columns.specs.Slots.{pointsIn, falsifiedIn, depthsIn};
 ghost use Rattle.search.specs.Contract.{Searched};
 
@@ -23,7 +23,7 @@ pub fn search_slots(f: Formula, positive: &[u64], negative: &[u64], slots: &mut 
     let mut depths = [0u32; 65536];
     let k = least(65536, slots.len());
     copy_out(slots, k, &mut points, &mut falsified, &mut depths);
-    let r = search_front(
+    let r = search_prefix(
         f,
         positive,
         negative,

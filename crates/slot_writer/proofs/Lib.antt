@@ -1,1 +1,1 @@
-pub mod WrittenFront
+pub mod WrittenPrefix

@@ -1,1 +1,2 @@
+-- Laws of the writer on copies of the slots.
 pub mod Laws

@@ -4,7 +4,7 @@ use formula::Formula;
 use point_slices::least;
 use slot_columns::Slot;
 use slot_columns::copy_out;
-use slot_prefixes::write_front;
+use slot_prefixes::write_prefix;
 ghost use Rattle.certificate_writer.specs.Contract.{Wrote};
 ghost use Rattle.slot_columns.specs.Slots.{pointsIn, falsifiedIn, depthsIn};
 
@@ -27,7 +27,7 @@ pub fn write_slots(
     let mut depths = [0u32; 65536];
     let k = least(65536, slots.len());
     copy_out(slots, k, &mut points, &mut falsified, &mut depths);
-    write_front(
+    write_prefix(
         f,
         positive,
         negative,

@@ -19,7 +19,7 @@ use Rattle.solver.specs.declared.Solution.{Solution}
 use Rattle.solver.specs.declared.Solution.the-variants.{Satisfiable, Unsatisfiable as Refutes, Uncertified}
 use Rattle.solver.specs.declared.Solution.the-variants.{Unknown, Refused}
 
--- what the solver tells in document 01's terms: the reader's refusal or the builder's reply and, beside 'cannot be
+-- what the solver answers in document 01's terms: the reader's refusal or the search's reply and, beside 'cannot be
 -- met', the writer's reply
 pub record SolverReply : Type 0 where
   pub reply : Reply
@@ -31,8 +31,7 @@ replyOfSolution (Satisfiable x d filled) = record { reply = satisfiable x d fill
 replyOfSolution (Refutes filled size) = record { reply = unsatisfiable filled; certificate = some (written size) }
 replyOfSolution (Uncertified filled needed) = record {
   reply = unsatisfiable filled;
-  certificate = some
-      (refused 19 needed);
+  certificate = some (refused 19 needed);
 }
 replyOfSolution (Unknown b filled) = record { reply = unknown b filled; certificate = none }
 replyOfSolution (Refused code place) = record { reply = refused code place; certificate = none }

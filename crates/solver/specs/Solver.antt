@@ -1,4 +1,4 @@
--- The solver composes reader, builder, writer and checker: what it answers and leaves in lent memory, by their
+-- The solver composes reader, search, writer and checker: what it answers and leaves in lent memory, by their
 -- definitions. Assumes nothing.
 use mathlib.Core.List.{List}
 use mathlib.Core.Option.{Option, some, none}
@@ -19,7 +19,7 @@ slotsOf points falsified depths = record { points = points; falsified = falsifie
 unfoldable pub blank : List ℕ
 blank = replicate 4096 0
 
--- ---- the reader, then the builder
+-- ---- the reader, then the search
 
 -- the reader's reply to a sheet; one by value is not read
 abbrev pub readingOf : Sheet → Reply

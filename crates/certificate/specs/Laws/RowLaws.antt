@@ -169,32 +169,32 @@ numbered-own k (c ∷ cs) r s (List·Memᴰ·tail mr) (List·Memᴰ·tail ms) e 
 
 -- ---- row 17
 
-module _ (cs : List Numbered) (points numbers : List ℕ) where
+module _ (cs : List Numbered) (points falsified : List ℕ) where
   -- a point that passes has the number of a clause, which it falsifies
-  pub number-passed : (i : ℕ) → numberPasses cs points numbers i ≡ true
-      → (c : Clause) × (clauseNumbered cs (getD numbers i 0) ≡ some c) × (satisfies c (getD points i 0) ≡ false)
+  pub number-passed : (i : ℕ) → numberPasses cs points falsified i ≡ true
+      → (c : Clause) × (clauseNumbered cs (getD falsified i 0) ≡ some c) × (satisfies c (getD points i 0) ≡ false)
   unfolding numberPasses
-  number-passed i h = by (clauseNumbered cs (getD numbers i 0)) refl h
+  number-passed i h = by (clauseNumbered cs (getD falsified i 0)) refl h
     where
-      by : (o : Option Clause) → clauseNumbered cs (getD numbers i 0) ≡ o → falsifies o (getD points i 0) ≡ true
-          → (c : Clause) × (clauseNumbered cs (getD numbers i 0) ≡ some c) × (satisfies c (getD points i 0) ≡ false)
+      by : (o : Option Clause) → clauseNumbered cs (getD falsified i 0) ≡ o → falsifies o (getD points i 0) ≡ true
+          → (c : Clause) × (clauseNumbered cs (getD falsified i 0) ≡ some c) × (satisfies c (getD points i 0) ≡ false)
       by none e f = absurd (false≢true f)
       by (some c) e f = (c, e, not-true (satisfies c (getD points i 0)) f)
 
-  pub number-passes : (i : ℕ) (c : Clause) → clauseNumbered cs (getD numbers i 0) ≡ some c
+  pub number-passes : (i : ℕ) (c : Clause) → clauseNumbered cs (getD falsified i 0) ≡ some c
       → satisfies c (getD points i 0) ≡ false
-      → numberPasses cs points numbers i ≡ true
+      → numberPasses cs points falsified i ≡ true
   unfolding numberPasses
   number-passes i c e f = ap (λ o. falsifies o (getD points i 0)) e ∙ not-of-false (satisfies c (getD points i 0)) f
 
   -- the row looks at the first `count` points and numbers alone
   pub numbers-fault-take : (count : ℕ)
-      → numbersFault cs count (take count points) (take count numbers) ≡ numbersFault cs count points numbers
+      → numbersFault cs count (take count points) (take count falsified) ≡ numbersFault cs count points falsified
   unfolding numbersFault numberPasses
   numbers-fault-take count =
-      ap (faultAt 17) (same-failing-below (numberPasses cs (take count points) (take count numbers))
-      (numberPasses cs points numbers) count (λ i lt.
-      ap₂ (λ (k x : ℕ). falsifies (clauseNumbered cs k) x) (getD-take count numbers i 0 lt)
+      ap (faultAt 17) (same-failing-below (numberPasses cs (take count points) (take count falsified))
+      (numberPasses cs points falsified) count (λ i lt.
+      ap₂ (λ (k x : ℕ). falsifies (clauseNumbered cs k) x) (getD-take count falsified i 0 lt)
       (getD-take count points i 0 lt)))
 
 -- ---- row 19

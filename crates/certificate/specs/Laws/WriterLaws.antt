@@ -26,7 +26,7 @@ use Rattle.certificate.specs.Certificate.{FileContents, layout, certific
 use Rattle.certificate.specs.Laws.CertificateLaws.{length-encode, contents-encode, encode-wellFormed}
 use Rattle.certificate.specs.Laws.CertificateLaws.{encode-permutations, encode-points, encode-numbers}
 use Rattle.formula.specs.Laws.ReplyLaws.{first-none, first-join, first-split, tested, each-passed, below-passed}
-use Rattle.formula.specs.Laws.ReplyLaws.{not-refused, written-not-refused, unless-sound}
+use Rattle.formula.specs.Laws.ReplyLaws.{not-refused, written-not-refused, unless-none}
 use Rattle.certificate.specs.Laws.RowLaws.{points-counted, points-passed, point-passes-take, clause-found}
 use Rattle.certificate.specs.Laws.RowLaws.{numbered-range, number-passed}
 use Rattle.certificate.specs.Rows.{pointPasses, pointsFault, numberPasses, numbersFault, roomFault}
@@ -204,7 +204,7 @@ module _ (f : Formula) (positive negative points falsified depths : List ℕ) (f
   pub reply-written : writeFault f positive negative points falsified depths filled out ≡ no-fault
       → writeReply f positive negative points falsified depths filled out ≡ written (lengthNeeded pb filled)
   unfolding writeReply
-  reply-written h = unless-sound (writeFault f positive negative points falsified depths filled out) h
+  reply-written h = unless-none (writeFault f positive negative points falsified depths filled out) h
       (written (lengthNeeded pb filled))
 
   pub written-sound : (size : ℕ) → writeReply f positive negative points falsified depths filled out ≡ written size

@@ -17,7 +17,7 @@ use Rattle.math.specs.Laws.PartLaws.{all-passing-below}
 use Rattle.math.specs.Laws.ScanLaws.{failing-begins, below-ends, below-stops, below-goes-on}
 use Rattle.formula.specs.Limits.{maxSlots}
 use Rattle.formula.specs.Reply.{Fault, fault, faultAt}
-use Rattle.formula.specs.Laws.ReplyLaws.{fault-not-sound, faultAt-sound}
+use Rattle.formula.specs.Laws.ReplyLaws.{fault-not-none, faultAt-none}
 use Rattle.certificate.specs.Laws.RowLaws.{no-point, over-limit, counted, passes-new, fails-bit, points-pass}
 use Rattle.certificate.specs.Laws.RowLaws.{point-passes-take}
 use Rattle.certificate.specs.Rows.{pointPasses, pointsFault}
@@ -119,10 +119,10 @@ sifts-full {n = n} {count = count} {points = points} enough narrow distinct s = 
 
 module _ {heads n count limit : ℕ} {points : List ℕ} (links : List ℕ) where
   pub refuses-none : count < 1 → Refuses heads n count limit points (fault 16 0) links
-  refuses-none h = record { tells = no-point limit n count points h; full = λ e. absurd (fault-not-sound 16 0 e) }
+  refuses-none h = record { tells = no-point limit n count points h; full = λ e. absurd (fault-not-none 16 0 e) }
 
   pub refuses-many : limit < count → Refuses heads n count limit points (fault 16 0) links
-  refuses-many h = record { tells = over-limit limit n count points h; full = λ e. absurd (fault-not-sound 16 0 e) }
+  refuses-many h = record { tells = over-limit limit n count points h; full = λ e. absurd (fault-not-none 16 0 e) }
 
   module _ (some : 1 ≤ count) (few : count ≤ limit) {k : ℕ} (s : Sifts heads n count points k links) where
     -- past the tests of the count the fault is that of the first point which fails
@@ -130,7 +130,7 @@ module _ {heads n count limit : ℕ} {points : List ℕ} (links : List ℕ) wher
     each = sym (counted limit n count points some few ∙ ap (faultAt 16) (sym (s .tells)))
 
     pub refuses-first : (r : Fault) → r ≡ faultAt 16 k → Refuses heads n count limit points r links
-    refuses-first r e = record { tells = e ∙ each; full = λ h. s .full (faultAt-sound 16 k (sym e ∙ h)) }
+    refuses-first r e = record { tells = e ∙ each; full = λ h. s .full (faultAt-none 16 k (sym e ∙ h)) }
 
 -- ---- links in an array of zeros
 

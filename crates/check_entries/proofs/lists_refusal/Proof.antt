@@ -40,7 +40,7 @@ flips-refusal-requires c κs = ready-testable (c .before .before .before .before
 
 -- and the third where refusal 17 did not either
 seventeen : (c : tie.After-enum-told3)
-    → numbersFault (numbered (clausesOf (c .before .before .before .before .before .before .before .before .before .before .before .before .before .before .before .args .positive .now) (c .before .before .before .before .before .before .before .before .before .before .before .before .before .before .before .args .negative .now))) (c .before .before .before .before .before .before .before .before .before .before .before .before .before .before .before .args .count) (c .before .before .before .before .before .before .before .before .before .before .before .before .before .before .before .args .points .now) (c .before .before .before .before .before .before .before .before .before .before .before .before .before .before .before .args .numbers .now) ≡ no-fault
+    → numbersFault (numbered (clausesOf (c .before .before .before .before .before .before .before .before .before .before .before .before .before .before .before .args .positive .now) (c .before .before .before .before .before .before .before .before .before .before .before .before .before .before .before .args .negative .now))) (c .before .before .before .before .before .before .before .before .before .before .before .before .before .before .before .args .count) (c .before .before .before .before .before .before .before .before .before .before .before .before .before .before .before .args .points .now) (c .before .before .before .before .before .before .before .before .before .before .before .before .before .before .before .args .falsified .now) ≡ no-fault
 seventeen c = sym (c .before .before .numbers-refusal .ensures) ∙ ap faultOf (c .enum-told3 .given .1)
 
 returns-3 : tie.Need-returns-3

@@ -20,9 +20,9 @@ listsFault n cs es ps ns = first (pointsFault maxSlots n (length ps) ps ∷ numb
 
 -- the same, of `count` entries in two bodies, with permutations and clauses as they lie in their slices
 abbrev pub entriesFault : ℕ → ℕ → List ℕ → List ℕ → List ℕ → ℕ → List ℕ → List ℕ → Fault
-entriesFault n permutations images positive negative count points numbers =
+entriesFault n permutations images positive negative count points falsified =
     listsFault n (numbered (clausesOf positive negative)) (permutationsIn n permutations images)
-    (numbersIn pointWidth count points) (numbersIn numberWidth count numbers)
+    (numbersIn pointWidth count points) (numbersIn numberWidth count falsified)
 
 -- there are `count` points, and links that are all 0 with room for them
 pub record Ready (n permutations : ℕ) (images positive negative : List ℕ) (count : ℕ) (points : List ℕ) (heads : ℕ)
@@ -32,11 +32,11 @@ pub record Ready (n permutations : ℕ) (images positive negative : List ℕ) (c
 
 -- the bodies hold `count` entries, and no more than fit the arrays
 pub record Decodable (n permutations : ℕ) (images positive negative : List ℕ) (count limit : ℕ)
-    (points numbers : List ℕ) : Type 0 where
+    (points falsified : List ℕ) : Type 0 where
   pub given : Proper n permutations images positive negative
   pub most : count ≤ limit
   pub points-long : count * pointWidth ≤ length points
-  pub numbers-long : count * numberWidth ≤ length numbers
+  pub numbers-long : count * numberWidth ≤ length falsified
 
 -- slices for so many points, their numbers and their links
 pub record Lent (limit : ℕ) (held named links : List ℕ) : Type 0 where

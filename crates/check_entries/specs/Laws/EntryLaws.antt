@@ -28,13 +28,13 @@ use Rattle.check_entries.specs.Laws.Entries.{listsFault, Ready, Decodabl
 
 -- ---- the rows 16, 17 and 18, of the first entries of two slices
 
-module _ (n : ℕ) (cs : List Numbered) (es : List Permutation) (points numbers : List ℕ) (count : ℕ)
+module _ (n : ℕ) (cs : List Numbered) (es : List Permutation) (points falsified : List ℕ) (count : ℕ)
     (enough : count ≤ length points) where
   abbrev ps : List ℕ
   ps = take count points
 
   abbrev ns : List ℕ
-  ns = take count numbers
+  ns = take count falsified
 
   counted : length ps ≡ count
   counted = length-take-le count points enough
@@ -42,21 +42,22 @@ module _ (n : ℕ) (cs : List Numbered) (es : List Permutation) (points numbers 
   row16 : pointsFault maxSlots n count points ≡ pointsFault maxSlots n (length ps) ps
   row16 = sym (points-fault-take n points maxSlots count) ∙ ap (λ (k : ℕ). pointsFault maxSlots n k ps) (sym counted)
 
-  row17 : numbersFault cs count points numbers ≡ numbersFault cs (length ps) ps ns
-  row17 = sym (numbers-fault-take cs points numbers count) ∙ ap (λ (k : ℕ). numbersFault cs k ps ns) (sym counted)
+  row17 : numbersFault cs count points falsified ≡ numbersFault cs (length ps) ps ns
+  row17 = sym (numbers-fault-take cs points falsified count) ∙ ap (λ (k : ℕ). numbersFault cs k ps ns) (sym counted)
 
-  row18 : flipsFault n cs es ps numbers ≡ flipsFault n cs es ps ns
-  row18 = sym (flips-fault-take n cs es ps numbers count counted)
+  row18 : flipsFault n cs es ps falsified ≡ flipsFault n cs es ps ns
+  row18 = sym (flips-fault-take n cs es ps falsified count counted)
 
   pub stops-16 : (r : Fault) → r ≡ pointsFault maxSlots n count points → IsFault r → r ≡ listsFault n cs es ps ns
   stops-16 r e h = answers-first r _ _ (e ∙ row16) h
 
-  pub stops-17 : (r : Fault) → pointsFault maxSlots n count points ≡ no-fault → r ≡ numbersFault cs count points numbers
+  pub stops-17 : (r : Fault) → pointsFault maxSlots n count points ≡ no-fault
+      → r ≡ numbersFault cs count points falsified
       → IsFault r → r ≡ listsFault n cs es ps ns
   stops-17 r sixteen e h = answers-rest r _ _ (sym row16 ∙ sixteen) (answers-first r _ _ (e ∙ row17) h)
 
   pub ends-18 : (r : Fault) → pointsFault maxSlots n count points ≡ no-fault
-      → numbersFault cs count points numbers ≡ no-fault → r ≡ flipsFault n cs es ps numbers
+      → numbersFault cs count points falsified ≡ no-fault → r ≡ flipsFault n cs es ps falsified
       → r ≡ listsFault n cs es ps ns
   ends-18 r sixteen seventeen e =
       answers-rest r _ _ (sym row16 ∙ sixteen) (answers-rest r _ _ (sym row17 ∙ seventeen)
@@ -74,8 +75,8 @@ copied w count body old new e = ap (take count) e
 
 -- the first entries, copied to a slice as long as the one lent, can be indexed
 pub lent-ready : {n permutations : ℕ} {images positive negative : List ℕ} {count limit : ℕ}
-    {points numbers held named links : List ℕ}
-    → Decodable n permutations images positive negative count limit points numbers → Lent limit held named links
+    {points falsified held named links : List ℕ}
+    → Decodable n permutations images positive negative count limit points falsified → Lent limit held named links
     → (filled : List ℕ) → length filled ≡ length held
     → Ready n permutations images positive negative count filled limit links
 lent-ready d l filled same =

@@ -6,7 +6,7 @@ use native.Mathlib.Nat.{le-of-eq, le-trans, lt-of-lt-of-le}
 use native.Mathlib.Omega.{arith}
 use borrow.Author.Needs.{needs}
 use Rattle.points.specs.Points.{satisfies}
-use Rattle.check_falsified.specs.Laws.TransportLaws.{falsifies-none, falsifies-past, falsifies-at}
+use Rattle.check_falsified.specs.Laws.FalsifiedLaws.{falsifies-none, falsifies-past, falsifies-at}
 use Rattle.check_falsified.proofs.falsifies.Statement.{statement}
 use Rattle.check_falsified.proofs.falsifies.Tie as tie
 

@@ -14,11 +14,11 @@ use Rattle.check_falsified.proofs.first_bad_number.Statement.{statement
 use Rattle.check_falsified.proofs.first_bad_number.Tie as tie
 
 abbrev Inv-loop : tie.InvT-loop
-Inv-loop positive negative points numbers count i₀ i =
-    firstFailing (numberPasses (numbered (clausesOf positive negative)) points numbers) (below count) ≡ onFrom i (firstFailing (numberPasses (numbered (clausesOf positive negative)) points numbers) (drop i (below count)))
+Inv-loop positive negative points falsified count i₀ i =
+    firstFailing (numberPasses (numbered (clausesOf positive negative)) points falsified) (below count) ≡ onFrom i (firstFailing (numberPasses (numbered (clausesOf positive negative)) points falsified) (drop i (below count)))
 
 abbrev μ-loop : tie.MeasureT-loop
-μ-loop positive negative points numbers count i₀ i = count - i
+μ-loop positive negative points falsified count i₀ i = count - i
 
 loop-holds : tie.Need-loop-holds Inv-loop μ-loop
 loop-holds c = failing-begins _ _ 0

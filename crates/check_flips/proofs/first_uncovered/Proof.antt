@@ -18,13 +18,13 @@ use Rattle.check_flips.proofs.first_uncovered.Statement.{statement}
 use Rattle.check_flips.proofs.first_uncovered.Tie as tie
 
 abbrev Inv-loop : tie.InvT-loop
-Inv-loop positive negative points numbers count links heads images n permutations moved₀ seen₀ i₀ moved seen i =
-    (firstFailing (flipsPass n (numbered (clausesOf positive negative)) (permutationsIn n permutations images) (take count points) numbers) (below count)
-    ≡ onFrom i (firstFailing (flipsPass n (numbered (clausesOf positive negative)) (permutationsIn n permutations images) (take count points) numbers) (drop i (below count))))
+Inv-loop positive negative points falsified count links heads images n permutations moved₀ seen₀ i₀ moved seen i =
+    (firstFailing (flipsPass n (numbered (clausesOf positive negative)) (permutationsIn n permutations images) (take count points) falsified) (below count)
+    ≡ onFrom i (firstFailing (flipsPass n (numbered (clausesOf positive negative)) (permutationsIn n permutations images) (take count points) falsified) (drop i (below count))))
     × (length moved ≡ 16) × Imaged n permutations images seen moved
 
 abbrev μ-loop : tie.MeasureT-loop
-μ-loop positive negative points numbers count links heads images n permutations moved₀ seen₀ i₀ moved seen i = count - i
+μ-loop positive negative points falsified count links heads images n permutations moved₀ seen₀ i₀ moved seen i = count - i
 
 loop-holds : tie.Need-loop-holds Inv-loop μ-loop
 loop-holds c = (failing-begins _ _ 0, length-replicate {A = ℕ} 16 0, imaged-none _ _ 16 _ (c .before .before .before .before .before .before .pre .given .few-permutations))

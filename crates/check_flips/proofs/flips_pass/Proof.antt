@@ -32,7 +32,7 @@ returns : tie.Need-returns
 returns c =
     let a = c .before .before .before .before .before .before .before .before .before .before .before .args in
     c .flips-covered .ensures
-    ∙ flips-passed _ _ _ (a .points .now) (a .numbers .now) (a .count) (a .i) _ _ (c .before .before .before .before .before .before .before .before .before .before .before .pre .1) (c .before .before .point-at .ensures)
+    ∙ flips-passed _ _ _ (a .points .now) (a .falsified .now) (a .count) (a .i) _ _ (c .before .before .before .before .before .before .before .before .before .before .before .pre .1) (c .before .before .point-at .ensures)
     (c .before .variables-of .ensures ∙ ap (λ (k : ℕ). listedBy (clauseNumbered (numbered (clausesOf (a .positive .now) (a .negative .now))) k)) (c .before .before .before .number-at .ensures))
 
 pub flips-pass-spec : {M : Type 1} → statement M

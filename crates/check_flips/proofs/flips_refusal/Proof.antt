@@ -20,7 +20,7 @@ first-uncovered-requires c κs = search needs
 row : (c : tie.After-first-uncovered)
     → faultAt 18 (c .first-uncovered .result)
     ≡ flipsFault (c .before .before .before .before .before .before .before .args .n) (numbered (clausesOf (c .before .before .before .before .before .before .before .args .positive .now) (c .before .before .before .before .before .before .before .args .negative .now)))
-    (permutationsIn (c .before .before .before .before .before .before .before .args .n) (c .before .before .before .before .before .before .before .args .permutations) (c .before .before .before .before .before .before .before .args .images .now)) (take (c .before .before .before .before .before .before .before .args .count) (c .before .before .before .before .before .before .before .args .points .now)) (c .before .before .before .before .before .before .before .args .numbers .now)
+    (permutationsIn (c .before .before .before .before .before .before .before .args .n) (c .before .before .before .before .before .before .before .args .permutations) (c .before .before .before .before .before .before .before .args .images .now)) (take (c .before .before .before .before .before .before .before .args .count) (c .before .before .before .before .before .before .before .args .points .now)) (c .before .before .before .before .before .before .before .args .falsified .now)
 row c =
     let start = c .before .before .before .before .before .before .before in
     let a = start .args in

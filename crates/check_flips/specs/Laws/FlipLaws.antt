@@ -25,7 +25,7 @@ use Rattle.permutation_coverage.specs.Laws.Coverage.{Permuting, Imaged, Coverab
 use Rattle.formula.specs.Reply.{faultAt}
 use Rattle.certificate.specs.Laws.RowLaws.{clause-found}
 use Rattle.certificate.specs.Rows.{clauseNumbered}
-use Rattle.check_falsified.specs.Laws.TransportLaws.{numbered-at, numbered-below}
+use Rattle.check_falsified.specs.Laws.FalsifiedLaws.{numbered-at, numbered-below}
 use Rattle.check_flips.specs.Flips.{flipsOf, flipsPass, flipsFault}
 use Rattle.check_flips.specs.Laws.Loops.{listedBy, allFlips, Testable, Flipping}
 
@@ -134,28 +134,29 @@ module _ {n permutations : ℕ} {images positive negative : List ℕ} {count : �
 
 module _ (n : ℕ) (cs : List Numbered) (es : List Permutation) where
   -- the test of the point of an index, from its point and its clause's variables
-  pub flips-passed : (points numbers : List ℕ) (count i x s : ℕ) → i < count → x ≡ getD points i 0
-      → s ≡ listedBy (clauseNumbered cs (getD numbers i 0))
-      → allFlips (covered es (take count points)) n x s ≡ flipsPass n cs es (take count points) numbers i
+  pub flips-passed : (points falsified : List ℕ) (count i x s : ℕ) → i < count → x ≡ getD points i 0
+      → s ≡ listedBy (clauseNumbered cs (getD falsified i 0))
+      → allFlips (covered es (take count points)) n x s ≡ flipsPass n cs es (take count points) falsified i
   unfolding flipsPass
-  flips-passed points numbers count i x s lt at set =
+  flips-passed points falsified count i x s lt at set =
       ap₂ (allFlips (covered es (take count points)) n) (at ∙ sym (getD-take count points i 0 lt)) set
-      ∙ sym (flips-listed (covered es (take count points)) n (clauseNumbered cs (getD numbers i 0))
+      ∙ sym (flips-listed (covered es (take count points)) n (clauseNumbered cs (getD falsified i 0))
       (getD (take count points) i 0))
 
   -- the row, of so many points
-  pub flips-row : (points numbers : List ℕ) (count : ℕ) → length points ≡ count
-      → faultAt 18 (firstFailing (flipsPass n cs es points numbers) (below count)) ≡ flipsFault n cs es points numbers
+  pub flips-row : (points falsified : List ℕ) (count : ℕ) → length points ≡ count
+      → faultAt 18 (firstFailing (flipsPass n cs es points falsified) (below count))
+      ≡ flipsFault n cs es points falsified
   unfolding flipsFault
-  flips-row points numbers count e = ap (λ (k : ℕ). faultAt 18
-      (firstFailing (flipsPass n cs es points numbers) (below k))) (sym e)
+  flips-row points falsified count e = ap (λ (k : ℕ). faultAt 18
+      (firstFailing (flipsPass n cs es points falsified) (below k))) (sym e)
 
   -- it looks at as many numbers as there are points
-  pub flips-fault-take : (points numbers : List ℕ) (count : ℕ) → length points ≡ count
-      → flipsFault n cs es points (take count numbers) ≡ flipsFault n cs es points numbers
+  pub flips-fault-take : (points falsified : List ℕ) (count : ℕ) → length points ≡ count
+      → flipsFault n cs es points (take count falsified) ≡ flipsFault n cs es points falsified
   unfolding flipsFault flipsPass
-  flips-fault-take points numbers count e =
-      ap (faultAt 18) (same-failing-below (flipsPass n cs es points (take count numbers))
-      (flipsPass n cs es points numbers) (length points) (λ i lt.
+  flips-fault-take points falsified count e =
+      ap (faultAt 18) (same-failing-below (flipsPass n cs es points (take count falsified))
+      (flipsPass n cs es points falsified) (length points) (λ i lt.
       ap (λ (k : ℕ). all (covered es points) (flipsOf n (clauseNumbered cs k) (getD points i 0)))
-      (getD-take count numbers i 0 (subst (λ (k : ℕ). i < k) e lt))))
+      (getD-take count falsified i 0 (subst (λ (k : ℕ). i < k) e lt))))

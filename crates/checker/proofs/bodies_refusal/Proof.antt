@@ -71,11 +71,11 @@ part-points-start c = lies (c .before .before .before .before .before .before .b
 part-points-end : tie.Need-part-points-end
 part-points-end c = lies (c .before .before .before .before .before .before .before .before .before .before .before .before .before .before .before .before) .third-end
 
-sub-numbers : tie.Need-sub-numbers
-sub-numbers c = lies (c .before .before .before .before .before .before .before .before .before .before .before .before .before .before .before .before .before) .third-end
+sub-falsified : tie.Need-sub-falsified
+sub-falsified c = lies (c .before .before .before .before .before .before .before .before .before .before .before .before .before .before .before .before .before) .third-end
 
-part-numbers-start : tie.Need-part-numbers-start
-part-numbers-start c = lies (c .before .before .before .before .before .before .before .before .before .before .before .before .before .before .before .before .before) .third-end
+part-falsified-start : tie.Need-part-falsified-start
+part-falsified-start c = lies (c .before .before .before .before .before .before .before .before .before .before .before .before .before .before .before .before .before) .third-end
 
 decoded-refusal-requires : tie.Need-decoded-refusal-requires
 decoded-refusal-requires c κs =
@@ -116,8 +116,8 @@ bodies-refusal-spec =
     sub-points
     part-points-start
     part-points-end
-    sub-numbers
-    part-numbers-start
+    sub-falsified
+    part-falsified-start
     (λ c. search needs)
     decoded-refusal-requires
     returns-4)

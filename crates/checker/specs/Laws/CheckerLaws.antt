@@ -28,7 +28,7 @@ use Rattle.certificate.specs.Certificate.{filePoints, fileNumbers}
 use Rattle.certificate.specs.Laws.CertificateLaws.{wellFormed-sound, wellFormed-complete}
 use Rattle.formula.specs.Laws.ReplyLaws.{first-none, first-split, first-join, tested, test-passed, each-passed}
 use Rattle.formula.specs.Laws.ReplyLaws.{passes-each, below-passed, passes-below, not-refused, accepted-not-refused}
-use Rattle.formula.specs.Laws.ReplyLaws.{unless-sound}
+use Rattle.formula.specs.Laws.ReplyLaws.{unless-none}
 use Rattle.certificate.specs.Laws.RowLaws.{points-passed, points-pass, clause-found, OwnNumbers, clause-of}
 use Rattle.certificate.specs.Laws.RowLaws.{numbered-own, number-passed, number-passes}
 use Rattle.certificate.specs.Rows.{fileFault, pointPasses, pointsFault, clauseNumbered, numberPasses, numbersFault}
@@ -218,7 +218,7 @@ module _ (f : Formula) (positive negative file : List ℕ) where
   pub accepts-complete : Accepts f positive negative file → checkReply f positive negative file ≡ accepted
   unfolding checkReply fileFault sizesFault sameSizes
   accepts-complete a =
-      unless-sound (checkFault f positive negative file)
+      unless-none (checkFault f positive negative file)
       (passed-checker f positive negative file
       (record {
         row10 = a .clausesPass;

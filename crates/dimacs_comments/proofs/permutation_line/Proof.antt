@@ -6,7 +6,7 @@ use native.Mathlib.Nat.{le-trans, le-of-eq}
 use native.Mathlib.Omega.{arith}
 use borrow.Author.Tests.{not-true, not-false}
 use borrow.Author.Needs.{needs}
-use Rattle.dimacs_comments.specs.Laws.HandlerLaws.{table-room, permutation-over, permutation-bad}
+use Rattle.dimacs_comments.specs.Laws.HandlerLaws.{images-room, permutation-over, permutation-bad}
 use Rattle.dimacs_comments.specs.Laws.HandlerLaws.{permutation-good}
 use Rattle.dimacs_comments.proofs.permutation_line.Statement.{statement}
 use Rattle.dimacs_comments.proofs.permutation_line.Tie as tie
@@ -16,7 +16,7 @@ returns c = permutation-over _ _ (c .before .before .before .args .line .now) (c
 
 -- the next permutation has its room
 room : (c : tie.Else1) → c .before .before .before .args .state .permutations * c .before .before .before .args .n + c .before .before .before .args .n ≤ 1024
-room c = table-room (c .before .before .before .args .n) (c .before .before .before .args .state .permutations) (c .before .before .before .pre .0) (c .if1 .left)
+room c = images-room (c .before .before .before .args .n) (c .before .before .before .args .state .permutations) (c .before .before .before .pre .0) (c .if1 .left)
 
 mul-at : tie.Need-mul-at
 mul-at c = omega (arith, room c)

@@ -98,8 +98,8 @@ images-take n (suc k) bytes =
 -- ---- a permutation line
 
 -- the permutations fit into their bytes
-pub table-room : (n k : ℕ) → n ≤ 64 → k < 16 → k * n + n ≤ 1024
-table-room n k few lt = let a = part-ends k 16 n lt in omega arith
+pub images-room : (n k : ℕ) → n ≤ 64 → k < 16 → k * n + n ≤ 1024
+images-room n k few lt = let a = part-ends k 16 n lt in omega arith
 
 module _ (n start : ℕ) (line : List ℕ) (k : ℕ) (old : List ℕ) where
   pub permutation-over : 16 ≤ k → permutationStep n (permutationsIn n k old) (piece start line) ≡ refuses 9 start

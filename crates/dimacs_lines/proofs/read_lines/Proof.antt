@@ -12,11 +12,11 @@ use Rattle.dimacs_lines.proofs.read_lines.Statement.{statement}
 use Rattle.dimacs_lines.proofs.read_lines.Tie as tie
 
 abbrev Inv-loop : tie.InvT-loop
-Inv-loop text end n total positive₀ negative₀ table₀ state₀ last₀ positive negative images state last =
-    Passing (record { variables = n; total = total }) text end positive₀ negative₀ table₀ positive negative images state last
+Inv-loop text end n total positive₀ negative₀ images₀ state₀ last₀ positive negative images state last =
+    Passing (record { variables = n; total = total }) text end positive₀ negative₀ images₀ positive negative images state last
 
 abbrev μ-loop : tie.MeasureT-loop
-μ-loop text end n total positive₀ negative₀ table₀ state₀ last₀ positive negative images state last = length text - last
+μ-loop text end n total positive₀ negative₀ images₀ state₀ last₀ positive negative images state last = length text - last
 
 begin-requires : tie.Need-begin-requires Inv-loop μ-loop
 begin-requires c κs = search needs
@@ -49,7 +49,7 @@ same-length-2 : tie.Need-same-length-2 Inv-loop μ-loop
 same-length-2 c = c .before .before .before .before .before .before .before .before .read-line .kept .1 .1 .1 .1 .1 .1 .0 ∙ c .before .before .before .before .before .before .before .before .before .before .before .before .before .before .before .loop .inv .size-negative
 
 same-length-3 : tie.Need-same-length-3 Inv-loop μ-loop
-same-length-3 c = c .before .before .before .before .before .before .before .before .read-line .kept .1 .1 .1 .1 .1 .1 .1 .0 ∙ c .before .before .before .before .before .before .before .before .before .before .before .before .before .before .before .loop .inv .size-table
+same-length-3 c = c .before .before .before .before .before .before .before .before .read-line .kept .1 .1 .1 .1 .1 .1 .1 .0 ∙ c .before .before .before .before .before .before .before .before .before .before .before .before .before .before .before .loop .inv .size-images
 
 returns : tie.Need-returns Inv-loop μ-loop
 returns c = passing-stops _ _ _ _ _ _ _ _ _ _ _ (c .before .before .before .before .before .before .before .before .before .before .before .before .before .before .before .loop .inv) (c .before .before .before .before .before .before .before .before .before .before .before .before .before .before .loop-test .taken) _ (c .before .before .before .before .before .before .before .before .before .before .before .before .before .run-end .ensures) (c .before .before .before .before .before .before .before .before .read-line .result) _ _ _ (c .before .before .before .before .before .before .before .before .read-line .ensures) _ _ (c .enum-told .given .1)
@@ -69,7 +69,7 @@ same-length-5 : tie.Need-same-length-5 Inv-loop μ-loop
 same-length-5 c = c .before .loop .inv .size-negative
 
 same-length-6 : tie.Need-same-length-6 Inv-loop μ-loop
-same-length-6 c = c .before .loop .inv .size-table
+same-length-6 c = c .before .loop .inv .size-images
 
 returns-2 : tie.Need-returns-2 Inv-loop μ-loop
 returns-2 c = passing-ends _ _ _ _ _ _ _ _ _ _ _ (c .before .loop .inv) (c .loop-test .left)

@@ -107,12 +107,12 @@ module _ (z : Sizes) (start : ℕ) (line : List ℕ) (s : State) (p q images : L
         stands = zero-le;
       }
 
-  pub line-permutation : (r : Advanced) (table₁ : List ℕ) → isComment (piece start line) ≡ true
+  pub line-permutation : (r : Advanced) (images₁ : List ℕ) → isComment (piece start line) ≡ true
       → isTargetLine (piece start line) ≡ false
-      → isPermutationLine (piece start line) ≡ true → PermutationTaken (z .variables) start line s images table₁ r
-      → Advancing z start line s p q images r p q table₁
+      → isPermutationLine (piece start line) ≡ true → PermutationTaken (z .variables) start line s images images₁ r
+      → Advancing z start line s p q images r p q images₁
   unfolding kindBy handled andThen
-  line-permutation (On t) table₁ c e f w =
+  line-permutation (On t) images₁ c e f w =
       record {
         step =
             sym (kind-step c e f
@@ -124,7 +124,7 @@ module _ (z : Sizes) (start : ℕ) (line : List ℕ) (s : State) (p q images : L
             ∙ ap goes (three-same (ap (clausesFrom p q) (sym (w .0))) (sym (w .1)) refl));
         stands = record { ready = subst (λ b. Ready z (b .closed) p q) (sym (w .0)) (st .ready); kept = w .2 };
       }
-  line-permutation (Refused code place) table₁ c e f w =
+  line-permutation (Refused code place) images₁ c e f w =
       record {
         step =
             sym (kind-step c e f
@@ -144,13 +144,13 @@ module _ (z : Sizes) (start : ℕ) (line : List ℕ) (s : State) (p q images : L
 
 -- ---- the lines one after the other
 
-module _ (z : Sizes) (text : List ℕ) (end : ℕ) (p₀ q₀ table₀ : List ℕ) where
-  pub passing-begins : (s : State) → s ≡ nothingSaid → Standing z nothingSaid p₀ q₀ table₀ → length text ≤ maxText
+module _ (z : Sizes) (text : List ℕ) (end : ℕ) (p₀ q₀ images₀ : List ℕ) where
+  pub passing-begins : (s : State) → s ≡ nothingSaid → Standing z nothingSaid p₀ q₀ images₀ → length text ≤ maxText
       → end ≤ length text
-      → Passing z text end p₀ q₀ table₀ p₀ q₀ table₀ s end
+      → Passing z text end p₀ q₀ images₀ p₀ q₀ images₀ s end
   unfolding clausesOf permutationsIn
   passing-begins s e st size within =
-      subst (λ t. Passing z text end p₀ q₀ table₀ p₀ q₀ table₀ t end) (sym e)
+      subst (λ t. Passing z text end p₀ q₀ images₀ p₀ q₀ images₀ t end) (sym e)
       (record {
         standing = st;
         size = size;
@@ -158,10 +158,10 @@ module _ (z : Sizes) (text : List ℕ) (end : ℕ) (p₀ q₀ table₀ : List �
         left = refl;
         size-positive = refl;
         size-negative = refl;
-        size-table = refl;
+        size-images = refl;
       })
 
-  module _ (p q images : List ℕ) (s : State) (last : ℕ) (a : Passing z text end p₀ q₀ table₀ p q images s last) where
+  module _ (p q images : List ℕ) (s : State) (last : ℕ) (a : Passing z text end p₀ q₀ images₀ p q images s last) where
     pub passing-ends : length text ≤ last → LinesRead z text end (On s) p q images
     unfolding walk
     passing-ends h =
@@ -172,43 +172,44 @@ module _ (z : Sizes) (text : List ℕ) (end : ℕ) (p₀ q₀ table₀ : List �
         }
 
     module _ (inside : last < length text) (stop : ℕ) (line : Stretch (belongs LineBytes) text (last + 1) stop)
-        (r : Advanced) (p₁ q₁ table₁ : List ℕ)
-        (k : Advancing z (last + 1) (take (stop - (last + 1)) (drop (last + 1) text)) s p q images r p₁ q₁ table₁) where
-      -- the line's step comes first
-      stepped : walk (lineStep z) begin (linesBehind text end)
-          ≡ andThen (advancedOf (z .variables) p₁ q₁ table₁ r) (λ t. walk (lineStep z) t (linesBehind text stop))
-      unfolding walk
-      stepped =
-          a .left ∙ ap (walk (lineStep z) (progressFrom (z .variables) p q images s))
-          (behind-some text last inside ∙ lines-from text (last + 1) stop line)
-          ∙ ap (λ m. andThen m (λ t. walk (lineStep z) t (linesBehind text stop))) (sym (k .step))
+        (r : Advanced) (p₁ q₁ images₁ : List ℕ)
+        (k : Advancing z (last + 1) (take (stop - (last + 1)) (drop (last + 1) text)) s p q images r p₁ q₁ images₁)
+      where
+        -- the line's step comes first
+        stepped : walk (lineStep z) begin (linesBehind text end)
+            ≡ andThen (advancedOf (z .variables) p₁ q₁ images₁ r) (λ t. walk (lineStep z) t (linesBehind text stop))
+        unfolding walk
+        stepped =
+            a .left ∙ ap (walk (lineStep z) (progressFrom (z .variables) p q images s))
+            (behind-some text last inside ∙ lines-from text (last + 1) stop line)
+            ∙ ap (λ m. andThen m (λ t. walk (lineStep z) t (linesBehind text stop))) (sym (k .step))
 
-      pub passing-stops : (code place : ℕ) → r ≡ Refused code place → LinesRead z text end r p₁ q₁ table₁
-      unfolding andThen
-      passing-stops code place e =
-          record {
-            step =
-                ap (advancedOf (z .variables) p₁ q₁ table₁) e
-                ∙ sym (stepped ∙ ap (λ t. andThen (advancedOf (z .variables) p₁ q₁ table₁ t)
-                (λ t. walk (lineStep z) t (linesBehind text stop))) e);
-            stands = k .stands;
-          }
+        pub passing-stops : (code place : ℕ) → r ≡ Refused code place → LinesRead z text end r p₁ q₁ images₁
+        unfolding andThen
+        passing-stops code place e =
+            record {
+              step =
+                  ap (advancedOf (z .variables) p₁ q₁ images₁) e
+                  ∙ sym (stepped ∙ ap (λ t. andThen (advancedOf (z .variables) p₁ q₁ images₁ t)
+                  (λ t. walk (lineStep z) t (linesBehind text stop))) e);
+              stands = k .stands;
+            }
 
-      pub passing-goes-on : (t : State) → r ≡ On t → length p₁ ≡ length p → length q₁ ≡ length q
-          → length table₁ ≡ length images
-          → Passing z text end p₀ q₀ table₀ p₁ q₁ table₁ t stop
-      unfolding andThen
-      passing-goes-on t e lp lq lt =
-          record {
-            standing = subst (λ x. Stands z x p₁ q₁ table₁) e (k .stands);
-            size = a .size;
-            within = line .within;
-            left = stepped ∙ ap (λ t. andThen (advancedOf (z .variables) p₁ q₁ table₁ t)
-                (λ t. walk (lineStep z) t (linesBehind text stop))) e;
-            size-positive = lp ∙ a .size-positive;
-            size-negative = lq ∙ a .size-negative;
-            size-table = lt ∙ a .size-table;
-          }
+        pub passing-goes-on : (t : State) → r ≡ On t → length p₁ ≡ length p → length q₁ ≡ length q
+            → length images₁ ≡ length images
+            → Passing z text end p₀ q₀ images₀ p₁ q₁ images₁ t stop
+        unfolding andThen
+        passing-goes-on t e lp lq lt =
+            record {
+              standing = subst (λ x. Stands z x p₁ q₁ images₁) e (k .stands);
+              size = a .size;
+              within = line .within;
+              left = stepped ∙ ap (λ t. andThen (advancedOf (z .variables) p₁ q₁ images₁ t)
+                  (λ t. walk (lineStep z) t (linesBehind text stop))) e;
+              size-positive = lp ∙ a .size-positive;
+              size-negative = lq ∙ a .size-negative;
+              size-images = lt ∙ a .size-images;
+            }
 
     -- the line lies within the text
     pub passing-inside : (stop : ℕ) → Stretch (belongs LineBytes) text (last + 1) stop

@@ -41,10 +41,10 @@ Stands z (Refused code place) p q images = 0 ≤ 0
 
 -- what a line leads to
 pub record Advancing (z : Sizes) (start : ℕ) (line : List ℕ) (s : State) (p q images : List ℕ) (r : Advanced)
-    (p₁ q₁ table₁ : List ℕ) : Type 0 where
-  pub step : advancedOf (z .variables) p₁ q₁ table₁ r
+    (p₁ q₁ images₁ : List ℕ) : Type 0 where
+  pub step : advancedOf (z .variables) p₁ q₁ images₁ r
       ≡ lineStep z (progressFrom (z .variables) p q images s) (piece start line)
-  pub stands : Stands z r p₁ q₁ table₁
+  pub stands : Stands z r p₁ q₁ images₁
 
 -- ---- the lines one after the other
 
@@ -63,7 +63,7 @@ pub record LinesRead (z : Sizes) (text : List ℕ) (end : ℕ) (r : Advanced) (p
   pub stands : Stands z r p q images
 
 -- the loop over the lines: what is left of the walk, with what was said so far, is the whole walk
-pub record Passing (z : Sizes) (text : List ℕ) (end : ℕ) (p₀ q₀ table₀ p q images : List ℕ) (s : State) (last : ℕ) :
+pub record Passing (z : Sizes) (text : List ℕ) (end : ℕ) (p₀ q₀ images₀ p q images : List ℕ) (s : State) (last : ℕ) :
     Type 0 where
   pub standing : Standing z s p q images
   pub size : length text ≤ maxText
@@ -72,4 +72,4 @@ pub record Passing (z : Sizes) (text : List ℕ) (end : ℕ) (p₀ q₀ table₀
       ≡ walk (lineStep z) (progressFrom (z .variables) p q images s) (linesBehind text last)
   pub size-positive : length p ≡ length p₀
   pub size-negative : length q ≡ length q₀
-  pub size-table : length images ≡ length table₀
+  pub size-images : length images ≡ length images₀

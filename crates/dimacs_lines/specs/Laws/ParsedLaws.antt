@@ -64,10 +64,10 @@ module _ (from to₀ : List ℕ) (count : ℕ) where
 -- ---- the formula
 
 -- the images fill their bytes up to the unused ones
-pub table-padded : (n k : ℕ) (images : List ℕ) → n ≤ 64 → KeptImages n k images
+pub images-padded : (n k : ℕ) (images : List ℕ) → n ≤ 64 → KeptImages n k images
     → padded 1024 (imagesOf (permutationsIn n k images)) ≡ images
 unfolding padded
-table-padded n k images few t =
+images-padded n k images few t =
     let room : k * n ≤ 16 * n = mul-le-mul-right n (t .few) in
     let p = t .places in
     let size : length (take (k * n) images) ≡ k * n = length-take-le (k * n) images (omega arith) in
@@ -173,7 +173,7 @@ module _ (size : ℕ) (z : Sizes) (s : State) (p q images : List ℕ) (st : Stan
             clauses = sym (closed-size ∙ all-closed) i;
             target = ex i;
             permutations = sym (length-permutations (z .variables) (s .permutations) images) i;
-            images = sym (table-padded (z .variables) (s .permutations) images (st .ready .variables) (st .kept)) i;
+            images = sym (images-padded (z .variables) (s .permutations) images (st .ready .variables) (st .kept)) i;
           };
           positive =
               ep ∙ ap (λ l. over l positive₀) (ap (λ j. take j p) (sym all-closed)

@@ -1,4 +1,5 @@
--- With room for the answer the exported reader tells what the reader answers; without, it tells nothing. Assumes nothing.
+-- With room for the answer the exported reader tells what the reader answers; without, it tells nothing. Assumes
+-- nothing.
 use mathlib.Core.Bool.{Bool, false, _&&_}
 use mathlib.Core.List.{List}
 use mathlib.Core.Path.{_≡_, refl, ap, _∙_}
@@ -17,10 +18,12 @@ use Rattle.export_words.specs.Laws.RoomLaws.{with-room, without-room}
 use Rattle.export_words.specs.Words.{wordsOf, hasRoom, numbersOf}
 
 module _ (text positive negative numbers images reply : List ℕ) where
-  rooms : {a b c : Bool} → hasRoom reply ≡ a → hasRoom numbers ≡ b → leb 1024 (length images) ≡ c → hasFormulaRoom numbers images reply ≡ (a && b && c)
+  rooms : {a b c : Bool} → hasRoom reply ≡ a → hasRoom numbers ≡ b → leb 1024 (length images) ≡ c
+      → hasFormulaRoom numbers images reply ≡ (a && b && c)
   rooms p q r = rw (p, q, r)
 
-  nothing : hasFormulaRoom numbers images reply ≡ false → ReadReturns text positive negative numbers images reply 0 positive negative numbers images reply
+  nothing : hasFormulaRoom numbers images reply ≡ false
+      → ReadReturns text positive negative numbers images reply 0 positive negative numbers images reply
   nothing e =
       record {
         returned = without-room e 1 0;
@@ -31,29 +34,33 @@ module _ (text positive negative numbers images reply : List ℕ) where
         negative = without-room e _ negative;
       }
 
-  pub without-reply : length reply < 4 → ReadReturns text positive negative numbers images reply 0 positive negative numbers images reply
+  pub without-reply : length reply < 4
+      → ReadReturns text positive negative numbers images reply 0 positive negative numbers images reply
   without-reply lt = nothing (rooms (lt-leb 4 (length reply) lt) refl refl)
 
-  pub without-numbers : 4 ≤ length reply → length numbers < 4 → ReadReturns text positive negative numbers images reply 0 positive negative numbers images reply
+  pub without-numbers : 4 ≤ length reply → length numbers < 4
+      → ReadReturns text positive negative numbers images reply 0 positive negative numbers images reply
   without-numbers le lt = nothing (rooms (le-leb 4 (length reply) le) (lt-leb 4 (length numbers) lt) refl)
 
   pub without-images : 4 ≤ length reply → 4 ≤ length numbers → length images < 1024
       → ReadReturns text positive negative numbers images reply 0 positive negative numbers images reply
-  without-images le le′ lt = nothing (rooms (le-leb 4 (length reply) le) (le-leb 4 (length numbers) le′) (lt-leb 1024 (length images) lt))
+  without-images le le′ lt = nothing (rooms (le-leb 4 (length reply) le) (le-leb 4 (length numbers) le′)
+      (lt-leb 1024 (length images) lt))
 
-  pub tells-reading : (r : Parsed) (positive₁ negative₁ numbers₁ images₁ reply₁ : List ℕ) → 4 ≤ length reply → 4 ≤ length numbers → 1024 ≤ length images
+  pub tells-reading : (r : Parsed) (positive₁ negative₁ numbers₁ images₁ reply₁ : List ℕ) → 4 ≤ length reply
+      → 4 ≤ length numbers → 1024 ≤ length images
       → Read text positive negative r positive₁ negative₁
       → numbers₁ ≡ over (numbersOf (r .formula)) numbers
       → images₁ ≡ over (r .formula .images) images
       → reply₁ ≡ over (wordsOf (replyOfParse (r .answer))) reply
       → ReadReturns text positive negative numbers images reply 1 positive₁ negative₁ numbers₁ images₁ reply₁
-  tells-reading r positive₁ negative₁ numbers₁ images₁ reply₁ le le′ le″ s told-numbers told-images told-reply =
+  tells-reading r positive₁ negative₁ numbers₁ images₁ reply₁ le le′ le″ s put-numbers put-images put-reply =
       let e = rooms (le-leb 4 (length reply) le) (le-leb 4 (length numbers) le′) (le-leb 1024 (length images) le″) in
       record {
         returned = with-room e 1 0;
-        reply = told-reply ∙ ap (λ (a : Reply). over (wordsOf a) reply) (s .reply) ∙ with-room e _ reply;
-        numbers = told-numbers ∙ ap (λ (f : Formula). over (numbersOf f) numbers) (s .formula) ∙ with-room e _ numbers;
-        images = told-images ∙ ap (λ (f : Formula). over (f .images) images) (s .formula) ∙ with-room e _ images;
+        reply = put-reply ∙ ap (λ (a : Reply). over (wordsOf a) reply) (s .reply) ∙ with-room e _ reply;
+        numbers = put-numbers ∙ ap (λ (f : Formula). over (numbersOf f) numbers) (s .formula) ∙ with-room e _ numbers;
+        images = put-images ∙ ap (λ (f : Formula). over (f .images) images) (s .formula) ∙ with-room e _ images;
         positive = s .positive ∙ with-room e _ positive;
         negative = s .negative ∙ with-room e _ negative;
       }

@@ -1,4 +1,5 @@
--- With room for the answer's words the exported search tells what the search answers; without, it tells nothing. Assumes nothing.
+-- With room for the answer's words the exported search tells what the search answers; without, it tells nothing.
+-- Assumes nothing.
 use mathlib.Core.List.{List}
 use mathlib.Core.Path.{_≡_, ap, _∙_, subst}
 use Prim.Native.Nat.{ℕ, _≤_, _<_}
@@ -14,7 +15,8 @@ use Rattle.export_words.specs.Laws.RoomLaws.{with-room, without-room}
 use Rattle.export_words.specs.Words.{wordsOf}
 
 module _ (f : Formula) (positive negative points falsified depths reply : List ℕ) where
-  pub tells-nothing : length reply < 4 → SearchReturns f positive negative points falsified depths reply 0 points falsified depths reply
+  pub tells-nothing : length reply < 4
+      → SearchReturns f positive negative points falsified depths reply 0 points falsified depths reply
   tells-nothing lt =
       record {
         returned = without-room (lt-leb 4 (length reply) lt) 1 0;
@@ -29,10 +31,12 @@ module _ (f : Formula) (positive negative points falsified depths reply : List �
       → reply₁ ≡ over (wordsOf (replyOfOutcome r)) reply
       → SearchReturns f positive negative points falsified depths reply 1 points₁ falsified₁ depths₁ reply₁
   tells-search g r points₁ falsified₁ depths₁ reply₁ le same searched words =
-      let s = subst (λ h. Searched h positive negative points falsified depths r points₁ falsified₁ depths₁) same searched in
+      let s = subst (λ h. Searched h positive negative points falsified depths r points₁ falsified₁ depths₁) same
+      searched in
       record {
         returned = with-room (le-leb 4 (length reply) le) 1 0;
-        reply = words ∙ ap (λ (a : Reply). over (wordsOf a) reply) (s .reply) ∙ with-room (le-leb 4 (length reply) le) _ reply;
+        reply = words ∙ ap (λ (a : Reply). over (wordsOf a) reply) (s .reply)
+            ∙ with-room (le-leb 4 (length reply) le) _ reply;
         points = s .points ∙ with-room (le-leb 4 (length reply) le) _ points;
         falsified = s .falsified ∙ with-room (le-leb 4 (length reply) le) _ falsified;
         depths = s .depths ∙ with-room (le-leb 4 (length reply) le) _ depths;

@@ -1,4 +1,5 @@
--- With room for the answer's words the exported solver tells what the solver answers; without, it tells nothing. Assumes nothing.
+-- With room for the answer's words the exported solver tells what the solver answers; without, it tells nothing.
+-- Assumes nothing.
 use mathlib.Core.List.{List}
 use mathlib.Core.Path.{_≡_, refl}
 use Prim.Native.Nat.{ℕ, _≤_, _<_}
@@ -15,7 +16,8 @@ use Rattle.export_words.specs.Replies.{solutionWords}
 use Rattle.exports.specs.Solving.{SolveReturns}
 
 module _ (text points falsified depths out reply : List ℕ) where
-  pub tells-nothing : length reply < 4 → SolveReturns text points falsified depths out reply 0 points falsified depths out reply
+  pub tells-nothing : length reply < 4
+      → SolveReturns text points falsified depths out reply 0 points falsified depths out reply
   tells-nothing lt =
       record {
         returned = without-room (lt-leb 4 (length reply) lt) 1 0;

@@ -1,4 +1,5 @@
--- With room for the answer's words the exported writer tells what the writer answers; without, it tells nothing. Assumes nothing.
+-- With room for the answer's words the exported writer tells what the writer answers; without, it tells nothing.
+-- Assumes nothing.
 use mathlib.Core.List.{List}
 use mathlib.Core.Path.{_≡_, ap, _∙_, subst}
 use Prim.Native.Nat.{ℕ, _≤_, _<_}
@@ -14,7 +15,8 @@ use Rattle.export_words.specs.Words.{wordsOf}
 use Rattle.exports.specs.Writing.{WriteReturns}
 
 module _ (f : Formula) (positive negative points falsified depths : List ℕ) (filled : ℕ) (out reply : List ℕ) where
-  pub tells-nothing : length reply < 4 → WriteReturns f positive negative points falsified depths filled out reply 0 out reply
+  pub tells-nothing : length reply < 4
+      → WriteReturns f positive negative points falsified depths filled out reply 0 out reply
   tells-nothing lt =
       record {
         returned = without-room (lt-leb 4 (length reply) lt) 1 0;
@@ -30,6 +32,7 @@ module _ (f : Formula) (positive negative points falsified depths : List ℕ) (f
       let w = subst (λ h. Wrote h positive negative points falsified depths filled out r out₁) same wrote in
       record {
         returned = with-room (le-leb 4 (length reply) le) 1 0;
-        reply = words ∙ ap (λ (a : Reply). over (wordsOf a) reply) (w .reply) ∙ with-room (le-leb 4 (length reply) le) _ reply;
+        reply = words ∙ ap (λ (a : Reply). over (wordsOf a) reply) (w .reply)
+            ∙ with-room (le-leb 4 (length reply) le) _ reply;
         output = w .output ∙ with-room (le-leb 4 (length reply) le) _ out;
       }

@@ -25,7 +25,7 @@ use Rattle.formula.specs.Limits.{maxVariables, maxClauses, maxPermutatio
 use Rattle.formula.specs.Refusals.{allBelow, Fits, fits, formulaFault, permutationFault, symmetryFault}
 use Rattle.formula.specs.Refusals.{problemFault}
 use Rattle.formula.specs.Reply.{Fault, no-fault, fault, faultAt}
-use Rattle.formula.specs.Laws.ReplyLaws.{IsFault, fault-not-sound, faultAt-sound, answers-first, answers-rest}
+use Rattle.formula.specs.Laws.ReplyLaws.{IsFault, fault-not-none, faultAt-none, answers-first, answers-rest}
 use Rattle.formula.specs.Laws.ReplyLaws.{first-last}
 
 -- ---- 10
@@ -108,9 +108,9 @@ permutation-passes n es h = by (leb (length es) maxPermutations) refl h
     by true few h = (
       leb-true (length es) maxPermutations few,
       λ e m. isPermutation-sound n e (none-failing (isPermutation n) es
-          (faultAt-sound 11 (firstFailing (isPermutation n) es) h) e m),
+          (faultAt-none 11 (firstFailing (isPermutation n) es) h) e m),
     )
-    by false many h = absurd (fault-not-sound 11 17 h)
+    by false many h = absurd (fault-not-none 11 17 h)
 
 pub passes-permutation : (n : ℕ) (es : List Permutation) → length es ≤ maxPermutations
     → ((e : Permutation) → e ∈ es → IsPermutation n e) → permutationFault n es ≡ no-fault
@@ -125,7 +125,7 @@ pub symmetry-passes : (cs : List Numbered) (es : List Permutation) → symmetryF
     → e ∈ es → Keeps e cs
 unfolding symmetryFault
 symmetry-passes cs es h e m = keeps-sound cs e (none-failing (keeps cs) es
-    (faultAt-sound 12 (firstFailing (keeps cs) es) h) e m)
+    (faultAt-none 12 (firstFailing (keeps cs) es) h) e m)
 
 pub passes-symmetry : (cs : List Numbered) (es : List Permutation) → ((e : Permutation) → e ∈ es → Keeps e cs)
     → symmetryFault cs es ≡ no-fault
@@ -199,7 +199,7 @@ module _ (f : Formula) (positive negative : List ℕ) where
             ltb-true (f .target) (2 ^ f .variables)
                 (both .1),
           )
-      by false e h = absurd (fault-not-sound 10 0 h)
+      by false e h = absurd (fault-not-none 10 0 h)
 
   -- at most 16 permutations of at most 64 variables lie in 1,024 bytes
   pub images-room : f .variables ≤ maxVariables → length (f .images) ≡ 1024 → f .permutations ≤ maxPermutations

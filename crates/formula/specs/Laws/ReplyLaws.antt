@@ -11,12 +11,12 @@ use Rattle.formula.specs.Reply.{Fault, no-fault, fault, faultAt, first, 
 use Rattle.formula.specs.Reply.{unless}
 
 -- whether the test found nothing
-abbrev isSound : Fault → Bool
-isSound no-fault = true
-isSound (fault code place) = false
+abbrev isNoFault : Fault → Bool
+isNoFault no-fault = true
+isNoFault (fault code place) = false
 
-pub fault-not-sound : (code place : ℕ) → fault code place ≡ no-fault → ⊥
-fault-not-sound code place e = true≢false (ap isSound (sym e))
+pub fault-not-none : (code place : ℕ) → fault code place ≡ no-fault → ⊥
+fault-not-none code place e = true≢false (ap isNoFault (sym e))
 
 pub first-skips : (f : Fault) (fs : List Fault) → f ≡ no-fault → first (f ∷ fs) ≡ first fs
 unfolding first
@@ -48,10 +48,10 @@ answers-rest r t ts passed e = e ∙ sym (first-skips t ts passed)
 
 -- ---- a fault by number
 
-pub faultAt-sound : (code k : ℕ) → faultAt code k ≡ no-fault → k ≡ 0
+pub faultAt-none : (code k : ℕ) → faultAt code k ≡ no-fault → k ≡ 0
 unfolding faultAt
-faultAt-sound code zero h = refl
-faultAt-sound code (suc k) h = absurd (fault-not-sound code (suc k) h)
+faultAt-none code zero h = refl
+faultAt-none code (suc k) h = absurd (fault-not-none code (suc k) h)
 
 pub fault-zero : (code k : ℕ) → k ≡ 0 → no-fault ≡ faultAt code k
 unfolding faultAt
@@ -71,7 +71,7 @@ first-none = refl
 pub first-split : (t : Fault) (ts : List Fault) → first (t ∷ ts) ≡ no-fault → (t ≡ no-fault) × (first ts ≡ no-fault)
 unfolding first
 first-split no-fault ts h = (refl, h)
-first-split (fault code place) ts h = absurd (fault-not-sound code place h)
+first-split (fault code place) ts h = absurd (fault-not-none code place h)
 
 pub first-join : (t : Fault) (ts : List Fault) → t ≡ no-fault → first ts ≡ no-fault → first (t ∷ ts) ≡ no-fault
 unfolding first
@@ -83,12 +83,12 @@ pub first-after : (fs gs : List Fault) → first fs ≡ no-fault → first (fs +
 unfolding first
 first-after [] gs h = refl
 first-after (no-fault ∷ fs) gs h = first-after fs gs h
-first-after (fault code place ∷ fs) gs h = absurd (fault-not-sound code place h)
+first-after (fault code place ∷ fs) gs h = absurd (fault-not-none code place h)
 
 pub first-before : (fs gs : List Fault) (code place : ℕ) → first fs ≡ fault code place
     → first (fs ++ gs) ≡ fault code place
 unfolding first
-first-before [] gs code place h = absurd (fault-not-sound code place (sym h))
+first-before [] gs code place h = absurd (fault-not-none code place (sym h))
 first-before (no-fault ∷ fs) gs code place h = first-before fs gs code place h
 first-before (fault c p ∷ fs) gs code place h = h
 
@@ -104,7 +104,7 @@ first-nested (fault code place ∷ fs) gs = refl
 pub tested : (b : Bool) (t : Fault) (code place : ℕ) → cond b t (fault code place) ≡ no-fault
     → (b ≡ true) × (t ≡ no-fault)
 tested true t code place h = (refl, h)
-tested false t code place h = absurd (fault-not-sound code place h)
+tested false t code place h = absurd (fault-not-none code place h)
 
 pub test-passed : (b : Bool) (t : Fault) (code place : ℕ) → b ≡ true → t ≡ no-fault
     → cond b t (fault code place) ≡ no-fault
@@ -114,14 +114,14 @@ test-passed b t code place p q = rw p q
 
 module _ {A : Type 0} (code : ℕ) (t : A → Bool) (xs : List A) where
   pub each-passed : faultAt code (firstFailing t xs) ≡ no-fault → (x : A) → x ∈ xs → t x ≡ true
-  each-passed h = none-failing t xs (faultAt-sound code (firstFailing t xs) h)
+  each-passed h = none-failing t xs (faultAt-none code (firstFailing t xs) h)
 
   pub passes-each : ((x : A) → x ∈ xs → t x ≡ true) → faultAt code (firstFailing t xs) ≡ no-fault
   passes-each h = sym (fault-zero code (firstFailing t xs) (all-passing t xs h))
 
 module _ (code : ℕ) (t : ℕ → Bool) (k : ℕ) where
   pub below-passed : faultAt code (firstFailing t (below k)) ≡ no-fault → (i : ℕ) → i < k → t i ≡ true
-  below-passed h = none-failing-below t k (faultAt-sound code (firstFailing t (below k)) h)
+  below-passed h = none-failing-below t k (faultAt-none code (firstFailing t (below k)) h)
 
   pub passes-below : ((i : ℕ) → i < k → t i ≡ true) → faultAt code (firstFailing t (below k)) ≡ no-fault
   passes-below h = sym (fault-zero code (firstFailing t (below k)) (all-passing-below t k h))
@@ -129,9 +129,9 @@ module _ (code : ℕ) (t : ℕ → Bool) (k : ℕ) where
 -- ---- the reply
 
 -- a reply that is no refusal
-pub unless-sound : (t : Fault) → t ≡ no-fault → (r : Reply) → unless t r ≡ r
+pub unless-none : (t : Fault) → t ≡ no-fault → (r : Reply) → unless t r ≡ r
 unfolding unless
-unless-sound t e r = rw e
+unless-none t e r = rw e
 
 -- no fault was found where the reply is not a refusal
 pub not-refused : (t : Fault) (r s : Reply) → unless t r ≡ s → ((code place : ℕ) → s ≡ refused code place → ⊥)

@@ -4,7 +4,8 @@ use Prim.Native.Nat.{ℕ}
 use lib.ListN.{take}
 use borrow.Author.Needs.{needs}
 use Rattle.search.specs.Search.{searchReply}
-use Rattle.program_text.specs.Report.{reportOf, Printed}
+use Rattle.program_text.specs.Report.{reportOf}
+use Rattle.program_text.specs.Laws.Putting.{Printed}
 use Rattle.program.specs.Laws.ProgramLaws.{slots-lent}
 use Rattle.program.proofs.search_sheet.Statement.{statement}
 use Rattle.program.proofs.search_sheet.Tie as tie

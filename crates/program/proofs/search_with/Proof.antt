@@ -6,7 +6,8 @@ use lib.ListN.{take}
 use borrow.Author.Needs.{needs}
 use Rattle.formula.specs.Reply.{Reply}
 use Rattle.search.specs.Search.{lentBy, searchReply}
-use Rattle.program_text.specs.Report.{reportOf, Printed}
+use Rattle.program_text.specs.Report.{reportOf}
+use Rattle.program_text.specs.Laws.Putting.{Printed}
 use Rattle.program.proofs.search_with.Statement.{statement}
 use Rattle.program.proofs.search_with.Tie as tie
 

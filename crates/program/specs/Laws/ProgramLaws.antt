@@ -13,7 +13,8 @@ use Rattle.dimacs_format.specs.Reader.{readReply, readFormula, readPositive, re
 use Rattle.search.specs.Search.{lentBy, searchReply}
 use Rattle.claims.specs.Claim.{formulaIn, positiveIn, negativeIn}
 use Rattle.solver.specs.Solver.{blank, afterReading, sheetReply}
-use Rattle.program_text.specs.Report.{refusedText, reportOf, Printed}
+use Rattle.program_text.specs.Report.{refusedText, reportOf}
+use Rattle.program_text.specs.Laws.Putting.{Printed}
 use Rattle.program.specs.Program.{slots, maxInput, sheetIn, replyTo, printed}
 
 -- 4,096 places in each slot slice are 4,096 slots

@@ -1,4 +1,5 @@
--- `program_text::put_decimal` meets its contract: the digits of the tenth, then the last one. The measure is the number. Assumes nothing.
+-- `program_text::put_decimal` meets its contract: the digits of the tenth, then the last one. The measure is the
+-- number. Assumes nothing.
 use mathlib.Core.Path.{sym, subst}
 use Prim.Native.Nat.{ℕ, _/_, _<_}
 use native.Mathlib.Omega.{arith}

@@ -5,7 +5,8 @@ use Prim.Native.Nat.{ℕ}
 use borrow.Author.Needs.{needs}
 use Rattle.search.specs.declared.Outcome.{Outcome}
 use Rattle.search.specs.Contract.{replyOfOutcome}
-use Rattle.program_text.specs.Report.{reportOf, Printed}
+use Rattle.program_text.specs.Report.{reportOf}
+use Rattle.program_text.specs.Laws.Putting.{Printed}
 use Rattle.program_text.proofs.put_report.Statement.{statement}
 use Rattle.program_text.proofs.put_report.Tie as tie
 

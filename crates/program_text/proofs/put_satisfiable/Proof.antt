@@ -6,7 +6,8 @@ use native.Mathlib.Omega.{arith}
 use borrow.Author.Needs.{needs}
 use Rattle.program_text.specs.Decimal.{line}
 use Rattle.program_text.specs.Laws.Putting.{at-front, front-room, back-room, put-both}
-use Rattle.program_text.specs.Report.{literals, satisfiableHead, valuesEnd, changesHead, slotsBetween, satisfiableText}
+use Rattle.program_text.specs.Report.{literals, satisfiableHead, valuesEnd, changesHead, slotsBetween}
+use Rattle.program_text.specs.Report.{satisfiableText}
 use Rattle.program_text.specs.Laws.ReportLaws.{put-front, satisfiable-length}
 use Rattle.program_text.proofs.put_satisfiable.Statement.{statement}
 use Rattle.program_text.proofs.put_satisfiable.Tie as tie

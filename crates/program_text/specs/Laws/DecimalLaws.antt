@@ -1,4 +1,5 @@
--- Laws of decimal numbers as text: the digits one by one, how many there are at most, and what they are read as. Assumes nothing.
+-- Laws of decimal numbers as text: the digits one by one, how many there are at most, and what they are read as.
+-- Assumes nothing.
 use mathlib.Core.Bool.{Bool, true, false}
 use mathlib.Core.List.{List, [], _∷_, _++_}
 use mathlib.Core.Path.{_≡_, refl, sym, ap, ap₂, _∙_, subst}
@@ -25,12 +26,14 @@ digits-same zero g zero p r = sym (digits-none g)
 digits-same zero g (suc q) p r = absurd (omega arith)
 digits-same (suc f) g zero p r = sym (digits-none g)
 digits-same (suc f) zero (suc q) p r = absurd (omega arith)
-digits-same (suc f) (suc g) (suc q) p r = ap (λ l. l ++ (48 + suc q % 10) ∷ []) (digits-same f g (suc q / 10) (omega arith) (omega arith))
+digits-same (suc f) (suc g) (suc q) p r = ap (λ l. l ++ (48 + suc q % 10) ∷ [])
+    (digits-same f g (suc q / 10) (omega arith) (omega arith))
 
 -- a number below 10 is one digit
 pub numeral-small : (x : ℕ) → x < 10 → numeral x ≡ (48 + x) ∷ []
 unfolding numeral
-numeral-small x lt = ap₂ (λ (q r : ℕ). digits x q ++ (48 + r) ∷ []) (div-eq-of-lt lt) (mod-eq-of-lt lt) ∙ ap (λ l. l ++ (48 + x) ∷ []) (digits-none x)
+numeral-small x lt = ap₂ (λ (q r : ℕ). digits x q ++ (48 + r) ∷ []) (div-eq-of-lt lt) (mod-eq-of-lt lt)
+    ∙ ap (λ l. l ++ (48 + x) ∷ []) (digits-none x)
 
 -- any other: those of its tenth, and the last digit
 pub numeral-large : (x : ℕ) → 10 ≤ x → numeral x ≡ numeral (x / 10) ++ (48 + x % 10) ∷ []
@@ -40,18 +43,25 @@ numeral-large x ge = ap (λ l. l ++ (48 + x % 10) ∷ []) (by x (x / 10) (omega 
     by : (f q : ℕ) → q ≤ f → 1 ≤ q → digits f q ≡ digits q (q / 10) ++ (48 + q % 10) ∷ []
     by f zero p r = absurd (omega arith)
     by zero (suc q) p r = absurd (omega arith)
-    by (suc f) (suc q) p r = ap (λ l. l ++ (48 + suc q % 10) ∷ []) (digits-same f (suc q) (suc q / 10) (omega arith) (omega arith))
+    by (suc f) (suc q) p r = ap (λ l. l ++ (48 + suc q % 10) ∷ [])
+        (digits-same f (suc q) (suc q / 10) (omega arith) (omega arith))
 
 -- a number below 10 ^ k has at most k digits
 pub numeral-length : (k x : ℕ) → x < 10 ^ suc k → length (numeral x) ≤ suc k
 numeral-length zero x lt = subst (λ l. length l ≤ 1) (sym (numeral-small x lt)) (omega arith)
 numeral-length (suc k) x lt = by (ltb x 10) refl (numeral-length k (x / 10))
   where
-    by : (b : Bool) → ltb x 10 ≡ b → (x / 10 < 10 ^ suc k → length (numeral (x / 10)) ≤ suc k) → length (numeral x) ≤ suc (suc k)
+    by : (b : Bool) → ltb x 10 ≡ b → (x / 10 < 10 ^ suc k → length (numeral (x / 10)) ≤ suc k)
+        → length (numeral x) ≤ suc (suc k)
     by true e below = subst (λ l. length l ≤ suc (suc k)) (sym (numeral-small x (ltb-true x 10 e))) (omega arith)
     by false e below =
         subst (λ l. length l ≤ suc (suc k)) (sym (numeral-large x (ltb-false x 10 e)))
-        (omega (arith, length-append (numeral (x / 10)) ((48 + x % 10) ∷ []), below (div-lt-iff-lt-mul (omega arith) .1 (subst (λ (m : ℕ). x < m) (pow-suc 10 (suc k)) lt))))
+        (omega (
+          arith,
+          length-append (numeral (x / 10)) ((48 + x % 10) ∷ []),
+          below
+              (div-lt-iff-lt-mul (omega arith) .1 (subst (λ (m : ℕ). x < m) (pow-suc 10 (suc k)) lt)),
+        ))
 
 -- read back as the reader reads digits, they are the number
 value-snoc : (v d : ℕ) (ds : List ℕ) → decimal v (ds ++ (48 + d) ∷ []) ≡ decimal v ds * 10 + d
@@ -89,10 +99,12 @@ module _ (at x : ℕ) (out : List ℕ) (room : at + length (numeral x) ≤ lengt
 
       pub put-last : (r′ : ℕ) (out₂ : List ℕ) → Put r ((48 + x % 10) ∷ []) out₁ r′ out₂ → Put at (numeral x) out r′ out₂
       put-last r′ out₂ q =
-          subst (λ l. Put at l out r′ out₂) (sym (numeral-large x ge)) (put-both at (numeral (x / 10)) ((48 + x % 10) ∷ []) out split-room r out₁ p r′ out₂ q)
+          subst (λ l. Put at l out r′ out₂) (sym (numeral-large x ge))
+          (put-both at (numeral (x / 10)) ((48 + x % 10) ∷ []) out split-room r out₁ p r′ out₂ q)
 
 -- how long a line is at most
-pub line-length : (head between : List ℕ) (i j a b : ℕ) → a < 10 ^ suc i → b < 10 ^ suc j → length (line head a between b) ≤ length head + suc i + length between + suc j + 1
+pub line-length : (head between : List ℕ) (i j a b : ℕ) → a < 10 ^ suc i → b < 10 ^ suc j
+    → length (line head a between b) ≤ length head + suc i + length between + suc j + 1
 line-length head between i j a b p q =
     omega (
       arith,

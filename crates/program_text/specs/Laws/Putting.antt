@@ -5,7 +5,7 @@ use Prim.Native.Nat.{ℕ, _+_, _≤_, _<_}
 use native.Mathlib.Nat.{add-assoc, add-zero}
 use native.Mathlib.Omega.{arith}
 use lib.ListN.{length, length-append, set}
-use Rattle.math.specs.Lists.{spliced}
+use Rattle.math.specs.Lists.{over, spliced}
 use Rattle.math.specs.Laws.SpliceLaws.{spliced-none, spliced-one}
 use Rattle.certificate_output.specs.Laws.OutputLaws.{part-stored}
 
@@ -38,6 +38,13 @@ module _ (at : ℕ) (a b out : List ℕ) (room : at + length (a ++ b) ≤ length
     pub put-both : (r′ : ℕ) (out₂ : List ℕ) → Put r b out₁ r′ out₂ → Put at (a ++ b) out r′ out₂
     put-both r′ out₂ q =
         record {
-          behind = q .behind ∙ ap (λ (k : ℕ). k + length b) (p .behind) ∙ add-assoc at (length a) (length b) ∙ ap (λ (k : ℕ). at + k) (sym (length-append a b));
-          stored = part-stored at r a b out out₁ out₂ (omega (arith, length-append a b)) (p .behind) (p .stored) (q .stored);
+          behind = q .behind ∙ ap (λ (k : ℕ). k + length b) (p .behind) ∙ add-assoc at (length a) (length b)
+              ∙ ap (λ (k : ℕ). at + k) (sym (length-append a b));
+          stored = part-stored at r a b out out₁ out₂ (omega (arith, length-append a b)) (p .behind) (p .stored)
+              (q .stored);
         }
+
+-- a text is put to the front of the output: r counts its bytes, and what is behind them is as it was
+pub record Printed (text out₀ : List ℕ) (r : ℕ) (out₁ : List ℕ) : Type 0 where
+  pub counted : r ≡ length text
+  pub output : out₁ ≡ over text out₀

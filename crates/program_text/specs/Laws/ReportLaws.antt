@@ -12,16 +12,28 @@ use Rattle.math.specs.Laws.SpliceLaws.{spliced-front}
 use Rattle.program_text.specs.Decimal.{numeral, lineEnd, field, line}
 use Rattle.program_text.specs.Laws.DecimalLaws.{numeral-length, line-length}
 use Rattle.program_text.specs.Laws.Putting.{Put}
-use Rattle.program_text.specs.Report.{sign, literal, literals, satisfiableHead, valuesEnd, changesHead, slotsBetween, unsatisfiableHead, space, satisfiableText, unsatisfiableText, Printed}
+use Rattle.program_text.specs.Report.{sign, literal, literals, satisfiableHead, valuesEnd, changesHead}
+use Rattle.program_text.specs.Report.{slotsBetween, unsatisfiableHead, space, satisfiableText, unsatisfiableText}
+use Rattle.program_text.specs.Laws.Putting.{Printed}
 
 -- put at the front of the output
 pub put-front : (text out₀ : List ℕ) (r : ℕ) (out₁ : List ℕ) → Put 0 text out₀ r out₁ → Printed text out₀ r out₁
-put-front text out₀ r out₁ p = record { counted = omega (arith, p .behind); output = p .stored ∙ spliced-front text out₀ }
+put-front text out₀ r out₁ p = record {
+  counted = omega (arith, p .behind);
+  output = p .stored
+      ∙ spliced-front text out₀;
+}
 
 -- what was put lies within the output
 pub put-within : (text out₀ : List ℕ) (r : ℕ) (out₁ : List ℕ) → Printed text out₀ r out₁ → r ≤ length out₁
 unfolding over
-put-within text out₀ r out₁ p = omega (arith, p .counted, ap length (p .output), length-append text (drop (length text) out₀))
+put-within text out₀ r out₁ p = omega (
+  arith,
+  p .counted,
+  ap length (p .output),
+  length-append text
+      (drop (length text) out₀),
+)
 
 -- ---- names
 
@@ -50,8 +62,14 @@ literals-length x (suc n) le =
     )
 
 -- there is room for the next one
-pub literal-room : (at x i n : ℕ) (out : List ℕ) → n ≤ 64 → at + 4 * n ≤ length out → i < n → at + length (literals x i ++ literal x i) ≤ length out
-literal-room at x i n out few room more = omega (arith, literals-length x (i + 1) (omega arith), ap length (literals-next x i))
+pub literal-room : (at x i n : ℕ) (out : List ℕ) → n ≤ 64 → at + 4 * n ≤ length out → i < n
+    → at + length (literals x i ++ literal x i) ≤ length out
+literal-room at x i n out few room more = omega (
+  arith,
+  literals-length x (i + 1) (omega arith),
+  ap length
+      (literals-next x i),
+)
 
 -- ---- no text is longer than 312 bytes where there are at most 64 names
 
@@ -71,7 +89,12 @@ satisfiable-length n x d k few p q =
 pub unsatisfiable-length : (k : ℕ) → k < 10 ^ 10 → length (unsatisfiableText k) ≤ 312
 unfolding unsatisfiableText
 unsatisfiable-length k p =
-    omega (arith, length-append (field unsatisfiableHead k) lineEnd, length-append unsatisfiableHead (numeral k), numeral-length 9 k p)
+    omega (
+      arith,
+      length-append (field unsatisfiableHead k) lineEnd,
+      length-append unsatisfiableHead (numeral k),
+      numeral-length 9 k p,
+    )
 
 -- there is room for a line with two numbers and a short head
 pub line-room : (head out : List ℕ) (a b : ℕ) → length head ≤ 100 → a < 10 ^ 10 → b < 10 ^ 20 → 312 ≤ length out

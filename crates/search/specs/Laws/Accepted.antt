@@ -14,7 +14,7 @@ use Rattle.formula.specs.Problem.{problemOf}
 use Rattle.formula.specs.Laws.RefusalLaws.{fits-below, formula-passes, permutation-passes, symmetry-passes}
 use Rattle.formula.specs.Refusals.{formulaFault, permutationFault, symmetryFault}
 use Rattle.formula.specs.Reply.{Reply, refused, Fault, no-fault}
-use Rattle.formula.specs.Laws.ReplyLaws.{first-split, first-last, fault-not-sound, not-refused, unless-sound}
+use Rattle.formula.specs.Laws.ReplyLaws.{first-split, first-last, fault-not-none, not-refused, unless-none}
 use Rattle.search.specs.Laws.WalkAnswers.{WalkAnswers}
 use Rattle.search.specs.Search.{slotFault, searchFault, searchReply, searchSlots}
 use Rattle.search_theory.specs.Laws.Invariants.{Ready}
@@ -23,7 +23,7 @@ use Rattle.search_theory.specs.Laws.WalkLaws.{walked-walks}
 
 lent-slot : (k : ℕ) → slotFault k ≡ no-fault → 1 ≤ k
 unfolding slotFault
-lent-slot zero e = absurd (fault-not-sound 13 0 e)
+lent-slot zero e = absurd (fault-not-none 13 0 e)
 lent-slot (suc k) e = suc-le-suc zero-le
 
 -- ---- "The number of slots P is the shortest length lent, at most 65,536 used."
@@ -89,6 +89,6 @@ module _ (f : Formula) (positive negative : List ℕ) (lent : ℕ) where
         ready = ready-of-faults s;
         room = room;
         walks = subst (λ r. Walks pb lent (start pb) r (walked pb lent .slots))
-            (sym (unless-sound (searchFault f positive negative lent) s (walked pb lent .reply)) ∙ e)
+            (sym (unless-none (searchFault f positive negative lent) s (walked pb lent .reply)) ∙ e)
             (walked-walks pb lent room);
       }

@@ -18,7 +18,7 @@ use Rattle.formula.specs.Problem.{problemOf}
 use Rattle.formula.specs.Laws.RefusalLaws.{formula-passes, formula-listed, permutation-passes, passes-few}
 use Rattle.formula.specs.Refusals.{formulaFault, permutationFault, symmetryFault, problemFault, faultOf}
 use Rattle.formula.specs.Reply.{Reply, Fault, no-fault, fault}
-use Rattle.formula.specs.Laws.ReplyLaws.{first-last, first-after, first-before, unless-sound}
+use Rattle.formula.specs.Laws.ReplyLaws.{first-last, first-after, first-before, unless-none}
 use Rattle.search.specs.Laws.Accepted.{rows, ready-of-faults, lent-of-faults, lent-few}
 use Rattle.search.specs.Search.{slotFault, searchFault, lentBy, searchReply, searchSlots, searchSlice}
 use Rattle.search.specs.Contract.{replyOfOutcome, Searched}
@@ -92,7 +92,7 @@ module _ (f : Formula) (positive negative : List ℕ) where
   reply-of : (lent : ℕ) (r : Reply) → searchFault f positive negative lent ≡ no-fault
       → walked (problemOf f positive negative) lent .reply ≡ r → r ≡ searchReply f positive negative lent
   unfolding searchReply
-  reply-of lent r h e = sym (unless-sound (searchFault f positive negative lent) h
+  reply-of lent r h e = sym (unless-none (searchFault f positive negative lent) h
       (walked (problemOf f positive negative) lent .reply) ∙ e)
 
   slice-of : (part : Slot → ℕ) (lent : ℕ) (l : List Slot) (old now : List ℕ)

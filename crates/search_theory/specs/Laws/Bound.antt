@@ -32,11 +32,11 @@ module _ (pb : Problem) (capacity : ℕ) (ready : Ready pb) where
       ≡ distance (pb .variables) y (pb .target) = distance-symmetric (pb .variables) (pb .target) y in
       omega arith
 
-  bound-ended : {b k : ℕ} {l : List Slot} → Ended pb capacity (unknown b k) l → LowerBound pb b
+  bound-ended : {b filled : ℕ} {l : List Slot} → Ended pb capacity (unknown b filled) l → LowerBound pb b
   bound-ended (blocked {p = p} {w = w} {s = s} i f g) = lower-bound p w s i (s .depth) (le-refl (s .depth))
 
   -- D3.7: "'No room' carries a number d, and every choice that meets the rules differs from the wish in at least d
   -- names."
-  pub unknown-bound : 1 ≤ capacity → {b k : ℕ} {l : List Slot} → Walks pb capacity (start pb) (unknown b k) l
+  pub unknown-bound : 1 ≤ capacity → {b filled : ℕ} {l : List Slot} → Walks pb capacity (start pb) (unknown b filled) l
       → LowerBound pb b
   unknown-bound room t = bound-ended (search-ends pb capacity ready room t)

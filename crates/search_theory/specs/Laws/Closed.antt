@@ -26,11 +26,11 @@ module _ (pb : Problem) (capacity : ℕ) where
         (h t m);
   }
 
-  closed-ended : {k : ℕ} {l : List Slot} → Ended pb capacity (unsatisfiable k) l → ClosedSlots pb l
+  closed-ended : {filled : ℕ} {l : List Slot} → Ended pb capacity (unsatisfiable filled) l → ClosedSlots pb l
   closed-ended (exhausted {p = p} i) =
       closed (subst (Filled pb capacity) (append-nil p) (i .filled))
       (λ t m. subst (λ l. Processed pb l t) (append-nil p) (i .processed t m))
 
-  pub refuted-closed : Ready pb → 1 ≤ capacity → {k : ℕ} {l : List Slot}
-      → Walks pb capacity (start pb) (unsatisfiable k) l → ClosedSlots pb l
+  pub refuted-closed : Ready pb → 1 ≤ capacity → {filled : ℕ} {l : List Slot}
+      → Walks pb capacity (start pb) (unsatisfiable filled) l → ClosedSlots pb l
   refuted-closed ready room t = closed-ended (search-ends pb capacity ready room t)

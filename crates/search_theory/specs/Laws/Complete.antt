@@ -15,7 +15,7 @@ use Rattle.search_theory.specs.Walk.{Slot, withNumber, State, start, Wal
 module _ (pb : Problem) (capacity : ℕ) where
   -- an answer is one of three
   pub otherwise-unsatisfiable : {st : State} {r : Reply} {l : List Slot} → Walks pb capacity st r l
-      → ((b k : ℕ) → r ≡ unknown b k → ⊥) → ((x d k : ℕ) → r ≡ satisfiable x d k → ⊥)
+      → ((b filled : ℕ) → r ≡ unknown b filled → ⊥) → ((x d filled : ℕ) → r ≡ satisfiable x d filled → ⊥)
       → r ≡ unsatisfiable (length l)
   otherwise-unsatisfiable none-left known lost = refl
   otherwise-unsatisfiable (met {p = p} {w = w} {s = s} h) known lost = absurd
@@ -26,27 +26,30 @@ module _ (pb : Problem) (capacity : ℕ) where
 
 module _ (pb : Problem) (capacity : ℕ) (ready : Ready pb) where
   -- nothing waits, but for a satisfying point something would
-  refuted-ended : {k : ℕ} {l : List Slot} → Ended pb capacity (unsatisfiable k) l → Unsatisfiable pb
+  refuted-ended : {filled : ℕ} {l : List Slot} → Ended pb capacity (unsatisfiable filled) l → Unsatisfiable pb
   refuted-ended (exhausted {p = p} i) y hy sat = List·Memᴰ·not-nil (measure pb capacity ready p [] i y hy sat .among)
 
   module _ (room : 1 ≤ capacity) where
-    pub refuted : {k : ℕ} {l : List Slot} → Walks pb capacity (start pb) (unsatisfiable k) l → Unsatisfiable pb
+    pub refuted : {filled : ℕ} {l : List Slot} → Walks pb capacity (start pb) (unsatisfiable filled) l
+        → Unsatisfiable pb
     refuted t = refuted-ended (search-ends pb capacity ready room t)
 
     -- without a satisfying point none is handed back
     pub none-found : Unsatisfiable pb → {r : Reply} {l : List Slot} → Walks pb capacity (start pb) r l
-        → ((b k : ℕ) → r ≡ unknown b k → ⊥) → r ≡ unsatisfiable (length l)
+        → ((b filled : ℕ) → r ≡ unknown b filled → ⊥) → r ≡ unsatisfiable (length l)
     none-found none {l = l} t known =
         otherwise-unsatisfiable pb capacity t known
-        (λ x d k e. let m = found-nearest pb capacity ready room (subst (λ r. Walks pb capacity (start pb) r l) e t) in
+        (λ x d filled e. let m = found-nearest pb capacity ready room
+        (subst (λ r. Walks pb capacity (start pb) r l) e t) in
         none x (m .within) (m .satisfying))
 
     -- D3.3: "Unless 'no room' is said, 'cannot be met' is said exactly when none of the 2^n choices meets the rules."
     pub unsatisfiable-exactly : {r : Reply} {l : List Slot} → Walks pb capacity (start pb) r l
-        → ((b k : ℕ) → r ≡ unknown b k → ⊥)
-        → ((k : ℕ) → r ≡ unsatisfiable k → Unsatisfiable pb) × (Unsatisfiable pb → r ≡ unsatisfiable (length l))
+        → ((b filled : ℕ) → r ≡ unknown b filled → ⊥)
+        → ((filled : ℕ) → r ≡ unsatisfiable filled → Unsatisfiable pb)
+        × (Unsatisfiable pb → r ≡ unsatisfiable (length l))
     unsatisfiable-exactly {l = l} t known = (
-      λ k e. refuted (subst (λ r. Walks pb capacity (start pb) r l) e t),
+      λ filled e. refuted (subst (λ r. Walks pb capacity (start pb) r l) e t),
       λ none.
           none-found none t known,
     )

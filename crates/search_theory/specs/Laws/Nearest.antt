@@ -15,7 +15,7 @@ use Rattle.search_theory.specs.Walk.{Slot, start, Walks}
 
 module _ (pb : Problem) (capacity : ℕ) (ready : Ready pb) where
   -- the slot's distance is at most its depth, and its depth at most the distance of any satisfying point, so of its own
-  nearest-ended : {x d k : ℕ} {l : List Slot} → Ended pb capacity (satisfiable x d k) l
+  nearest-ended : {x d filled : ℕ} {l : List Slot} → Ended pb capacity (satisfiable x d filled) l
       → Nearest pb x d × HandedBack l x d
   nearest-ended (reached {p = p} {w = w} {s = s} i sat) =
       let m : s ∈ (p ++ s ∷ w) = Memᴰ·append-right p (here s w) in
@@ -35,7 +35,8 @@ module _ (pb : Problem) (capacity : ℕ) (ready : Ready pb) where
         },
       )
 
-  module _ (room : 1 ≤ capacity) {x d k : ℕ} {l : List Slot} (t : Walks pb capacity (start pb) (satisfiable x d k) l)
+  module _ (room : 1 ≤ capacity) {x d filled : ℕ} {l : List Slot}
+      (t : Walks pb capacity (start pb) (satisfiable x d filled) l)
     where
       -- D3.1, D3.2
       pub found-nearest : Nearest pb x d

@@ -25,7 +25,7 @@ module _ (pb : Problem) (capacity : ℕ) where
   pub missing-room : (l : List Slot) → Filled pb capacity l → (y : ℕ) → y < 2 ^ pb .variables → (y ∈ pointsIn l → ⊥)
       → length l < 2 ^ pb .variables
   missing-room l f y hy out =
-      subst (λ k. k < 2 ^ pb .variables) (length-map l (λ (s : Slot). s .point))
+      subst (λ filled. filled < 2 ^ pb .variables) (length-map l (λ (s : Slot). s .point))
       (distinct-below (distinct-cons out (f .distinct)) (2 ^ pb .variables)
       (each-cons (λ x. x < 2 ^ pb .variables) hy below))
     where
@@ -33,8 +33,9 @@ module _ (pb : Problem) (capacity : ℕ) where
       below x m = let w = map-out (λ (s : Slot). s .point) l m in subst (λ z. z < 2 ^ pb .variables) (sym (w .2))
           (f .below (w .0) (w .1))
 
-  roomy-ended : 2 ^ pb .variables ≤ capacity → {b k : ℕ} {l : List Slot} → Ended pb capacity (unknown b k) l → ⊥
-  roomy-ended large (blocked {p = p} {w = w} {u = u} {s = s} {c = c} i first g) =
+  room-ended : 2 ^ pb .variables ≤ capacity → {b filled : ℕ} {l : List Slot} → Ended pb capacity (unknown b filled) l
+      → ⊥
+  room-ended large (blocked {p = p} {w = w} {u = u} {s = s} {c = c} i first g) =
       let known = p ++ withNumber s c ∷ [] in
       let e = blocked-expanding pb capacity p w s c first i g in
       let r = fills-stuck pb capacity known (withNumber s c) (numbered-moved pb capacity p w s c first) g in
@@ -48,6 +49,6 @@ module _ (pb : Problem) (capacity : ℕ) where
 
   -- D3.8: "Where 2^n is at most 65,536 and at least 2^n slots are lent, it is never said."
   pub never-unknown : Ready pb → 1 ≤ capacity → 2 ^ pb .variables ≤ capacity → {r : Reply} {l : List Slot}
-      → Walks pb capacity (start pb) r l → (b k : ℕ) → r ≡ unknown b k → ⊥
-  never-unknown ready room large {l = l} t b k e = roomy-ended large
+      → Walks pb capacity (start pb) r l → (b filled : ℕ) → r ≡ unknown b filled → ⊥
+  never-unknown ready room large {l = l} t b filled e = room-ended large
       (search-ends pb capacity ready room (subst (λ r. Walks pb capacity (start pb) r l) e t))

@@ -43,7 +43,7 @@ use denote.Triple.Walked.{says, needs, Stays, stay-slice, stay-none, stay-none-s
 use denote.Triple.Walked.{goes-none-slice, Walks, ends-at, walked, walk-meets}
 use denote.Exit.{yes}
 use Rattle.slot_columns.specs.declared.Slot.{Slot}
-use Rattle.slot_columns.specs.Slots.{blank, slotOf, joined, front, Within}
+use Rattle.slot_columns.specs.Laws.Copies.{blank, slotOf, joined, front, Within}
 use Rattle.slot_columns.specs.Laws.SlotLaws.{front-none, front-length, front-inside, front-next, joined-at}
 use Rattle.slot_columns.specs.Laws.SlotLaws.{joined-long}
 use Rattle.slot_columns.proofs.Slot.Laws as S′

@@ -43,7 +43,8 @@ use denote.Triple.Walked.{says, needs, Stays, stay-slice, stay-none, stay-none-s
 use denote.Triple.Walked.{goes-none-slice, Walks, ends-at, walked, walk-meets}
 use denote.Exit.{yes}
 use Rattle.slot_columns.specs.declared.Slot.{Slot}
-use Rattle.slot_columns.specs.Slots.{blank, slotOr, pointsIn, falsifiedIn, depthsIn, front, Within}
+use Rattle.slot_columns.specs.Slots.{pointsIn, falsifiedIn, depthsIn}
+use Rattle.slot_columns.specs.Laws.Copies.{blank, slotOr, front, Within}
 use Rattle.slot_columns.specs.Laws.SlotLaws.{front-none, front-length, front-inside, column-next, column-long}
 use Rattle.slot_columns.proofs.Slot.Laws as S′
 use Rattle.slot_columns.proofs.Counted.{counted, holds, fails}

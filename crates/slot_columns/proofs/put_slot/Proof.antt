@@ -40,7 +40,7 @@ use denote.Triple.Walked.{says, needs, Stays, stay-slice, stay-none, walkOf, goe
 use denote.Triple.Walked.{walked, walk-meets}
 use denote.Exit.{yes}
 use Rattle.slot_columns.specs.declared.Slot.{Slot}
-use Rattle.slot_columns.specs.Slots.{blank}
+use Rattle.slot_columns.specs.Laws.Copies.{blank}
 use Rattle.slot_columns.proofs.Row.{R, val, vals, spells, owes, typed, scaled, element-place}
 use Rattle.slot_columns.proofs.put_slot.Key.{name as #slot-columns·put-slot}
 use Rattle.slot_columns.proofs.put_slot as this

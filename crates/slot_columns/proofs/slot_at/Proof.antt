@@ -38,7 +38,7 @@ use denote.Triple.Walked.{says, needs, Stays, stay-none-slice, stay-none, walkOf
 use denote.Triple.Walked.{ends-at, walked, walk-meets}
 use denote.Exit.{yes}
 use Rattle.slot_columns.specs.declared.Slot.{Slot}
-use Rattle.slot_columns.specs.Slots.{blank, slotOr}
+use Rattle.slot_columns.specs.Laws.Copies.{blank, slotOr}
 use Rattle.slot_columns.proofs.Row.{R, val, vals, spells, copies, owes, typed, scaled, element-place}
 use Rattle.slot_columns.proofs.slot_at.Key.{name as #slot-columns·slot-at}
 use Rattle.slot_columns.proofs.slot_at as this

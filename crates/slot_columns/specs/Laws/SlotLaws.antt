@@ -9,7 +9,8 @@ use lib.Seq.{length-take-le, take-at}
 use Rattle.math.specs.Lists.{over}
 use Rattle.math.specs.Laws.OverLaws.{over-none, over-take-next}
 use Rattle.slot_columns.specs.declared.Slot.{Slot}
-use Rattle.slot_columns.specs.Slots.{slotOf, slotOr, blank, pointsIn, falsifiedIn, depthsIn, joined, front}
+use Rattle.slot_columns.specs.Slots.{pointsIn, falsifiedIn, depthsIn}
+use Rattle.slot_columns.specs.Laws.Copies.{slotOf, slotOr, blank, joined, front}
 
 module _ {X : Type 0} where
   -- nothing is copied yet

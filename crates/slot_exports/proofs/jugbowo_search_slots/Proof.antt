@@ -111,13 +111,13 @@ module _ {M : Type 1} (𝓤 : URA M) (H : Heap 𝓤) (A : Atoms 𝓤) (W : Given
   abbrev Post : Val → SProp 𝓤
   Post = walkOf 𝓤 H A this.ended stayed (this.clauses 𝓤 H A mem run) .post bound
 
-  abbrev Told : ℕ → List Slot → List ℕ → Type 0
-  Told n zs ws′ = SearchReturns (formulaFrom v c g p is) us vs (pointsIn ys) (falsifiedIn ys) (depthsIn ys) ws n (pointsIn zs) (falsifiedIn zs) (depthsIn zs) ws′
+  abbrev Returns : ℕ → List Slot → List ℕ → Type 0
+  Returns n zs ws′ = SearchReturns (formulaFrom v c g p is) us vs (pointsIn ys) (falsifiedIn ys) (depthsIn ys) ws n (pointsIn zs) (falsifiedIn zs) (depthsIn zs) ws′
 
   abbrev Had : List Slot → List ℕ → List (Item 𝓤)
   Had zs ws′ = ‵ (flft κ₀ q₀) ∷ ‵ (flft κ₁ q₁) ∷ ‵ (flft κ₂ q₂) ∷ ‵ (flft κ₃ q₃) ∷ ‵ (flft κ₄ q₄) ∷ ‵ (finally R γ zs) ∷ ‵ (finally u64 δ₄ ws′) ∷ []
 
-  exits : (n : ℕ) → n < 2 ^ 32 → (zs : List Slot) (ws′ : List ℕ) → length zs ≡ length ys → length ws′ ≡ length ws → Told n zs ws′ → ent 𝓤 (⋆ 𝓤 H A (Had zs ws′)) (Post (vint w32 n))
+  exits : (n : ℕ) → n < 2 ^ 32 → (zs : List Slot) (ws′ : List ℕ) → length zs ≡ length ys → length ws′ ≡ length ws → Returns n zs ws′ → ent 𝓤 (⋆ 𝓤 H A (Had zs ws′)) (Post (vint w32 n))
   exits n gn zs ws′ e₁ e₂ returned =
       qed W (Had zs ws′) ∵ suffices ! _ (ends-at 𝓤 H A this.ended stayed (this.clauses 𝓤 H A mem run) W bound (vint w32 n) n (tt, (tt, (tt, (tt, (tt, (tt, (tt, (zs, (ws′, tt))))))))) (tt, (tt, (tt, (tt, (tt, (tt, (tt, (e₁, (e₂, tt)))))))))) $ says ! returned $
       nothing ! $ move ! (5 ∷ 0 ∷ []) $ join ! $ move ! (4 ∷ 0 ∷ []) $ join ! $ move ! (3 ∷ 0 ∷ []) $ join ! $ move ! (2 ∷ 0 ∷ []) $ join ! $ move ! (1 ∷ 0 ∷ []) $ join ! $ frame ! $

@@ -53,7 +53,8 @@ use Rattle.point_slices.proofs.least.Symbol as least-def
 use Rattle.point_slices.proofs.least.Symbol.{name as #point-slices·least}
 use Rattle.point_slices.proofs.least.Met as least-thm
 use Rattle.slot_columns.specs.declared.Slot.{Slot}
-use Rattle.slot_columns.specs.Slots.{pointsIn, falsifiedIn, depthsIn, joined, front}
+use Rattle.slot_columns.specs.Slots.{pointsIn, falsifiedIn, depthsIn}
+use Rattle.slot_columns.specs.Laws.Copies.{joined, front}
 use Rattle.slot_columns.specs.Laws.SlotLaws.{front-length, joined-long}
 use Rattle.slot_search.specs.Laws.SearchLaws.{searched-whole}
 use Rattle.slot_proofs.proofs.Places.{k, gk, used, P, N, D, many, long₁, long₂, long₃, fits-in, fronts-in}
@@ -67,18 +68,18 @@ use Rattle.slot_columns.proofs.CopiedOut as Out
 use Rattle.slot_columns.proofs.CopiedOut.{CopyOut}
 use Rattle.slot_columns.proofs.CopiedBack as Back
 use Rattle.slot_columns.proofs.CopiedBack.{CopyBack}
-use Rattle.slot_search.proofs.SearchedFront as Front
+use Rattle.slot_search.proofs.SearchedPrefix as Front
 use Rattle.slot_proofs.proofs.Spelled.{formula-val, formula-typed}
-use Rattle.slot_search.proofs.SearchedFront.{SearchFront, outcome-typed}
+use Rattle.slot_search.proofs.SearchedPrefix.{SearchFront, outcome-typed}
 use Rattle.slot_columns.proofs.copy_out.Symbol as copy-out-def
 use Rattle.slot_columns.proofs.copy_out.Symbol.{name as #slot-columns·copy-out}
 use Rattle.slot_columns.proofs.copy_out.Met as copy-out-thm
 use Rattle.slot_columns.proofs.copy_back.Symbol as copy-back-def
 use Rattle.slot_columns.proofs.copy_back.Symbol.{name as #slot-columns·copy-back}
 use Rattle.slot_columns.proofs.copy_back.Met as copy-back-thm
-use Rattle.slot_prefixes.proofs.search_front.Symbol as search-front-def
-use Rattle.slot_prefixes.proofs.search_front.Symbol.{name as #slot-prefixes·search-front}
-use Rattle.slot_prefixes.proofs.search_front.Met as search-front-thm
+use Rattle.slot_prefixes.proofs.search_prefix.Symbol as search-front-def
+use Rattle.slot_prefixes.proofs.search_prefix.Symbol.{name as #slot-prefixes·search-front}
+use Rattle.slot_prefixes.proofs.search_prefix.Met as search-front-thm
 use Rattle.slot_search.proofs.search_slots.Key.{name as #slot-search·search-slots}
 use Rattle.slot_search.proofs.search_slots as this
 use Rattle.slot_search.proofs.search_slots.Statement as stated
@@ -236,5 +237,5 @@ search-slots-spec 𝓤 H 𝓜 𝓖 𝓡 =
     (meets 𝓤 H (𝓖 .A) (givenOf 𝓤 H 𝓜 𝓖) (𝓜 .mem) (𝓡 .run) (tablesOf 𝓤 H 𝓜 (tables 𝓤 H 𝓜 𝓡 code.env))
     (cited 𝓤 H (Least 𝓤 H (𝓖 .A) (𝓜 .mem) (𝓡 .run)) 𝓜 𝓡 code.env #point-slices·least least-def.routine code.calls-point-slices·least (least-thm.met 𝓤 H 𝓜 𝓖 𝓡))
     (cited 𝓤 H (CopyOut 𝓤 H (𝓖 .A) (𝓜 .mem) (𝓡 .run)) 𝓜 𝓡 code.env #slot-columns·copy-out copy-out-def.routine code.calls-slot-columns·copy-out (copy-out-thm.met 𝓤 H 𝓜 𝓖 𝓡))
-    (cited 𝓤 H (SearchFront 𝓤 H (𝓖 .A) (𝓜 .mem) (𝓡 .run)) 𝓜 𝓡 code.env #slot-prefixes·search-front search-front-def.routine code.calls-slot-prefixes·search-front (search-front-thm.met 𝓤 H 𝓜 𝓖 𝓡))
+    (cited 𝓤 H (SearchFront 𝓤 H (𝓖 .A) (𝓜 .mem) (𝓡 .run)) 𝓜 𝓡 code.env #slot-prefixes·search-front search-front-def.routine code.calls-slot-prefixes·search-prefix (search-front-thm.met 𝓤 H 𝓜 𝓖 𝓡))
     (cited 𝓤 H (CopyBack 𝓤 H (𝓖 .A) (𝓜 .mem) (𝓡 .run)) 𝓜 𝓡 code.env #slot-columns·copy-back copy-back-def.routine code.calls-slot-columns·copy-back (copy-back-thm.met 𝓤 H 𝓜 𝓖 𝓡)))

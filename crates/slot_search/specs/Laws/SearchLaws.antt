@@ -17,7 +17,8 @@ use Rattle.search.specs.Search.{searchReply, searchFault, searchSlots, searchSl
 use Rattle.search.specs.Contract.{Searched}
 use Rattle.search_theory.specs.Walk as W
 use Rattle.slot_columns.specs.declared.Slot.{Slot}
-use Rattle.slot_columns.specs.Slots.{pointsIn, falsifiedIn, depthsIn, joined, front}
+use Rattle.slot_columns.specs.Slots.{pointsIn, falsifiedIn, depthsIn}
+use Rattle.slot_columns.specs.Laws.Copies.{joined, front}
 use Rattle.slot_columns.specs.Laws.SlotLaws.{front-take, joined-columns, min-thrice}
 
 module _ {X : Type 0} where

@@ -66,14 +66,14 @@ use Rattle.slot_proofs.proofs.LeastCalled.{Least}
 use Rattle.slot_columns.proofs.CopiedOut as Out
 use Rattle.slot_columns.proofs.CopiedOut.{CopyOut}
 use Rattle.slot_proofs.proofs.Spelled.{formula-val, formula-typed}
-use Rattle.slot_writer.proofs.WrittenFront as Front
-use Rattle.slot_writer.proofs.WrittenFront.{WriteFront, written-typed}
+use Rattle.slot_writer.proofs.WrittenPrefix as Front
+use Rattle.slot_writer.proofs.WrittenPrefix.{WriteFront, written-typed}
 use Rattle.slot_columns.proofs.copy_out.Symbol as copy-out-def
 use Rattle.slot_columns.proofs.copy_out.Symbol.{name as #slot-columns·copy-out}
 use Rattle.slot_columns.proofs.copy_out.Met as copy-out-thm
-use Rattle.slot_prefixes.proofs.write_front.Symbol as write-front-def
-use Rattle.slot_prefixes.proofs.write_front.Symbol.{name as #slot-prefixes·write-front}
-use Rattle.slot_prefixes.proofs.write_front.Met as write-front-thm
+use Rattle.slot_prefixes.proofs.write_prefix.Symbol as write-front-def
+use Rattle.slot_prefixes.proofs.write_prefix.Symbol.{name as #slot-prefixes·write-front}
+use Rattle.slot_prefixes.proofs.write_prefix.Met as write-front-thm
 use Rattle.slot_writer.proofs.write_slots.Key.{name as #slot-writer·write-slots}
 use Rattle.slot_writer.proofs.write_slots as this
 use Rattle.slot_writer.proofs.write_slots.Statement as stated
@@ -222,4 +222,4 @@ write-slots-spec 𝓤 H 𝓜 𝓖 𝓡 =
     (meets 𝓤 H (𝓖 .A) (givenOf 𝓤 H 𝓜 𝓖) (𝓜 .mem) (𝓡 .run) (tablesOf 𝓤 H 𝓜 (tables 𝓤 H 𝓜 𝓡 code.env))
     (cited 𝓤 H (Least 𝓤 H (𝓖 .A) (𝓜 .mem) (𝓡 .run)) 𝓜 𝓡 code.env #point-slices·least least-def.routine code.calls-point-slices·least (least-thm.met 𝓤 H 𝓜 𝓖 𝓡))
     (cited 𝓤 H (CopyOut 𝓤 H (𝓖 .A) (𝓜 .mem) (𝓡 .run)) 𝓜 𝓡 code.env #slot-columns·copy-out copy-out-def.routine code.calls-slot-columns·copy-out (copy-out-thm.met 𝓤 H 𝓜 𝓖 𝓡))
-    (cited 𝓤 H (WriteFront 𝓤 H (𝓖 .A) (𝓜 .mem) (𝓡 .run)) 𝓜 𝓡 code.env #slot-prefixes·write-front write-front-def.routine code.calls-slot-prefixes·write-front (write-front-thm.met 𝓤 H 𝓜 𝓖 𝓡)))
+    (cited 𝓤 H (WriteFront 𝓤 H (𝓖 .A) (𝓜 .mem) (𝓡 .run)) 𝓜 𝓡 code.env #slot-prefixes·write-front write-front-def.routine code.calls-slot-prefixes·write-prefix (write-front-thm.met 𝓤 H 𝓜 𝓖 𝓡)))

@@ -23,7 +23,8 @@ use Rattle.certificate.specs.Laws.RowLaws.{points-fault-take, numbers-fault-tak
 use Rattle.certificate.specs.Writer.{writeFault, writeReply, writeOutput, certificateOf, lengthNeeded}
 use Rattle.certificate_writer.specs.Contract.{Wrote}
 use Rattle.slot_columns.specs.declared.Slot.{Slot}
-use Rattle.slot_columns.specs.Slots.{pointsIn, falsifiedIn, depthsIn, front}
+use Rattle.slot_columns.specs.Slots.{pointsIn, falsifiedIn, depthsIn}
+use Rattle.slot_columns.specs.Laws.Copies.{front}
 use Rattle.slot_columns.specs.Laws.SlotLaws.{column-long, front-take, min-thrice}
 
 -- ---- tests in order

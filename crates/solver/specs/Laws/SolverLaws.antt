@@ -142,11 +142,11 @@ module _ (s : Sheet) (l : Slots) (t : SolverReply) (out₀ out₁ : List ℕ) (r
   answers a e ok = answered s l a (sym reply ∙ e) ok
 
   -- where there is a reply on the certificate, the sheet cannot be met, and the output is the writer's
-  told : (c : Reply) → t .certificate ≡ some c
+  certificate-of : (c : Reply) → t .certificate ≡ some c
       → (filled : ℕ) × SearchAnswers s l (unsatisfiable filled) × (writerReply s l filled out₀ ≡ c)
       × (out₁ ≡ writerOutput s l filled out₀)
   unfolding certificateReply certificateOutput
-  told c e =
+  certificate-of c e =
       let w = refuted-of (sheetReply s (lent l)) (λ filled. writerReply s l filled out₀) c (sym certificate ∙ e) in (
         w .0,
         answered s l (unsatisfiable (w .0)) (w .1) unsatisfiable-stands,
@@ -161,7 +161,7 @@ module _ (s : Sheet) (l : Slots) (t : SolverReply) (out₀ out₁ : List ℕ) (r
         exactly = λ ok known. claim .exactly s l (t .reply) (answers (t .reply) refl ok) known;
         certified =
             λ size e.
-            let w = told (written size) e in
+            let w = certificate-of (written size) e in
             let c = written-accepted s l (w .0) (w .1) out₀ size (w .2) in (
               subst (λ o. checkReply (formulaIn s) (positiveIn s) (negativeIn s) (take size o) ≡ accepted) (sym (w .3))
                   (c .1),
@@ -169,7 +169,7 @@ module _ (s : Sheet) (l : Slots) (t : SolverReply) (out₀ out₁ : List ℕ) (r
             );
         uncertified =
             λ code place e.
-            let w = told (refused code place) e in
+            let w = certificate-of (refused code place) e in
             let c = refused-short s l (w .0) (w .1) out₀ code place (w .2) in
             (c .0, c .1, w .3 ∙ c .2);
         refutes = claim .refutes (formulaIn s) (positiveIn s) (negativeIn s);

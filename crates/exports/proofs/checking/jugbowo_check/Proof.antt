@@ -1,4 +1,5 @@
--- `exports::certificates::jugbowo_check` meets its contract: with room for the answer it tells what the checker answers. Assumes nothing.
+-- `exports::checking::jugbowo_check` meets its contract: with room for the answer it tells what the checker answers.
+-- Assumes nothing.
 use Rattle.exports.specs.Laws.CheckingLaws.{tells-no-verdict, tells-verdict}
 use Rattle.exports.proofs.checking.jugbowo_check.Statement.{statement}
 use Rattle.exports.proofs.checking.jugbowo_check.Tie as tie

@@ -1,4 +1,5 @@
--- `exports::certificates::jugbowo_image_at` meets its contract: with room for it, the entry as the reader of the body answers it. Assumes nothing.
+-- `exports::checking::jugbowo_image_at` meets its contract: with room for it, the entry as the reader of the body
+-- answers it. Assumes nothing.
 use borrow.Author.Needs.{needs}
 use Rattle.exports.specs.Laws.CheckingLaws.{tells-no-entry, tells-entry}
 use Rattle.exports.proofs.checking.jugbowo_image_at.Statement.{statement}

@@ -1,4 +1,5 @@
--- `exports::certificates::jugbowo_open` meets its contract: with room for the answer it tells what the reader of a file answers. Assumes nothing.
+-- `exports::checking::jugbowo_open` meets its contract: with room for the answer it tells what the reader of a file
+-- answers. Assumes nothing.
 use Rattle.exports.specs.Laws.CheckingLaws.{without-reply, without-contents, tells-opening}
 use Rattle.exports.proofs.checking.jugbowo_open.Statement.{statement}
 use Rattle.exports.proofs.checking.jugbowo_open.Tie as tie

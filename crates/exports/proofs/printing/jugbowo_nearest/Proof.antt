@@ -1,4 +1,5 @@
--- `exports::nearest::jugbowo_nearest` meets its contract: with room for the longest text it tells what the program prints. Assumes nothing.
+-- `exports::printing::jugbowo_nearest` meets its contract: with room for the longest text it tells what the program
+-- prints. Assumes nothing.
 use borrow.Author.Needs.{needs}
 use Rattle.exports.specs.Laws.PrintingLaws.{prints-nothing, prints-text}
 use Rattle.exports.proofs.printing.jugbowo_nearest.Statement.{statement}

@@ -1,4 +1,5 @@
--- `exports::reader::jugbowo_read` meets its contract: with room for the answer it tells what the reader answers. Assumes nothing.
+-- `exports::reading::jugbowo_read` meets its contract: with room for the answer it tells what the reader answers.
+-- Assumes nothing.
 use Rattle.exports.specs.Laws.ReadingLaws.{without-reply, without-numbers, without-images, tells-reading}
 use Rattle.exports.proofs.reading.jugbowo_read.Statement.{statement}
 use Rattle.exports.proofs.reading.jugbowo_read.Tie as tie

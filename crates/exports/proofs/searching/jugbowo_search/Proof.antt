@@ -1,4 +1,5 @@
--- `exports::builder::jugbowo_search` meets its contract: with room for the answer it tells what the search answers. Assumes nothing.
+-- `exports::searching::jugbowo_search` meets its contract: with room for the answer it tells what the search answers.
+-- Assumes nothing.
 use Rattle.exports.specs.Laws.SearchingLaws.{tells-nothing, tells-search}
 use Rattle.exports.proofs.searching.jugbowo_search.Statement.{statement}
 use Rattle.exports.proofs.searching.jugbowo_search.Tie as tie

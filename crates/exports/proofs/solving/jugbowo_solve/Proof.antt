@@ -1,4 +1,5 @@
--- `exports::solving::jugbowo_solve` meets its contract: with room for the answer it tells what the solver answers. Assumes nothing.
+-- `exports::solving::jugbowo_solve` meets its contract: with room for the answer it tells what the solver answers.
+-- Assumes nothing.
 use Rattle.exports.specs.Laws.SolvingLaws.{tells-nothing, tells-solution}
 use Rattle.exports.proofs.solving.jugbowo_solve.Statement.{statement}
 use Rattle.exports.proofs.solving.jugbowo_solve.Tie as tie

@@ -1,4 +1,5 @@
--- `exports::writing::jugbowo_write` meets its contract: with room for the answer it tells what the writer answers. Assumes nothing.
+-- `exports::writing::jugbowo_write` meets its contract: with room for the answer it tells what the writer answers.
+-- Assumes nothing.
 use Rattle.exports.specs.Laws.WritingLaws.{tells-nothing, tells-writing}
 use Rattle.exports.proofs.writing.jugbowo_write.Statement.{statement}
 use Rattle.exports.proofs.writing.jugbowo_write.Tie as tie

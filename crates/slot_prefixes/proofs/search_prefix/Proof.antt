@@ -4,11 +4,11 @@ use mathlib.Core.Path.{sym, _∙_}
 use lib.ListN.{take, drop}
 use lib.Seq.{length-take-le}
 use borrow.Author.Needs.{needs}
-use Rattle.slot_prefixes.specs.Laws.FrontLaws.{searched-fronts}
-use Rattle.slot_prefixes.proofs.search_front.Statement.{statement}
-use Rattle.slot_prefixes.proofs.search_front.Tie as tie
-use Rattle.slot_prefixes.proofs.search_front.Reads as reads
-use Rattle.slot_prefixes.proofs.search_front.Lts as lts
+use Rattle.slot_prefixes.specs.Laws.PrefixLaws.{searched-fronts}
+use Rattle.slot_prefixes.proofs.search_prefix.Statement.{statement}
+use Rattle.slot_prefixes.proofs.search_prefix.Tie as tie
+use Rattle.slot_prefixes.proofs.search_prefix.Reads as reads
+use Rattle.slot_prefixes.proofs.search_prefix.Lts as lts
 use Rattle.search.proofs.search.Reads as search-reads
 
 slice-aggregate-search : tie.Need-slice-aggregate-search
@@ -36,8 +36,8 @@ returns c =
     (called .kept .1 .1 .1 .0 ∙ length-take-le k points (start .pre .inPoints)) (called .kept .1 .1 .1 .1 .0 ∙ length-take-le k falsified (start .pre .inFalsified))
     (called .kept .1 .1 .1 .1 .1 .0 ∙ length-take-le k depths (start .pre .inDepths)) (called .ensures)
 
-pub search-front-spec : {M : Type 1} → statement M
-search-front-spec =
+pub search-prefix-spec : {M : Type 1} → statement M
+search-prefix-spec =
     tie.close
     (tie.spec
     (λ c. search needs)

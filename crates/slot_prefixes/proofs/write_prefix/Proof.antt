@@ -2,10 +2,10 @@
 use mathlib.Core.Path.{sym}
 use lib.Seq.{length-take-le}
 use borrow.Author.Needs.{needs}
-use Rattle.slot_prefixes.proofs.write_front.Statement.{statement}
-use Rattle.slot_prefixes.proofs.write_front.Tie as tie
-use Rattle.slot_prefixes.proofs.write_front.Reads as reads
-use Rattle.slot_prefixes.proofs.write_front.Lts as lts
+use Rattle.slot_prefixes.proofs.write_prefix.Statement.{statement}
+use Rattle.slot_prefixes.proofs.write_prefix.Tie as tie
+use Rattle.slot_prefixes.proofs.write_prefix.Reads as reads
+use Rattle.slot_prefixes.proofs.write_prefix.Lts as lts
 use Rattle.certificate_writer.proofs.write.Reads as write-reads
 
 slice-aggregate-write : tie.Need-slice-aggregate-write
@@ -20,8 +20,8 @@ slice-aggregate-write-3 c = sym (length-take-le (c .before .before .before .befo
 write-requires : tie.Need-write-requires
 write-requires c κs = search needs
 
-pub write-front-spec : {M : Type 1} → statement M
-write-front-spec =
+pub write-prefix-spec : {M : Type 1} → statement M
+write-prefix-spec =
     tie.close
     (tie.spec
     slice-aggregate-write
