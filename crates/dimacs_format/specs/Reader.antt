@@ -232,8 +232,7 @@ inputOf n s = record {
   variables = n;
   clauses = s .clauses .closed;
   target = Option·getD (s .target) 0;
-  permutations =
-      s .permutations;
+  permutations = s .permutations;
 }
 
 -- S15: "Exactly C rules are closed."; R7: "or too few closed", 7 at the "text length"

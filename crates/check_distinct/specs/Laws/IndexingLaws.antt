@@ -158,6 +158,5 @@ links-indexable l c =
       enough = c .enough;
       small = omega arith;
       room = omega arith;
-      zeros =
-          l .zeros;
+      zeros = l .zeros;
     }

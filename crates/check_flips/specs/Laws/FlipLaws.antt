@@ -125,8 +125,7 @@ module _ {n permutations : ℕ} {images positive negative : List ℕ} {count : �
       let own = subst (λ (y : ℕ). Imaged n permutations images y moved) (sym at) known in
       record {
         askable = record { few = t .given .few; indexed = t .indexed; narrow = own .narrow };
-        permuting =
-            tested-permuting;
+        permuting = tested-permuting;
         imaged = own .imaged;
       }
 

@@ -230,15 +230,13 @@ module _ (z : Sizes) (start : ℕ) (line : List ℕ) (p₀ q₀ : List ℕ) wher
     pub along-ends : r ≡ End → Scanning z start line s (On b) p₁ q₁
     along-ends e = record {
       step = sym (a .left ∙ subst (Stepping z start line at p q b p₁ q₁) e k);
-      few =
-          a .ready .closed;
+      few = a .ready .closed;
     }
 
     pub along-stops : (code place : ℕ) → r ≡ Stopped code place → Scanning z start line s (Refused code place) p₁ q₁
     along-stops code place e = record {
       step = sym (a .left ∙ subst (Stepping z start line at p q b p₁ q₁) e k);
-      few =
-          zero-le;
+      few = zero-le;
     }
 
     pub along-goes-on : (more : Begun) (c : Cursor) → r ≡ Further more c → length p₁ ≡ length p → length q₁ ≡ length q

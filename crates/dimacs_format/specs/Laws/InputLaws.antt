@@ -145,8 +145,7 @@ input-problem d h positive₀ negative₀ =
       total = length cs;
       target = d .target;
       permutations = es;
-      clauses =
-          numbered ks;
+      clauses = numbered ks;
     })
     (images-back (d .variables) (d .permutations) (replicate (imagePlaces - length (imagesOf (d .permutations))) 0)
     (h .permutations)) c

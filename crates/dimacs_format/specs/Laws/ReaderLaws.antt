@@ -248,8 +248,7 @@ module _ (text : List ℕ) (p q : ℕ) where
         variables = d .variables;
         clauses = d .clauses;
         target = x;
-        permutations =
-            d .permutations;
+        permutations = d .permutations;
       })) (t .2)
 
 -- R1: "text too long | 1 | 1,048,576"

@@ -83,8 +83,7 @@ module _ (z : Sizes) (start : ℕ) (line : List ℕ) (s : State) (p q images : L
             ∙ ap (λ m. andThen m (λ x. goes (record {
               clauses = clausesFrom p q (s .begun);
               target = x;
-              permutations =
-                  permutationsIn (z .variables) (s .permutations) images;
+              permutations = permutationsIn (z .variables) (s .permutations) images;
             }))) (w .2)
             ∙ ap goes (three-same (ap (clausesFrom p q) (sym (w .0))) refl
             (ap (λ k. permutationsIn (z .variables) k images) (sym (w .1)))));
@@ -101,8 +100,7 @@ module _ (z : Sizes) (start : ℕ) (line : List ℕ) (s : State) (p q images : L
             ∙ ap (λ m. andThen m (λ x. goes (record {
               clauses = clausesFrom p q (s .begun);
               target = x;
-              permutations =
-                  permutationsIn (z .variables) (s .permutations) images;
+              permutations = permutationsIn (z .variables) (s .permutations) images;
             }))) w);
         stands = zero-le;
       }

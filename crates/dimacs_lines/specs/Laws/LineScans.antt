@@ -20,8 +20,7 @@ abbrev pub progressFrom : ℕ → List ℕ → List ℕ → List ℕ → State �
 progressFrom n p q images s = record {
   clauses = clausesFrom p q (s .begun);
   target = targetOf s;
-  permutations =
-      permutationsIn n (s .permutations) images;
+  permutations = permutationsIn n (s .permutations) images;
 }
 
 -- the step that an answer of the code is, with slices and images as it left them

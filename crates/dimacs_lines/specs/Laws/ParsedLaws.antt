@@ -145,8 +145,7 @@ module _ (size : ℕ) (z : Sizes) (s : State) (p q images : List ℕ) (st : Stan
             variables = z .variables;
             clauses = z .total;
             target = x;
-            permutations =
-                s .permutations;
+            permutations = s .permutations;
             images = images;
           };
           answer = Accepted;
@@ -159,8 +158,7 @@ module _ (size : ℕ) (z : Sizes) (s : State) (p q images : List ℕ) (st : Stan
             variables = z .variables;
             clauses = z .total;
             target = x;
-            permutations =
-                s .permutations;
+            permutations = s .permutations;
             images = images;
           };
           answer = Accepted;
@@ -210,8 +208,7 @@ slices-stand z p q images l room e =
             variables = l .variables;
             few = l .few;
             room-positive = room .room-positive;
-            room-negative =
-                room .room-negative;
+            room-negative = room .room-negative;
             closed = zero-le;
           };
       kept =

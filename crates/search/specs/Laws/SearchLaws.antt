@@ -42,8 +42,7 @@ unfolding capacity
 lent-room points falsified depths = record {
   points-room = omega arith;
   falsified-room = omega arith;
-  depths-room =
-      omega arith;
+  depths-room = omega arith;
 }
 
 module _ (f : Formula) (positive negative : List ℕ) where

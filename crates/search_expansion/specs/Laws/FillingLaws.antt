@@ -250,8 +250,7 @@ module _ (es : List Permutation) (capacity x d : ℕ) where
         waiting = b .waiting;
         holds = b .holds;
         number = b .number;
-        onward =
-            b .onward;
+        onward = b .onward;
       }
 
   -- ---- the end of the flips

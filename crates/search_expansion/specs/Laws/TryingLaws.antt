@@ -69,8 +69,7 @@ module _ (es : List Permutation) (capacity x d n listed filled₀ heads : ℕ) (
             askable = record {
               few = c .askable .few;
               indexed = t .indexed;
-              narrow =
-                  c .askable .narrow;
+              narrow = c .askable .narrow;
             };
             permuting = c .permuting;
             imaged = c .imaged;

@@ -18,8 +18,7 @@ problem n target es cs = record {
   total = length cs;
   target = target;
   permutations = es;
-  clauses =
-      numbered cs;
+  clauses = numbered cs;
 }
 
 -- T1: "Taking the newest point: still sound, but the choice is no longer nearest.": the clauses (1 2), (-2 3) and the
