@@ -53,8 +53,8 @@ fn entry_at(body: &[u8], width: usize, i: usize) -> Entry
     requires { ⌜ (1 ≤ width) × (width ≤ 8) ⌝ }
     ensures { λ r. ⌜ valueOf r ≡ numberAt width (now (body .entry)) i ⌝ }
 {
-    let held = body.len() / width;
-    if i < held {
+    let whole = body.len() / width;
+    if i < whole {
         let x = entry(body, width, i);
         Entry::Value(x)
     } else {

@@ -13,8 +13,8 @@ pub fn room(points: &[u64], falsified: &[u32], depths: &[u32]) -> usize
         (length (now (depths .entry))) ⌝ }
 {
     let most = Formula::MAX_SLOTS as usize;
-    let held = point_count(points);
+    let first = point_count(points);
     let beside = least(falsified.len(), depths.len());
-    let shortest = least(held, beside);
+    let shortest = least(first, beside);
     least(most, shortest)
 }

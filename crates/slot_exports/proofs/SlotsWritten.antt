@@ -42,8 +42,8 @@ WriteSlots 𝓤 H A mem run = Does 𝓤 H A write-slots.ended (write-slots.claus
 
 -- the arguments
 module _ (f : Formula) (wf : Val) (κ₁ κ₂ κ₃ κ₄ : Lft) (q₁ q₂ q₃ q₄ : Share) (c₁ d₁ c₂ d₂ b o b₄ o₄ : ℕ) (δ₁ δ₂ γ δ₄ : GName) (us vs : List ℕ) (ys : List Slot) (filled : ℕ) (os : List ℕ) where
-  abbrev pub Answers : Written → List ℕ → Type 0
-  Answers r zs = Wrote f us vs (pointsIn ys) (falsifiedIn ys) (depthsIn ys) filled os r zs
+  abbrev pub Writes : Written → List ℕ → Type 0
+  Writes r zs = Wrote f us vs (pointsIn ys) (falsifiedIn ys) (depthsIn ys) filled os r zs
 
   abbrev tokens : {M : Type 1} (𝓤 : URA M) → Item 𝓤
   tokens 𝓤 = ‵ (flft κ₁ q₁) ⊛ (‵ (flft κ₂ q₂) ⊛ (‵ (flft κ₃ q₃) ⊛ (‵ (flft κ₄ q₄) ⊛ ‵ ftrue)))
@@ -60,11 +60,11 @@ module _ (f : Formula) (wf : Val) (κ₁ κ₂ κ₃ κ₄ : Lft) (q₁ q₂ q�
           move t (2 ∷ 0 ∷ []) $ fjoin t $ move t (1 ∷ 0 ∷ []) $ fjoin t $ nothing t $ move t (5 ∷ 0 ∷ []) $ join t $ move t (4 ∷ 0 ∷ []) $ join t $ move t (3 ∷ 0 ∷ []) $ join t $ move t (2 ∷ 0 ∷ []) $ join t $
           asked write-slots.ended (write-slots.clauses 𝓤 H A mem run) bound (tokens 𝓤) t (id⊢ 𝓤 _) (id⊢ 𝓤 _) $ s)
 
-      pub has : K → Soaks G → (w : Val) → ((r : Written) (zs : List ℕ) → T (hasTy O′.mir w) × WT w → length zs ≡ length os → Answers r zs
+      pub has : K → Soaks G → (w : Val) → ((r : Written) (zs : List ℕ) → T (hasTy O′.mir w) × WT w → length zs ≡ length os → Writes r zs
           → Seq K W (‵ (O.the-row .own r (w ∷ [])) ∷ ‵ (finally u8 δ₄ zs) ∷ ‵ (flft κ₁ q₁) ∷ ‵ (flft κ₂ q₂) ∷ ‵ (flft κ₃ q₃) ∷ ‵ (flft κ₄ q₄) ∷ Γ) G) → Seq K W (raw (WriteSlots 𝓤 H A mem run .post bound w) ∷ Γ) G
       has t a w goes-on = answered write-slots.ended (write-slots.clauses 𝓤 H A mem run) bound (tokens 𝓤) t a w (id⊢ 𝓤 _) (λ r zs.
           -- [the tokens; the answer; the last lists; what it is]
-          move t (3 ∷ []) $ heard t (Answers r (zs .1 .1 .1 .1 .1 .0)) (λ returned. split t $ move t (1 ∷ []) $ split t $ move t (1 ∷ []) $ split t $ move t (1 ∷ []) $ split t $ move t (1 ∷ []) $ drop t $
+          move t (3 ∷ []) $ heard t (Writes r (zs .1 .1 .1 .1 .1 .0)) (λ returned. split t $ move t (1 ∷ []) $ split t $ move t (1 ∷ []) $ split t $ move t (1 ∷ []) $ split t $ move t (1 ∷ []) $ drop t $
           -- [out's token; slots'; negative's; positive's; the answer; the last lists]
           move t (5 ∷ []) $ fsplit t $ drop t $ fsplit t $ drop t $ fsplit t $ drop t $ fsplit t $ drop t $ fsplit t $ drop t $ fsplit t $ move t (1 ∷ []) $ drop t $ fsplit t $ move t (1 ∷ []) $
           feqL t (λ same. move t (5 ∷ 0 ∷ 4 ∷ 3 ∷ 2 ∷ 1 ∷ []) $

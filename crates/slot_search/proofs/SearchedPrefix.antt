@@ -57,8 +57,8 @@ module _ (f : Formula) (us vs : List ℕ) (κ₀ κ₁ : Lft) (q₀ q₁ : Share
   abbrev at : List Val × (List Val × (List Val × (List Val × (List Val × (List Val × (List Val × Unit {0}))))))
   at = (formula-val f ∷ [], (sliceVal (c₀, d₀) (length us) ∷ [], (sliceVal (c₁, d₁) (length vs) ∷ [], (sliceVal (b₁, o₁) n ∷ [], (sliceVal (b₂, o₂) n ∷ [], (sliceVal (b₃, o₃) n ∷ [], (vint w64 k ∷ [], tt)))))))
 
-  abbrev pub Answers : Outcome → List ℕ → List ℕ → List ℕ → Type 0
-  Answers r ps′ fs′ ds′ = Searched f us vs (take k ps) (take k fs) (take k ds) r (take k ps′) (take k fs′) (take k ds′)
+  abbrev pub Searches : Outcome → List ℕ → List ℕ → List ℕ → Type 0
+  Searches r ps′ fs′ ds′ = Searched f us vs (take k ps) (take k fs) (take k ds) r (take k ps′) (take k fs′) (take k ds′)
 
   abbrev tokens : {M : Type 1} (𝓤 : URA M) → Item 𝓤
   tokens 𝓤 = ‵ (flft κ₀ q₀) ⊛ (‵ (flft κ₁ q₁) ⊛ (‵ (flft (ν₁ ∷ []) fullShare) ⊛ (‵ (flft (ν₂ ∷ []) fullShare) ⊛ (‵ (flft (ν₃ ∷ []) fullShare) ⊛ ‵ ftrue))))
@@ -80,12 +80,12 @@ module _ (f : Formula) (us vs : List ℕ) (κ₀ κ₁ : Lft) (q₀ q₁ : Share
           owned t F.the-row (Is F.the-row) (LL.makes F.the-type F′.the-plain 𝓤 H A) f (formula-val f ∷ []) gf $ fjoin t $ move t (1 ∷ 0 ∷ []) $
           asked search-prefix.ended (search-prefix.clauses 𝓤 H A mem run) bound (tokens 𝓤) t (id⊢ 𝓤 _) (factI 𝓤 (Within k k (length ps) (length fs) (length ds)) (emp 𝓤) within) $ s)
 
-      pub has : K → Soaks G → (w : Val) → ((r : Outcome) (ps′ fs′ ds′ : List ℕ) → length ps′ ≡ length ps → length fs′ ≡ length fs → length ds′ ≡ length ds → Answers r ps′ fs′ ds′
+      pub has : K → Soaks G → (w : Val) → ((r : Outcome) (ps′ fs′ ds′ : List ℕ) → length ps′ ≡ length ps → length fs′ ≡ length fs → length ds′ ≡ length ds → Searches r ps′ fs′ ds′
           → Seq K W (‵ (flft κ₀ q₀) ∷ ‵ (flft κ₁ q₁) ∷ ‵ (flft (ν₁ ∷ []) fullShare) ∷ ‵ (flft (ν₂ ∷ []) fullShare) ∷ ‵ (flft (ν₃ ∷ []) fullShare)
           ∷ ‵ (finally u64 γ₁ ps′) ∷ ‵ (finally u32 γ₂ fs′) ∷ ‵ (finally u32 γ₃ ds′) ∷ ‵ (O.the-row .own r (w ∷ [])) ∷ Γ) G) → Seq K W (raw (SearchFront 𝓤 H A mem run .post bound w) ∷ Γ) G
       has t a w goes-on = answered search-prefix.ended (search-prefix.clauses 𝓤 H A mem run) bound (tokens 𝓤) t a w (id⊢ 𝓤 _) (λ r zs.
           -- [the tokens; the result; the last lists; what they are]
-          move t (3 ∷ 2 ∷ []) $ heard t (Answers r (zs .1 .1 .1 .0) (zs .1 .1 .1 .1 .0) (zs .1 .1 .1 .1 .1 .0)) (λ e.
+          move t (3 ∷ 2 ∷ []) $ heard t (Searches r (zs .1 .1 .1 .0) (zs .1 .1 .1 .1 .0) (zs .1 .1 .1 .1 .1 .0)) (λ e.
           fsplit t $ drop t $ fsplit t $ drop t $ fsplit t $ drop t $ fsplit t $ fsplit t $ move t (1 ∷ []) $ feqL t (λ e₁. move t (1 ∷ []) $ fsplit t $ fsplit t $ move t (1 ∷ []) $ feqL t (λ e₂. move t (1 ∷ []) $ fsplit t $ fsplit t $ move t (1 ∷ []) $ feqL t (λ e₃.
           -- [depths' last list; the rest; falsified's; points'; the tokens; the result]
           move t (1 ∷ []) $ drop t $ move t (3 ∷ 4 ∷ []) $ split t $ move t (1 ∷ []) $ split t $ move t (1 ∷ []) $ split t $ move t (1 ∷ []) $ split t $ move t (1 ∷ []) $ split t $ move t (1 ∷ []) $ drop t $

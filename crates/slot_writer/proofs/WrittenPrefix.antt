@@ -57,8 +57,8 @@ module _ (f : Formula) (us vs : List ℕ) (κ₀ κ₁ : Lft) (q₀ q₁ : Share
   abbrev at : List Val × (List Val × (List Val × (List Val × (List Val × (List Val × (List Val × (List Val × (List Val × Unit {0}))))))))
   at = (formula-val f ∷ [], (sliceVal (c₀, d₀) (length us) ∷ [], (sliceVal (c₁, d₁) (length vs) ∷ [], (sliceVal (b₁, o₁) n ∷ [], (sliceVal (b₂, o₂) n ∷ [], (sliceVal (b₃, o₃) n ∷ [], (vint w64 k ∷ [], (vint w32 filled ∷ [], (sliceVal (b₄, o₄) (length os) ∷ [], tt)))))))))
 
-  abbrev pub Answers : Written → List ℕ → Type 0
-  Answers r os′ = Wrote f us vs (take k ps) (take k fs) (take k ds) filled os r os′
+  abbrev pub Writes : Written → List ℕ → Type 0
+  Writes r os′ = Wrote f us vs (take k ps) (take k fs) (take k ds) filled os r os′
 
   abbrev tokens : {M : Type 1} (𝓤 : URA M) → Item 𝓤
   tokens 𝓤 = ‵ (flft κ₀ q₀) ⊛ (‵ (flft κ₁ q₁) ⊛ (‵ (flft (ν₁ ∷ []) fullShare) ⊛ (‵ (flft (ν₂ ∷ []) fullShare) ⊛ (‵ (flft (ν₃ ∷ []) fullShare) ⊛ (‵ (flft (ν₄ ∷ []) fullShare) ⊛ ‵ ftrue)))))
@@ -81,12 +81,12 @@ module _ (f : Formula) (us vs : List ℕ) (κ₀ κ₁ : Lft) (q₀ q₁ : Share
           owned t F.the-row (Is F.the-row) (LL.makes F.the-type F′.the-plain 𝓤 H A) f (formula-val f ∷ []) gf $ fjoin t $ move t (1 ∷ 0 ∷ []) $
           asked write-prefix.ended (write-prefix.clauses 𝓤 H A mem run) bound (tokens 𝓤) t (id⊢ 𝓤 _) (factI 𝓤 (Within k k (length ps) (length fs) (length ds)) (emp 𝓤) within) $ s)
 
-      pub has : K → Soaks G → (w : Val) → ((r : Written) (os′ : List ℕ) → length os′ ≡ length os → Answers r os′
+      pub has : K → Soaks G → (w : Val) → ((r : Written) (os′ : List ℕ) → length os′ ≡ length os → Writes r os′
           → Seq K W (‵ (flft κ₀ q₀) ∷ ‵ (flft κ₁ q₁) ∷ ‵ (flft (ν₁ ∷ []) fullShare) ∷ ‵ (flft (ν₂ ∷ []) fullShare) ∷ ‵ (flft (ν₃ ∷ []) fullShare) ∷ ‵ (flft (ν₄ ∷ []) fullShare)
           ∷ ‵ (finally u8 γ₄ os′) ∷ ‵ (O.the-row .own r (w ∷ [])) ∷ Γ) G) → Seq K W (raw (WriteFront 𝓤 H A mem run .post bound w) ∷ Γ) G
       has t a w goes-on = answered write-prefix.ended (write-prefix.clauses 𝓤 H A mem run) bound (tokens 𝓤) t a w (id⊢ 𝓤 _) (λ r zs.
           -- [the tokens; the result; the last lists; what they are]
-          move t (3 ∷ 2 ∷ []) $ heard t (Answers r (zs .1 .1 .1 .1 .1 .1 .1 .1 .0)) (λ e.
+          move t (3 ∷ 2 ∷ []) $ heard t (Writes r (zs .1 .1 .1 .1 .1 .1 .1 .1 .0)) (λ e.
           fsplit t $ drop t $ fsplit t $ drop t $ fsplit t $ drop t $ fsplit t $ drop t $ fsplit t $ drop t $ fsplit t $ drop t $ fsplit t $ drop t $ fsplit t $ drop t $ fsplit t $ fsplit t $ move t (1 ∷ []) $ feqL t (λ e₁.
           -- [out's last list; true; the tokens; the result]
           move t (1 ∷ []) $ drop t $ move t (1 ∷ 2 ∷ []) $ split t $ move t (1 ∷ []) $ split t $ move t (1 ∷ []) $ split t $ move t (1 ∷ []) $ split t $ move t (1 ∷ []) $ split t $ move t (1 ∷ []) $ split t $ move t (1 ∷ []) $ drop t $

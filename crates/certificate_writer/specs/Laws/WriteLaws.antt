@@ -79,10 +79,10 @@ module _ (f : Formula) (positive negative points falsified depths : List ℕ) (f
   refused-by code place h = record { reply = rw h; output = rw h }
 
   module _ (earlier : Fault) (problem-tested : earlier ≡ problemFault f positive negative) (limit : ℕ)
-      (limit-is : limit ≡ lent) (told : Checked)
-      (slots-tested : faultOf told ≡ slotsFault earlier limit (f .variables) (numbered (clausesOf positive negative))
+      (limit-is : limit ≡ lent) (promised : Checked)
+      (slots-tested : faultOf promised ≡ slotsFault earlier limit (f .variables) (numbered (clausesOf positive negative))
       filled (pointsOf points) falsified) where
-    all-tested : first (problemTests ++ slotTests) ≡ faultOf told
+    all-tested : first (problemTests ++ slotTests) ≡ faultOf promised
     unfolding problemFault problemOf slotsFault
     all-tested =
         sym (slots-tested ∙ ap₂ (λ (t : Fault) (k : ℕ). slotsFault t k (f .variables)
@@ -90,12 +90,12 @@ module _ (f : Formula) (positive negative points falsified depths : List ℕ) (f
         ∙ first-nested problemTests slotTests)
 
     -- refusals 10 to 17
-    pub wrote-faulty : (code place : ℕ) → told ≡ Faulty code place
+    pub wrote-faulty : (code place : ℕ) → promised ≡ Faulty code place
         → Wrote f positive negative points falsified depths filled out (Refused code place) out
     wrote-faulty code place e = refused-by code place (rows
         ∙ first-before (problemTests ++ slotTests) (roomTest ∷ []) code place (all-tested ∙ ap faultOf e))
 
-    module _ (fine : told ≡ Passed) where
+    module _ (fine : promised ≡ Passed) where
       all-sound : first (problemTests ++ slotTests) ≡ no-fault
       all-sound = all-tested ∙ ap faultOf fine
 

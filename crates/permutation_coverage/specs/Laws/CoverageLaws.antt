@@ -250,10 +250,10 @@ module _ {heads n k : ℕ} {points links : List ℕ} {permutations : ℕ} {image
     pub flip-askable : Askable heads n (take k points) links y
     flip-askable = asks y (flip x v) is (flip-lt n x v (c .askable .narrow) inside)
 
-    module _ (found : Bool) (told : found ≡ has y (take k points)) where
+    module _ (found : Bool) (promised : found ≡ has y (take k points)) where
       first : whole ≡ found || from 0
       unfolding covered
-      first = ap (λ (b : Bool). b || from 0) (sym (told ∙ ap (λ (z : ℕ). has z (take k points)) is))
+      first = ap (λ (b : Bool). b || from 0) (sym (promised ∙ ap (λ (z : ℕ). has z (take k points)) is))
 
       pub flip-found : found ≡ true → true ≡ whole
       flip-found e = sym (first ∙ ap (λ (b : Bool). b || from 0) e)
@@ -277,9 +277,9 @@ module _ {heads n k : ℕ} {points links : List ℕ} {permutations : ℕ} {image
           asks y (imageOfPoint sender (flip x v)) image-is
           (image-sound n sender (c .permuting .proper sender (getD-in es i noPermutation among)) (flip x v) .within)
 
-      module _ (left : whole ≡ from i) (found : Bool) (told : found ≡ has y (take k points)) where
+      module _ (left : whole ≡ from i) (found : Bool) (promised : found ≡ has y (take k points)) where
         tested : imageIn (take k points) (flip x v) sender ≡ found
-        tested = sym (told ∙ ap (λ (z : ℕ). has z (take k points)) image-is)
+        tested = sym (promised ∙ ap (λ (z : ℕ). has z (take k points)) image-is)
 
         pub image-found : found ≡ true → true ≡ whole
         image-found e = sym (left ∙ any-stops (imageIn (take k points) (flip x v)) es noPermutation i among

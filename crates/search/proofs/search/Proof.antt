@@ -37,8 +37,8 @@ slice-aggregate-start c = sym (size (c .before .before .before .before .before .
 start-requires : tie.Need-start-requires
 start-requires c κs =
     let lent = c .before .before .before .before .before .before in
-    let told = lent .before .before .before .before in
-    startable-of _ _ _ _ _ _ _ (told .before .before .problem-refusal .ensures) (told .enum-told .given .1) _ (lent .room .ensures) (c .before .before .before .before .before .if1 .left) (size (c .before .before .before .before .before .before .before .before .before .before .before .before .before .before .before .before .before .before))
+    let checked = lent .before .before .before .before in
+    startable-of _ _ _ _ _ _ _ (checked .before .before .problem-refusal .ensures) (checked .enum-told .given .1) _ (lent .room .ensures) (c .before .before .before .before .before .if1 .left) (size (c .before .before .before .before .before .before .before .before .before .before .before .before .before .before .before .before .before .before))
 
 as-outcome-requires : tie.Need-as-outcome-requires
 as-outcome-requires c κs = tt
@@ -55,8 +55,8 @@ same-length-6 c = c .before .before .before .before .before .before .before .sta
 returns-3 : tie.Need-returns-3
 returns-3 c =
     let lent = c .before .before .before .before .before .before .before .before .before .before .before .before .before .before in
-    let told = lent .before .before .before .before in
-    searched-of _ _ _ _ _ _ _ (told .before .before .problem-refusal .ensures) (told .enum-told .given .1) _ (lent .room .ensures) (c .before .before .before .before .before .before .before .before .before .before .before .before .before .if1 .left) _ _ _ (c .as-outcome .ensures) (c .before .before .before .before .before .before .before .start .ensures)
+    let checked = lent .before .before .before .before in
+    searched-of _ _ _ _ _ _ _ (checked .before .before .problem-refusal .ensures) (checked .enum-told .given .1) _ (lent .room .ensures) (c .before .before .before .before .before .before .before .before .before .before .before .before .before .if1 .left) _ _ _ (c .as-outcome .ensures) (c .before .before .before .before .before .before .before .start .ensures)
 
 pub search-spec : {M : Type 1} → statement M
 search-spec =

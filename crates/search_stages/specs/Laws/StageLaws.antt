@@ -40,19 +40,19 @@ module _ (g : Frame) (images positive negative : List ℕ) (ok : Searchable g im
     stage-indexable =
         links-indexable blank (record { few = ok .few; enough = enough; most = few })
 
-    held : take filled (m .points) ≡ pointsIn (at .front ++ at .back)
-    held = held-points filled (at .stands .holds) (at .stands .number)
+    indexed-points : take filled (m .points) ≡ pointsIn (at .front ++ at .back)
+    indexed-points = held-points filled (at .stands .holds) (at .stands .number)
 
     narrow : (x : ℕ) → x ∈ take filled (m .points) → x < 2 ^ g .variables
     narrow x here =
-        let w = map-out (λ (s : Slot). s .point) (at .front ++ at .back) (subst (λ (l : List ℕ). x ∈ l) held here) in
+        let w = map-out (λ (s : Slot). s .point) (at .front ++ at .back) (subst (λ (l : List ℕ). x ∈ l) indexed-points here) in
         subst (λ (y : ℕ). y < 2 ^ g .variables) (sym (w .2)) (at .stands .invariants .filled .below (w .0) (w .1))
 
     pub stage-linked : {first : ℕ} {links′ : List ℕ} → Sifts heads (g .variables) filled (m .points) first links′
         → length links′ ≡ length links → Linked (g .variables) heads filled (m .points) links′
     stage-linked s same =
         record {
-          indexed = sifts-full enough narrow (subst Distinct (sym held) (at .stands .invariants .filled .distinct)) s;
+          indexed = sifts-full enough narrow (subst Distinct (sym indexed-points) (at .stands .invariants .filled .distinct)) s;
           linked = le-trans (blank .room) (le-of-eq (sym same));
         }
 

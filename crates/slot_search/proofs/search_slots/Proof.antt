@@ -124,8 +124,8 @@ module _ {M : Type 1} (𝓤 : URA M) (H : Heap 𝓤) (A : Atoms 𝓤) (W : Given
 
     exits : (r : Outcome) (w : Val) (ps fs ds : List ℕ) → length ps ≡ 65536 → length fs ≡ 65536 → length ds ≡ 65536
         → Searched f us vs (pointsIn ys) (falsifiedIn ys) (depthsIn ys) r (pointsIn (Z ps fs ds)) (falsifiedIn (Z ps fs ds)) (depthsIn (Z ps fs ds)) → ent 𝓤 (⋆ 𝓤 H A (Had r w (Z ps fs ds))) (Post w)
-    exits r w ps fs ds e₁ e₂ e₃ told =
-        qed W (Had r w (Z ps fs ds)) ∵ suffices ! _ (ends-at 𝓤 H A this.ended stayed (this.clauses 𝓤 H A mem run) W bound w r (tt, (tt, (tt, (Z ps fs ds, tt)))) (tt, (tt, (tt, (long ps fs ds e₁ e₂ e₃, tt))))) $ says ! told $
+    exits r w ps fs ds e₁ e₂ e₃ promised =
+        qed W (Had r w (Z ps fs ds)) ∵ suffices ! _ (ends-at 𝓤 H A this.ended stayed (this.clauses 𝓤 H A mem run) W bound w r (tt, (tt, (tt, (Z ps fs ds, tt)))) (tt, (tt, (tt, (long ps fs ds e₁ e₂ e₃, tt))))) $ says ! promised $
         nothing ! $ move ! (3 ∷ 0 ∷ []) $ join ! $ move ! (2 ∷ 0 ∷ []) $ join ! $ move ! (1 ∷ 0 ∷ []) $ join ! $ frame ! $
         -- [positive; negative; slots' obs and borrow; the result]
         nothing ! $ move ! (3 ∷ 4 ∷ []) $ mut-again ! R (named 2) b o (length ys) (Z ps fs ds) (long ps fs ds e₁ e₂ e₃) room $ fjoin ! $ move ! (2 ∷ 0 ∷ []) $ fjoin ! $ move ! (1 ∷ 0 ∷ []) $ fjoin ! $
@@ -185,7 +185,7 @@ module _ {M : Type 1} (𝓤 : URA M) (H : Heap 𝓤) (A : Atoms 𝓤) (W : Given
           lend ! tt u32 (named 4) 65536 (D ys ds) l₇ 0 (long₃ ys ds e₃) (room32 (D ys ds) (long₃ ys ds e₃)) (λ ν₆ γ₆. move ! (12 ∷ 18 ∷ 10 ∷ 17 ∷ 6 ∷ 7 ∷ 3 ∷ 4 ∷ 0 ∷ 1 ∷ []) $
           Front.asks f us vs κ₀ κ₁ q₀ q₁ c₀ d₀ c₁ d₁ δ₀ δ₁ l₅ 0 l₆ 0 l₇ 0 γ₄ γ₅ γ₆ (P ys ps) (N ys fs) (D ys ds) (k ys) 65536 ν₄ ν₅ ν₆ 𝓤 H A mem run W ! gf (gk ys) (fronts-in ys (P ys ps) (N ys fs) (D ys ds) (long₁ ys ps e₁) (long₂ ys fs e₂) (long₃ ys ds e₃)) $
           calls-at ! fm (SearchFront 𝓤 H A mem run) known₂ (Front.bound f us vs κ₀ κ₁ q₀ q₁ c₀ d₀ c₁ d₁ δ₀ δ₁ l₅ 0 l₆ 0 l₇ 0 γ₄ γ₅ γ₆ (P ys ps) (N ys fs) (D ys ds) (k ys) 65536 ν₄ ν₅ ν₆ 𝓤 H A mem run) (and-then ! (load ! (from ! (stop !)) (look ! 71 refl)) (and-then ! (load ! (from ! (stop !)) (look ! 69 refl)) (and-then ! (load ! (from ! (stop !)) (look ! 67 refl)) (and-then ! (load ! (from ! (stop !)) (look ! 34 refl)) (and-then ! (load ! (from ! (stop !)) (look ! 30 refl)) (and-then ! (load ! (from ! (stop !)) (look ! 26 refl)) (and-then ! (load ! (from ! (stop !)) (look ! 60 refl)) (no-more !)))))))) (λ w₂.
-          Front.has f us vs κ₀ κ₁ q₀ q₁ c₀ d₀ c₁ d₁ δ₀ δ₁ l₅ 0 l₆ 0 l₇ 0 γ₄ γ₅ γ₆ (P ys ps) (N ys fs) (D ys ds) (k ys) 65536 ν₄ ν₅ ν₆ 𝓤 H A mem run W ! tt w₂ (λ r ps′ fs′ ds′ s₁ s₂ s₃ told. move ! (8 ∷ []) $
+          Front.has f us vs κ₀ κ₁ q₀ q₁ c₀ d₀ c₁ d₁ δ₀ δ₁ l₅ 0 l₆ 0 l₇ 0 γ₄ γ₅ γ₆ (P ys ps) (N ys fs) (D ys ds) (k ys) 65536 ν₄ ν₅ ν₆ 𝓤 H A mem run W ! tt w₂ (λ r ps′ fs′ ds′ s₁ s₂ s₃ promised. move ! (8 ∷ []) $
           peeks ! O.the-row (Is O.the-row) (shows 𝓤 H A O.the-row) r (w₂ ∷ []) (λ iso. land ! (from ! (stop !)) (init ! 66 refl (outcome-typed 𝓤 H A W r w₂ iso)) $ move ! (3 ∷ 11 ∷ 6 ∷ []) $ unlend ! tt u64 ps′ l₅ 0 $
           move ! (4 ∷ 9 ∷ 6 ∷ []) $ unlend ! tt u32 fs′ l₆ 0 $ move ! (5 ∷ 7 ∷ 6 ∷ []) $ unlend ! tt u32 ds′ l₇ 0 $
           -- they are copied back
@@ -213,7 +213,7 @@ module _ {M : Type 1} (𝓤 : URA M) (H : Heap 𝓤) (A : Atoms 𝓤) (W : Given
           forget ! 15 refl $ forget ! 13 refl $ forget ! 11 refl $ move ! (74 ∷ 75 ∷ 72 ∷ 73 ∷ 70 ∷ 71 ∷ 68 ∷ 69 ∷ 66 ∷ 67 ∷ 2 ∷ 65 ∷ 1 ∷ 64 ∷ 0 ∷ 63 ∷ 61 ∷ 62 ∷ 59 ∷ 60 ∷ 57 ∷ 58 ∷ 55 ∷ 56 ∷ 53 ∷ 54 ∷ 51 ∷ 52 ∷ 49 ∷ 50 ∷ 47 ∷ 48 ∷ 45 ∷ 46 ∷ 43 ∷ 44 ∷ 41 ∷ 42 ∷ 39 ∷ 40 ∷ 37 ∷ 38 ∷ 35 ∷ 36 ∷ 33 ∷ 34 ∷ 31 ∷ 32 ∷ 29 ∷ 30 ∷ 27 ∷ 28 ∷ 25 ∷ 26 ∷ 23 ∷ 24 ∷ 21 ∷ 22 ∷ 19 ∷ 20 ∷ 17 ∷ 18 ∷ 15 ∷ 16 ∷ 13 ∷ 14 ∷ 11 ∷ 12 ∷ []) $
           free-all ! (placed mirs.locals (l₀ ∷ l₁ ∷ l₂ ∷ l₃ ∷ l₄ ∷ l₅ ∷ l₆ ∷ l₇ ∷ l₈ ∷ l₉ ∷ l₁₀ ∷ l₁₁ ∷ l₁₂ ∷ l₁₃ ∷ l₁₄ ∷ l₁₅ ∷ l₁₆ ∷ l₁₇ ∷ l₁₈ ∷ l₁₉ ∷ l₂₀ ∷ l₂₁ ∷ l₂₂ ∷ l₂₃ ∷ l₂₄ ∷ l₂₅ ∷ l₂₆ ∷ l₂₇ ∷ l₂₈ ∷ l₂₉ ∷ l₃₀ ∷ l₃₁ ∷ l₃₂ ∷ l₃₃ ∷ [])) (
           keep ! (4 ∷ 5 ∷ 2 ∷ 7 ∷ 6 ∷ 0 ∷ 1 ∷ 3 ∷ []) $
-          by ! (exits r w₂ ps′ fs′ ds′ (s₁ ∙ long₁ ys ps e₁) (s₂ ∙ long₂ ys fs e₂) (s₃ ∙ long₃ ys ds e₃) (searched-whole f us vs ys (k ys) refl ps fs ds ps′ fs′ ds′ r (many ys ps′ (s₁ ∙ long₁ ys ps e₁)) (many ys fs′ (s₂ ∙ long₂ ys fs e₂)) (many ys ds′ (s₃ ∙ long₃ ys ds e₃)) told)))))))))))))))))))))))))))))))))))))))))))))))))))))))))))))))
+          by ! (exits r w₂ ps′ fs′ ds′ (s₁ ∙ long₁ ys ps e₁) (s₂ ∙ long₂ ys fs e₂) (s₃ ∙ long₃ ys ds e₃) (searched-whole f us vs ys (k ys) refl ps fs ds ps′ fs′ ds′ r (many ys ps′ (s₁ ∙ long₁ ys ps e₁)) (many ys fs′ (s₂ ∙ long₂ ys fs e₂)) (many ys ds′ (s₃ ∙ long₃ ys ds e₃)) promised)))))))))))))))))))))))))))))))))))))))))))))))))))))))))))))))
 
 module _ {M : Type 1} (𝓤 : URA M) (H : Heap 𝓤) (A : Atoms 𝓤) (W : Given 𝓤 H A) (mem : Memory → SProp 𝓤) (run : Routine → Fun 𝓤) (𝓣 : Tables 𝓤 H) (known₀ : Triple 𝓤 (𝓣 .C #point-slices·least) (Least 𝓤 H A mem run)) (known₁ : Triple 𝓤 (𝓣 .C #slot-columns·copy-out) (CopyOut 𝓤 H A mem run))
     (known₂ : Triple 𝓤 (𝓣 .C #slot-prefixes·search-front) (SearchFront 𝓤 H A mem run)) (known₃ : Triple 𝓤 (𝓣 .C #slot-columns·copy-back) (CopyBack 𝓤 H A mem run)) where

@@ -113,8 +113,8 @@ module _ {M : Type 1} (𝓤 : URA M) (H : Heap 𝓤) (A : Atoms 𝓤) (W : Given
     Had r w zs = ‵ (flft κ₀ q₀) ∷ ‵ (flft κ₁ q₁) ∷ ‵ (flft κ₂ q₂) ∷ ‵ (flft κ₃ q₃) ∷ ‵ positive ∷ ‵ negative ∷ ‵ lent-slots ∷ ‵ (fobs δ₃ (codedHoleys u8 .code (heres u8 zs))) ∷ ‵ (fbor κ₃ (Held u8 (length zs) b₃ o₃ δ₃)) ∷ ‵ (O.the-row .own r (w ∷ [])) ∷ []
 
     exits : (r : Written) (w : Val) (zs : List ℕ) → length zs ≡ length os → Wrote f us vs (pointsIn ys) (falsifiedIn ys) (depthsIn ys) filled os r zs → ent 𝓤 (⋆ 𝓤 H A (Had r w zs)) (Post w)
-    exits r w zs same told =
-        qed W (Had r w zs) ∵ suffices ! _ (ends-at 𝓤 H A this.ended stayed (this.clauses 𝓤 H A mem run) W bound w r (tt, (tt, (tt, (tt, (tt, (zs, tt)))))) (tt, (tt, (tt, (tt, (tt, (same, tt))))))) $ says ! told $
+    exits r w zs same promised =
+        qed W (Had r w zs) ∵ suffices ! _ (ends-at 𝓤 H A this.ended stayed (this.clauses 𝓤 H A mem run) W bound w r (tt, (tt, (tt, (tt, (tt, (zs, tt)))))) (tt, (tt, (tt, (tt, (tt, (same, tt))))))) $ says ! promised $
         nothing ! $ move ! (4 ∷ 0 ∷ []) $ join ! $ move ! (3 ∷ 0 ∷ []) $ join ! $ move ! (2 ∷ 0 ∷ []) $ join ! $ move ! (1 ∷ 0 ∷ []) $ join ! $ frame ! $
         -- [positive; negative; slots; out's obs and borrow; the result]
         nothing ! $ move ! (4 ∷ 5 ∷ []) $ mut-again ! u8 (named 3) b₃ o₃ (length os) zs same room₃ $ fjoin ! $ owned ! u32 (Is u32) (uint-makes 𝓤 H A W w32) filled (vint w32 filled ∷ []) (refl, gc) $ fjoin ! $
@@ -176,7 +176,7 @@ module _ {M : Type 1} (𝓤 : URA M) (H : Heap 𝓤) (A : Atoms 𝓤) (W : Given
           move ! (15 ∷ 22 ∷ 13 ∷ 21 ∷ 9 ∷ 10 ∷ 6 ∷ 7 ∷ 3 ∷ 4 ∷ 0 ∷ 1 ∷ []) $
           Front.asks f us vs κ₀ κ₁ q₀ q₁ c₀ d₀ c₁ d₁ δ₀ δ₁ l₇ 0 l₈ 0 l₉ 0 γ₄ γ₅ γ₆ (P ys ps) (N ys fs) (D ys ds) (k ys) 65536 ν₄ ν₅ ν₆ filled b₃ o₃ γ₇ os ν₇ 𝓤 H A mem run W ! gf (gk ys) gc (fronts-in ys (P ys ps) (N ys fs) (D ys ds) (long₁ ys ps e₁) (long₂ ys fs e₂) (long₃ ys ds e₃)) $
           calls-at ! fm (WriteFront 𝓤 H A mem run) known₂ (Front.bound f us vs κ₀ κ₁ q₀ q₁ c₀ d₀ c₁ d₁ δ₀ δ₁ l₇ 0 l₈ 0 l₉ 0 γ₄ γ₅ γ₆ (P ys ps) (N ys fs) (D ys ds) (k ys) 65536 ν₄ ν₅ ν₆ filled b₃ o₃ γ₇ os ν₇ 𝓤 H A mem run) (and-then ! (load ! (from ! (stop !)) (look ! 59 refl)) (and-then ! (load ! (from ! (stop !)) (look ! 57 refl)) (and-then ! (load ! (from ! (stop !)) (look ! 55 refl)) (and-then ! (load ! (from ! (stop !)) (look ! 24 refl)) (and-then ! (load ! (from ! (stop !)) (look ! 20 refl)) (and-then ! (load ! (from ! (stop !)) (look ! 16 refl)) (and-then ! (load ! (from ! (stop !)) (look ! 44 refl)) (and-then ! (load ! (from ! (stop !)) (look ! 51 refl)) (and-then ! (load ! (from ! (stop !)) (look ! 12 refl)) (no-more !)))))))))) (λ w₂.
-          Front.has f us vs κ₀ κ₁ q₀ q₁ c₀ d₀ c₁ d₁ δ₀ δ₁ l₇ 0 l₈ 0 l₉ 0 γ₄ γ₅ γ₆ (P ys ps) (N ys fs) (D ys ds) (k ys) 65536 ν₄ ν₅ ν₆ filled b₃ o₃ γ₇ os ν₇ 𝓤 H A mem run W ! tt w₂ (λ r os′ same told. move ! (7 ∷ []) $
+          Front.has f us vs κ₀ κ₁ q₀ q₁ c₀ d₀ c₁ d₁ δ₀ δ₁ l₇ 0 l₈ 0 l₉ 0 γ₄ γ₅ γ₆ (P ys ps) (N ys fs) (D ys ds) (k ys) 65536 ν₄ ν₅ ν₆ filled b₃ o₃ γ₇ os ν₇ 𝓤 H A mem run W ! tt w₂ (λ r os′ same promised. move ! (7 ∷ []) $
           peeks ! O.the-row (Is O.the-row) (shows 𝓤 H A O.the-row) r (w₂ ∷ []) (λ iso. land ! (from ! (stop !)) (init ! 68 refl (written-typed 𝓤 H A W r w₂ iso)) $ move ! (3 ∷ 11 ∷ []) $ unshare ! tt u64 (P ys ps) l₇ 0 $ move ! (4 ∷ 10 ∷ []) $
           unshare ! tt u32 (N ys fs) l₈ 0 $ move ! (5 ∷ 9 ∷ []) $ unshare ! tt u32 (D ys ds) l₉ 0 $ move ! (6 ∷ 8 ∷ 7 ∷ []) $ unlend ! tt u8 os′ b₃ o₃ $
           -- the output's borrow is closed, and the locals are given up
@@ -186,7 +186,7 @@ module _ {M : Type 1} (𝓤 : URA M) (H : Heap 𝓤) (A : Atoms 𝓤) (W : Given
           forget ! 19 refl $ forget ! 17 refl $ forget ! 15 refl $ forget ! 13 refl $ move ! (62 ∷ 63 ∷ 60 ∷ 61 ∷ 58 ∷ 59 ∷ 56 ∷ 57 ∷ 54 ∷ 55 ∷ 52 ∷ 53 ∷ 50 ∷ 51 ∷ 2 ∷ 49 ∷ 1 ∷ 48 ∷ 0 ∷ 47 ∷ 45 ∷ 46 ∷ 43 ∷ 44 ∷ 41 ∷ 42 ∷ 39 ∷ 40 ∷ 37 ∷ 38 ∷ 35 ∷ 36 ∷ 33 ∷ 34 ∷ 31 ∷ 32 ∷ 29 ∷ 30 ∷ 27 ∷ 28 ∷ 25 ∷ 26 ∷ 23 ∷ 24 ∷ 21 ∷ 22 ∷ 19 ∷ 20 ∷ 17 ∷ 18 ∷ 15 ∷ 16 ∷ 13 ∷ 14 ∷ []) $
           free-all ! (placed mirs.locals (l₀ ∷ l₁ ∷ l₂ ∷ l₃ ∷ l₄ ∷ l₅ ∷ l₆ ∷ l₇ ∷ l₈ ∷ l₉ ∷ l₁₀ ∷ l₁₁ ∷ l₁₂ ∷ l₁₃ ∷ l₁₄ ∷ l₁₅ ∷ l₁₆ ∷ l₁₇ ∷ l₁₈ ∷ l₁₉ ∷ l₂₀ ∷ l₂₁ ∷ l₂₂ ∷ l₂₃ ∷ l₂₄ ∷ l₂₅ ∷ l₂₆ ∷ [])) (
           keep ! (4 ∷ 5 ∷ 8 ∷ 2 ∷ 7 ∷ 6 ∷ 9 ∷ 0 ∷ 1 ∷ 3 ∷ []) $
-          by ! (exits r w₂ os′ same (wrote-whole f us vs ys (k ys) refl filled os ps fs ds r os′ told))))))))))))))))))))))))))))))))))))))))))))))))))
+          by ! (exits r w₂ os′ same (wrote-whole f us vs ys (k ys) refl filled os ps fs ds r os′ promised))))))))))))))))))))))))))))))))))))))))))))))))))
 
 module _ {M : Type 1} (𝓤 : URA M) (H : Heap 𝓤) (A : Atoms 𝓤) (W : Given 𝓤 H A) (mem : Memory → SProp 𝓤) (run : Routine → Fun 𝓤) (𝓣 : Tables 𝓤 H) (known₀ : Triple 𝓤 (𝓣 .C #point-slices·least) (Least 𝓤 H A mem run)) (known₁ : Triple 𝓤 (𝓣 .C #slot-columns·copy-out) (CopyOut 𝓤 H A mem run))
     (known₂ : Triple 𝓤 (𝓣 .C #slot-prefixes·write-front) (WriteFront 𝓤 H A mem run)) where
