@@ -28,7 +28,8 @@ fn lists_refusal(
     n: u32,
     permutations: u32,
 ) -> Checked
-    requires { ⌜ Ready n permutations (now images) (now positive) (now negative) count (now points) heads (now links) ⌝ }
+    requires { ⌜ Ready n permutations (now images) (now positive) (now negative) count (now points) heads
+        (now links) ⌝ }
     ensures { λ r. ⌜ faultOf r ≡ listsFault n (numbered (clausesOf (now (positive .entry)) (now (negative .entry))))
         (permutationsIn n permutations (now (images .entry)))
         (take count (pointsOf (now (points .entry)))) (take count (now (falsified .entry))) ⌝ }

@@ -30,7 +30,8 @@ pub extern "C" fn jugbowo_check(
     reply: &mut [u64],
 ) -> u32
     ensures { λ r. ⌜ CheckReturns (formulaFrom variables clauses target permutations (now (images .entry)))
-        (now (positive .entry)) (now (negative .entry)) (now (file .entry)) (now (reply .entry)) r (now (reply .exit)) ⌝ }
+        (now (positive .entry)) (now (negative .entry)) (now (file .entry)) (now (reply .entry)) r
+        (now (reply .exit)) ⌝ }
 {
     if reply.len() < WORDS {
         return 0;

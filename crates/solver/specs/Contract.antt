@@ -1,4 +1,4 @@
--- What the solver promises: its answer and every lent slice as it returns, by the definitions of reader, builder,
+-- What the solver promises: its answer and every lent slice as it returns, by the definitions of reader, search,
 -- writer and checker, and the claim's sentences about that. Assumes nothing.
 use mathlib.Core.List.{List}
 use mathlib.Core.Logic.{_↔_}
