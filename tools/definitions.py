@@ -4,8 +4,8 @@ this repository.
 
 usage: tools/definitions.py VECTORS SCRATCH KIND [MOST]
 
-VECTORS is a file of one JSON object a line, SCRATCH a folder that is made anew, KIND reader, builder, checker or writer. A vector is left out if its line has more than
-MOST characters (default 6000), if it comes in parts, or if its n is beyond what antt should raise 2 to. Prints how
+VECTORS is a file of one JSON object a line, SCRATCH a folder that is made anew, KIND reader, builder, checker or
+writer. A vector is left out if its line has more than MOST characters (default 6000), if it comes in parts, or if its n is beyond what antt should raise 2 to. Prints how
 many vectors of each answer were computed, which ids were left out, and what the check says. Not part of the gate."""
 import collections
 import json
@@ -15,8 +15,8 @@ import subprocess
 import sys
 
 USES = {
-    "reader": "Rattle.dimacs_format.specs.Reader.{readReply, readFormula, readPositive, readNegative}",
-    "builder": "Rattle.search.specs.Search.{searchReply, searchSlice}\nuse Rattle.search_theory.specs.Walk.{Slot}",
+    "reader": "Rattle.dimacs_format.specs.Reader.{readReply, readFormula, readClauses}",
+    "builder": "Rattle.search.specs.Search.{searchReply, searchSlices}\nuse Rattle.math.specs.Lists.{over}",
     "checker": "Rattle.checker.specs.Checker.{checkReply}\nuse Rattle.certificate.specs.Reader.{openedReply}\n"
     "use Rattle.certificate.specs.Certificate.{filePermutations, filePoints, fileNumbers}",
     "writer": "Rattle.certificate.specs.Writer.{writeReply, writeOutput}",
@@ -27,6 +27,7 @@ use mathlib.Core.Path.{_≡_, refl}
 use Prim.Native.Nat.{ℕ}
 use lib.ListN.{replicate}
 use Rattle.math.specs.Bits.{bit, flip}
+use Rattle.point_slices.specs.Slices.{wholeClauses, wholeSlots}
 use Rattle.permutation_theory.specs.Permutations.{Permutation}
 use Rattle.formula.specs.declared.Formula.{Formula}
 use Rattle.formula.specs.Reply.{Reply, parsed, refused, satisfiable, unsatisfiable, unknown, written, accepted, opened}
@@ -49,6 +50,14 @@ def formula(sheet):
     return "(record { " + fields % values + " })"
 
 
+def clauses(yes, no):
+    return "(wholeClauses %s %s)" % (listed(yes), listed(no))
+
+
+def slots(points, rules, depths):
+    return "(wholeSlots %s %s %s)" % (listed(points), listed(rules), listed(depths))
+
+
 def over(new, old):
     return new + old[len(new):]
 
@@ -60,11 +69,10 @@ def refusal(expect):
 def reader(v):
     e, p, q = v["expect"], filled(v, v["yes_len"], 64), filled(v, v["no_len"], 64)
     sheet = e.get("sheet", {"n": 0, "rules": 0, "wish": 0, "exchange_count": 0, "exchanges": ""})
-    args = "%s %s %s" % (listed(bytes.fromhex(v["text"])), listed(p), listed(q))
+    args = "%s %s" % (listed(bytes.fromhex(v["text"])), clauses(p, q))
     yield "readReply", "readReply %s ≡ %s" % (args, refusal(e) or "parsed")
     yield "readFormula", "readFormula %s ≡ %s" % (args, formula(sheet))
-    yield "readPositive", "readPositive %s ≡ %s" % (args, listed(over(e.get("yes", []), p)))
-    yield "readNegative", "readNegative %s ≡ %s" % (args, listed(over(e.get("no", []), q)))
+    yield "readClauses", "readClauses %s ≡ %s" % (args, clauses(over(e.get("yes", []), p), over(e.get("no", []), q)))
 
 
 def builder(v):
@@ -73,17 +81,17 @@ def builder(v):
     answers = {"met": "satisfiable %s %s %s" % (e.get("choice"), e.get("changes"), e.get("slots")),
             "cannot be met": "unsatisfiable %s" % e.get("slots"),
             "no room": "unknown %s %s" % (e.get("d"), e.get("slots"))}
-    args = "%s %s %s %d" % (formula(v["sheet"]), listed(v["yes"]), listed(v["no"]), lent)
-    yield "searchReply bit flip", "searchReply %s ≡ %s" % (args, refusal(e) or answers[e["answer"]])
-    for part, name, bits in (("point", "points", 64), ("falsified", "rules", 32), ("depth", "depths", 32)):
-        old = filled(v, v[name + "_len"], bits)
-        new = listed(over(e.get(name, []), old))
-        yield "searchSlice bit flip", "searchSlice (λ (s : Slot). s .%s) %s %s ≡ %s" % (part, args, listed(old), new)
+    args = "%s %s" % (formula(v["sheet"]), clauses(v["yes"], v["no"]))
+    yield "searchReply bit flip", "searchReply %s %d ≡ %s" % (args, lent, refusal(e) or answers[e["answer"]])
+    names = (("points", 64), ("rules", 32), ("depths", 32))
+    old = [filled(v, v[name + "_len"], bits) for name, bits in names]
+    new = [over(e.get(name, []), held) for (name, _), held in zip(names, old)]
+    yield "searchSlices bit flip over", "searchSlices %s %s ≡ %s" % (args, slots(*old), slots(*new))
 
 
 def checker(v):
     file, r = listed(bytes.fromhex(v["file"])), v["reading"]
-    args = "%s %s %s %s" % (formula(v["sheet"]), listed(v["yes"]), listed(v["no"]), file)
+    args = "%s %s %s" % (formula(v["sheet"]), clauses(v["yes"], v["no"]), file)
     yield "checkReply", "checkReply %s ≡ %s" % (args, refusal(v["expect"]) or "accepted")
     yield "openedReply", "openedReply %s ≡ %s" % (file, refusal(r) or "opened")
     if "refused" not in r:
@@ -97,9 +105,8 @@ def checker(v):
 
 def writer(v):
     e, out = v["expect"], filled(v, v["out_len"], 8)
-    args = "%s %s %s %s %s (replicate %d 0) %d %s" % (
-        formula(v["sheet"]), listed(v["yes"]), listed(v["no"]), listed(v["points"]), listed(v["rules"]),
-        v["depths_len"],
+    args = "%s %s (wholeSlots %s %s (replicate %d 0)) %d %s" % (
+        formula(v["sheet"]), clauses(v["yes"], v["no"]), listed(v["points"]), listed(v["rules"]), v["depths_len"],
         v["count"], listed(out))
     yield "writeReply", "writeReply %s ≡ %s" % (args, refusal(e) or "written %d" % e["length"])
     yield "writeOutput", "writeOutput %s ≡ %s" % (args, listed(over(list(bytes.fromhex(e.get("out", ""))), out)))

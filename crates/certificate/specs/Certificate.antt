@@ -9,7 +9,8 @@ use lib.Dec.{leb, eqb}
 use lib.ListN.{length, getD, getElem?, take, drop}
 use Rattle.math.specs.Lists.{_∈_}
 use Rattle.permutation_theory.specs.Permutations.{Permutation, permutationsIn}
-use Rattle.certificate.specs.Bytes.{bytesOf, numberFrom, joined, entries, numbersIn, fieldWidth, permutationWidth}
+use Rattle.math.specs.Numerals.{digitsOf, value, joined, entries}
+use Rattle.certificate.specs.Bytes.{bytesOf, numbersIn, fieldWidth, permutationWidth}
 use Rattle.certificate.specs.Bytes.{pointWidth, numberWidth}
 
 -- ---- the contents
@@ -70,7 +71,7 @@ certificateLength n a k = contentsLength + a * permutationWidth n + k * pointWid
 
 -- C1: "Contents first, then bodies; numbers are 32-bit, low byte first."
 unfoldable pub encode : ℕ → ℕ → List Permutation → List ℕ → List ℕ → List ℕ
-unfolding joined bytesOf fieldsOf layout
+unfolding joined digitsOf fieldsOf layout
 encode n m permutations points numbers =
     joined (bytesOf fieldWidth) (fieldsOf (layout n m (length permutations) (length points) (length numbers)))
     ++ joined (λ (e : Permutation). e .images) permutations ++ joined (bytesOf pointWidth) points
@@ -93,7 +94,7 @@ pub record Encodable (n m : ℕ) (permutations : List Permutation) (points numbe
 
 -- the contents that stand in a file's first 32 bytes
 unfoldable pub contentsOf : List ℕ → FileContents
-unfolding fromFields entries numberFrom
+unfolding fromFields entries value
 contentsOf file = fromFields (numbersIn fieldWidth 8 file)
 
 -- C4: "The last two counts agree and the length is exact." The offsets are exact too; all sums are true ones
@@ -139,18 +140,18 @@ filePermutations file = let c = contentsOf file in permutationsIn (c .variables)
     (permutationsBody file)
 
 unfoldable pub filePoints : List ℕ → List ℕ
-unfolding pointsBody entries numberFrom
+unfolding pointsBody entries value
 filePoints file = numbersIn pointWidth (contentsOf file .points) (pointsBody file)
 
 unfoldable pub fileNumbers : List ℕ → List ℕ
-unfolding numbersBody entries numberFrom
+unfolding numbersBody entries value
 fileNumbers file = numbersIn numberWidth (contentsOf file .numbers) (numbersBody file)
 
 -- ---- one entry of a body, by its index from 0; none where it lies outside the body
 
 -- number i of those that a body holds whole, w bytes each
 unfoldable pub numberAt : ℕ → List ℕ → ℕ → Option ℕ
-unfolding entries numberFrom
+unfolding entries value
 numberAt w body i = getElem? (numbersIn w (length body / w) body) i
 
 -- where the permutation of index j of a body of permutations sends variable i + 1: "n bytes per exchange (e(1) first)"

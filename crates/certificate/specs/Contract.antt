@@ -1,4 +1,5 @@
 -- What `certificate::read` promises, and what the readers of the three bodies do. Assumes nothing.
+use mathlib.Core.Bool.{false, cond}
 use mathlib.Core.List.{List}
 use mathlib.Core.Option.{Option, some, none}
 use mathlib.Core.Path.{_≡_}
@@ -9,7 +10,6 @@ use Rattle.certificate.specs.Certificate.{FileContents, numberAt, imageA
 use Rattle.certificate.specs.Reader.{openedReply, openedContents}
 use Rattle.certificate.specs.declared.Contents.{Contents}
 use Rattle.certificate.specs.declared.Entry.{Entry}
-use Rattle.certificate.specs.declared.Entry.the-variants.{Value, Outside}
 use Rattle.certificate.specs.declared.Opened.{Opened}
 use Rattle.certificate.specs.declared.Opened.the-variants.{File, Refused}
 
@@ -44,16 +44,24 @@ pub record OpenedAs (file : List ℕ) (r : Opened) : Type 0 where
   pub contents : handedOut r ≡ openedContents file
 
 -- the entry that the code's answer holds
-unfoldable pub valueOf : Entry → Option ℕ
-valueOf (Value x) = some x
-valueOf Outside = none
+abbrev pub entryOf : Entry → Option ℕ
+entryOf r = cond (r .inside) (some (r .value)) none
+
+-- the answer that there is none
+abbrev pub noEntry : Entry
+noEntry = record { inside = false; value = 0 }
+
+-- the code's answer is this entry; the value is 0 where there is none
+pub record EntryIs (entry : Option ℕ) (r : Entry) : Type 0 where
+  pub held : entryOf r ≡ entry
+  pub none-is-zero : r .inside ≡ false → r .value ≡ 0
 
 -- what the readers of the three bodies promise
-pub record ImageRead (n : ℕ) (body : List ℕ) (j i : ℕ) (r : Entry) : Type 0 where
-  pub value : valueOf r ≡ imageAt n body j i
+abbrev pub ImageRead : ℕ → List ℕ → ℕ → ℕ → Entry → Type 0
+ImageRead n body j i r = EntryIs (imageAt n body j i) r
 
-pub record PointRead (body : List ℕ) (i : ℕ) (r : Entry) : Type 0 where
-  pub value : valueOf r ≡ numberAt pointWidth body i
+abbrev pub PointRead : List ℕ → ℕ → Entry → Type 0
+PointRead body i r = EntryIs (numberAt pointWidth body i) r
 
-pub record NumberRead (body : List ℕ) (i : ℕ) (r : Entry) : Type 0 where
-  pub value : valueOf r ≡ numberAt numberWidth body i
+abbrev pub NumberRead : List ℕ → ℕ → Entry → Type 0
+NumberRead body i r = EntryIs (numberAt numberWidth body i) r

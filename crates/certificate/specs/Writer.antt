@@ -3,7 +3,7 @@ use mathlib.Core.List.{List, [], _∷_, _++_}
 use mathlib.Core.Path.{_≡_}
 use Prim.Native.Nat.{ℕ}
 use lib.ListN.{length, take, drop}
-use Rattle.point_slices.specs.Slices.{pointsOf}
+use Rattle.point_slices.specs.Slices.{ClauseSlices, SlotSlices}
 use Rattle.formula.specs.declared.Formula.{Formula}
 use Rattle.formula.specs.Limits.{capacity}
 use Rattle.formula.specs.Problem.{Problem, problemOf}
@@ -19,39 +19,39 @@ unfolding certificateLength
 lengthNeeded pb filled = certificateLength (pb .variables) (length (pb .permutations)) filled
 
 -- N5: "Writer (from slots and a count): 10, 11, 12, 16, 17, 19." N8: "Each is tested over everything before the next"
-unfoldable pub writeFault : Formula → List ℕ → List ℕ → List ℕ → List ℕ → List ℕ → ℕ → List ℕ → Fault
+unfoldable pub writeFault : Formula → ClauseSlices → SlotSlices → ℕ → List ℕ → Fault
 unfolding problemOf formulaFault permutationFault symmetryFault pointsFault capacity numbersFault roomFault lengthNeeded
     first
-writeFault f positive negative points falsified depths filled out =
-    let pb = problemOf f positive negative in
-    let xs = pointsOf points in
+writeFault f clauses slots filled out =
+    let pb = problemOf f clauses in
     let row11 = permutationFault (pb .variables) (pb .permutations) in
     let row12 = symmetryFault (pb .clauses) (pb .permutations) in
-    let row16 = pointsFault (capacity (length xs) (length falsified) (length depths)) (pb .variables) filled xs in
-    let row17 = numbersFault (pb .clauses) filled xs falsified in
+    let row16 = pointsFault (capacity slots) (pb .variables) filled (slots .points) in
+    let row17 = numbersFault (pb .clauses) filled (slots .points) (slots .falsified) in
     let row19 = roomFault (lengthNeeded pb filled) (length out) in
-    first (formulaFault f positive negative ∷ row11 ∷ row12 ∷ row16 ∷ row17 ∷ row19 ∷ [])
+    first (formulaFault f clauses ∷ row11 ∷ row12 ∷ row16 ∷ row17 ∷ row19 ∷ [])
 
-unfoldable pub writeReply : Formula → List ℕ → List ℕ → List ℕ → List ℕ → List ℕ → ℕ → List ℕ → Reply
+unfoldable pub writeReply : Formula → ClauseSlices → SlotSlices → ℕ → List ℕ → Reply
 unfolding writeFault unless
-writeReply f positive negative points falsified depths filled out =
-    unless (writeFault f positive negative points falsified depths filled out)
-    (written (lengthNeeded (problemOf f positive negative) filled))
+writeReply f clauses slots filled out =
+    unless (writeFault f clauses slots filled out)
+    (written (lengthNeeded (problemOf f clauses) filled))
 
 -- C7: "what the writer puts out from that sheet and its rules, the lent slots as the builder left them and the number
 -- it reported as filled"
-unfoldable pub certificateOf : Problem → List ℕ → List ℕ → ℕ → List ℕ
+unfoldable pub certificateOf : Problem → SlotSlices → ℕ → List ℕ
 unfolding encode
-certificateOf pb points falsified filled =
-    encode (pb .variables) (pb .total) (pb .permutations) (take filled (pointsOf points)) (take filled falsified)
+certificateOf pb slots filled =
+    encode (pb .variables) (pb .total) (pb .permutations) (take filled (slots .points))
+    (take filled (slots .falsified))
 
 -- C6: "Output past the certificate is unchanged."
-unfoldable pub writeOutput : Formula → List ℕ → List ℕ → List ℕ → List ℕ → List ℕ → ℕ → List ℕ → List ℕ
+unfoldable pub writeOutput : Formula → ClauseSlices → SlotSlices → ℕ → List ℕ → List ℕ
 unfolding writeFault unlessKept certificateOf
-writeOutput f positive negative points falsified depths filled out =
-    let pb = problemOf f positive negative in
-    let new = certificateOf pb points falsified filled ++ drop (lengthNeeded pb filled) out in
-    unlessKept (writeFault f positive negative points falsified depths filled out) new out
+writeOutput f clauses slots filled out =
+    let pb = problemOf f clauses in
+    let new = certificateOf pb slots filled ++ drop (lengthNeeded pb filled) out in
+    unlessKept (writeFault f clauses slots filled out) new out
 
 -- C5: "the reading of what the writer puts out is exactly the sheet's exchanges and the points and rule numbers of the
 -- slots given"

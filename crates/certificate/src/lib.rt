@@ -4,7 +4,7 @@ use crate::bodies::field;
 ghost use mathlib.Core.Path.{_≡_};
 ghost use Prim.Native.Nat.{_≤_};
 ghost use lib.ListN.{length};
-ghost use Rattle.certificate.specs.Certificate.{contentsOf, fitting};
+ghost use Rattle.certificate.specs.Certificate.{contentsLength, contentsOf, fitting};
 ghost use Rattle.certificate.specs.Contract.{contentsIn, OpenedAs};
 
 pub mod bodies;
@@ -27,18 +27,24 @@ pub enum Opened {
     Refused { code: u32, place: usize },
 }
 
-// One entry of a body (an image, a point or a clause number), or that the index lies outside the body.
-pub enum Entry {
-    Value(u64),
-    Outside,
+// Whether an index lies in a body, and the entry there (an image, a point or a clause number), 0 where it does not.
+pub struct Entry {
+    pub inside: bool,
+    pub value: u64,
 }
 
-// How many bytes the contents take.
+// How many bytes the contents take, a number in them, a point and a clause number.
 pub const CONTENTS: usize = 32;
+
+pub const FIELD: usize = 4;
+
+pub const POINT: usize = 8;
+
+pub const NUMBER: usize = 4;
 
 // C2: the contents that stand in a file's first 32 bytes; `read` sees to it that there are so many.
 fn contents_from(file: &[u8]) -> Contents
-    requires { ⌜ 32 ≤ length (now file) ⌝ }
+    requires { ⌜ contentsLength ≤ length (now file) ⌝ }
     ensures { λ r. ⌜ contentsIn r ≡ contentsOf (now (file .entry)) ⌝ }
 {
     Contents {
@@ -56,7 +62,7 @@ fn contents_from(file: &[u8]) -> Contents
 // C4: whether the contents fit a file of `size` bytes, which `read` found to be 32 at least. Each body is compared with
 // what is left of the file behind the one before it, so that no sum leaves the file and none wraps.
 fn in_order(c: Contents, size: usize) -> bool
-    requires { ⌜ 32 ≤ size ⌝ }
+    requires { ⌜ contentsLength ≤ size ⌝ }
     ensures { λ r. ⌜ r ≡ fitting (contentsIn c) size ⌝ }
 {
     let first = c.permutations_at as usize;
@@ -77,14 +83,14 @@ fn in_order(c: Contents, size: usize) -> bool
         return false;
     }
     let behind = left - images;
-    let points = (c.points as usize) * 8;
+    let points = (c.points as usize) * POINT;
     if behind < points {
         return false;
     }
     if third != second + points {
         return false;
     }
-    let numbers = (c.numbers as usize) * 4;
+    let numbers = (c.numbers as usize) * NUMBER;
     behind - points == numbers
 }
 

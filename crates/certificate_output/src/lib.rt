@@ -1,4 +1,8 @@
 // Numbers, contents and bodies of a certificate stored into lent bytes, each at its place.
+use certificate::CONTENTS;
+use certificate::FIELD;
+use certificate::NUMBER;
+use certificate::POINT;
 use point_slices::number_at;
 use point_slices::point_at;
 ghost use mathlib.Core.List.{[], _∷_};
@@ -7,12 +11,13 @@ ghost use Prim.Native.Nat.{_+_, _*_, _/_, _%_, _^_, _≤_};
 ghost use lib.ListN.{length, take};
 ghost use Rattle.math.specs.Lists.{spliced};
 ghost use Rattle.point_slices.specs.Slices.{pointsOf};
-ghost use Rattle.certificate.specs.Bytes.{bytesOf, joined, fieldWidth, pointWidth, numberWidth};
+ghost use Rattle.math.specs.Numerals.{joined};
+ghost use Rattle.certificate.specs.Bytes.{bytesOf, fieldWidth, pointWidth, numberWidth};
 ghost use Rattle.certificate.specs.Certificate.{fieldsOf, layout, contentsLength};
 
 // Byte i of a number, the lowest at 0.
 fn byte_of(x: u64, i: usize) -> u8
-    ensures { λ r. ⌜ r ≡ x / 2 ^ (8 * i) % 256 ⌝ }
+    ensures { λ r. ⌜ r ≡ x / 2 ^ (8 * i) % 2 ^ 8 ⌝ }
 {
     if 8 <= i {
         return 0;
@@ -37,17 +42,17 @@ pub fn put_number(out: &mut [u8], at: usize, width: usize, x: u64)
 
 // Stores four numbers of the contents from place `at` on.
 fn put_fields(out: &mut [u8], at: usize, a: u64, b: u64, c: u64, d: u64)
-    requires { ⌜ at + 16 ≤ length (now out) ⌝ }
+    requires { ⌜ at + 4 * fieldWidth ≤ length (now out) ⌝ }
     ensures { λ _. ⌜ now (out .exit) ≡ spliced at (joined (bytesOf fieldWidth) (a ∷ b ∷ c ∷ d ∷ [])) (now (out .entry))
         ⌝ }
 {
     let second = at + 4;
     let third = at + 8;
     let fourth = at + 12;
-    put_number(out, at, 4, a);
-    put_number(out, second, 4, b);
-    put_number(out, third, 4, c);
-    put_number(out, fourth, 4, d);
+    put_number(out, at, FIELD, a);
+    put_number(out, second, FIELD, b);
+    put_number(out, third, FIELD, c);
+    put_number(out, fourth, FIELD, d);
 }
 
 // C2: stores the contents of a certificate: n, m, then count and offset of each body. The caller says where the points
@@ -68,7 +73,14 @@ pub fn put_contents(
 {
     let points = count as u64;
     let numbers = count as u64;
-    put_fields(out, 0, n as u64, m as u64, permutations as u64, 32);
+    put_fields(
+        out,
+        0,
+        n as u64,
+        m as u64,
+        permutations as u64,
+        CONTENTS as u64,
+    );
     put_fields(
         out,
         16,
@@ -101,8 +113,8 @@ pub fn put_points(out: &mut [u8], at: usize, points: &[u64], count: usize)
     let mut i = 0;
     while i < count {
         let x = point_at(points, i);
-        let place = at + i * 8;
-        put_number(out, place, 8, x);
+        let place = at + i * POINT;
+        put_number(out, place, POINT, x);
         i += 1;
     }
 }
@@ -116,8 +128,8 @@ pub fn put_numbers(out: &mut [u8], at: usize, numbers: &[u32], count: usize)
     let mut next = 0;
     while next < count {
         let k = number_at(numbers, next);
-        let place = at + next * 4;
-        put_number(out, place, 4, k as u64);
+        let place = at + next * NUMBER;
+        put_number(out, place, NUMBER, k as u64);
         next += 1;
     }
 }

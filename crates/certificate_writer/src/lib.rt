@@ -1,4 +1,7 @@
 // The writer: puts the certificate of a formula and of filled slots into lent bytes.
+use certificate::CONTENTS;
+use certificate::NUMBER;
+use certificate::POINT;
 use certificate_output::put_bytes;
 use certificate_output::put_contents;
 use certificate_output::put_numbers;
@@ -9,11 +12,12 @@ use formula::Checked;
 use formula::Formula;
 use formula::refusals::problem_refusal;
 use formula::room::room;
+use points::Depth;
 ghost use mathlib.Core.Path.{_≡_};
 ghost use Prim.Native.Nat.{_≤_};
 ghost use Rattle.math.specs.Lists.{over};
 ghost use Rattle.points.specs.Points.{numbered};
-ghost use Rattle.point_slices.specs.Slices.{pointsOf, clausesOf};
+ghost use Rattle.point_slices.specs.Slices.{pointsOf, clausesOf, clauseSlices, slotSlices};
 ghost use Rattle.formula.specs.Limits.{maxVariables, maxPermutations, maxSlots};
 ghost use Rattle.formula.specs.Refusals.{faultOf};
 ghost use Rattle.formula.specs.Reply.{no-fault};
@@ -42,14 +46,14 @@ fn slots_refusal(
 ) -> Checked
     requires { ⌜ (faultOf found ≡ no-fault → Counted maxSlots n lent (pointsOf (now points))) ⌝ }
     ensures { λ r. ⌜ faultOf r ≡ slotsFault (faultOf found) lent n
-        (numbered (clausesOf (now (positive .entry)) (now (negative .entry)))) filled (pointsOf (now (points .entry)))
-        (now (falsified .entry)) ⌝ }
+        (numbered (clausesOf (clauseSlices (now (positive .entry)) (now (negative .entry))))) filled
+        (pointsOf (now (points .entry))) (now (falsified .entry)) ⌝ }
 {
     let Checked::Passed = found else {
         return found;
     };
     let many = filled as usize;
-    let sixteen = local_refusal(points, n, many, lent);
+    let sixteen = local_refusal(n, points, many, lent);
     let Checked::Passed = sixteen else {
         return sixteen;
     };
@@ -63,7 +67,7 @@ fn length_needed(n: u32, permutations: u32, filled: u32) -> usize
 {
     let area = permutations as usize * n as usize;
     let many = filled as usize;
-    32 + area + many * 8 + many * 4
+    CONTENTS + area + many * POINT + many * NUMBER
 }
 
 // C3: stores a certificate at the front of `out`: its contents, the permutations, the points and the clause numbers.
@@ -78,16 +82,16 @@ fn put_certificate(
     falsified: &[u32],
     filled: u32,
 )
-    requires { ⌜ Storable n permutations (now images) (now points) (now falsified) filled (now out) ⌝ }
-    ensures { λ _. ⌜ now (out .exit) ≡ over (parts n m permutations (now (images .entry)) (now (points .entry))
-        (now (falsified .entry)) filled) (now (out .entry)) ⌝ }
+    requires { ⌜ Storable n permutations (now images) (pointsOf (now points)) (now falsified) filled (now out) ⌝ }
+    ensures { λ _. ⌜ now (out .exit) ≡ over (parts n m permutations (now (images .entry))
+        (pointsOf (now (points .entry))) (now (falsified .entry)) filled) (now (out .entry)) ⌝ }
 {
     let area = permutations as usize * n as usize;
     let many = filled as usize;
-    let points_at = 32 + area;
-    let numbers_at = points_at + many * 8;
+    let points_at = CONTENTS + area;
+    let numbers_at = points_at + many * POINT;
     put_contents(out, n, m, permutations, filled, points_at, numbers_at);
-    put_bytes(out, 32, images, area);
+    put_bytes(out, CONTENTS, images, area);
     put_points(out, points_at, points, many);
     put_numbers(out, numbers_at, falsified, many);
 }
@@ -101,12 +105,13 @@ pub fn write(
     negative: &[u64],
     points: &[u64],
     falsified: &[u32],
-    depths: &[u32],
+    depths: &[Depth],
     filled: u32,
     out: &mut [u8],
 ) -> Written
-    ensures { λ r. ⌜ Wrote f (now (positive .entry)) (now (negative .entry)) (now (points .entry))
-        (now (falsified .entry)) (now (depths .entry)) filled (now (out .entry)) r (now (out .exit)) ⌝ }
+    ensures { λ r. ⌜ Wrote f (clauseSlices (now (positive .entry)) (now (negative .entry)))
+        (slotSlices (now (points .entry)) (now (falsified .entry)) (now (depths .entry))) filled (now (out .entry)) r
+        (now (out .exit)) ⌝ }
 {
     let found = problem_refusal(f, positive, negative);
     let lent = room(points, falsified, depths);

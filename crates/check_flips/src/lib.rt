@@ -1,6 +1,8 @@
 // Refusal 18: whether each flip of a point by a variable of its clause is covered by the points, modulo the listed
 // permutations.
 use formula::Checked;
+use formula::Formula;
+use permutation_coverage::Lookup;
 use permutation_coverage::flip_covered;
 use permutation_coverage::move_images;
 use point_slices::clause_at;
@@ -13,7 +15,7 @@ ghost use Prim.Native.Nat.{_<_, _^_};
 ghost use lib.ListN.{getD, take};
 ghost use Rattle.math.specs.Lists.{firstFailing, below};
 ghost use Rattle.points.specs.Points.{numbered};
-ghost use Rattle.point_slices.specs.Slices.{pointsOf, clausesOf};
+ghost use Rattle.point_slices.specs.Slices.{pointsOf, clausesOf, clauseSlices};
 ghost use Rattle.permutation_theory.specs.Permutations.{covered, permutationsIn};
 ghost use Rattle.permutation_coverage.specs.Laws.Coverage.{Imaged, Coverable};
 ghost use Rattle.formula.specs.Refusals.{faultOf};
@@ -23,16 +25,16 @@ ghost use Rattle.check_flips.specs.Laws.Loops.{listedBy, allFlips, Testa
 
 // The set of the variables that the clause with the number k lists; the empty set where no clause has it.
 fn variables_of(positive: &[u64], negative: &[u64], k: u32) -> Point
-    ensures { λ r. ⌜ r ≡ listedBy (clauseNumbered (numbered (clausesOf (now (positive .entry)) (now (negative .entry))))
-        k) ⌝ }
+    ensures { λ r. ⌜ r ≡ listedBy (clauseNumbered (numbered
+        (clausesOf (clauseSlices (now (positive .entry)) (now (negative .entry))))) k) ⌝ }
 {
     if k < 1 {
-        return 0;
+        return points::EMPTY;
     }
     let place = k as usize - 1;
     let end = clause_count(positive, negative);
     if end <= place {
-        return 0;
+        return points::EMPTY;
     }
     let c = clause_at(positive, negative, place);
     points::listed(c)
@@ -42,37 +44,25 @@ fn variables_of(positive: &[u64], negative: &[u64], k: u32) -> Point
 // `moved` holds the images of x. At most n times permutations + 1 look-ups, each of at most n + 1 comparisons.
 // `flips_pass` sees to what it requires.
 fn flips_covered(
-    links: &[u32],
-    heads: usize,
-    points: &[u64],
-    count: usize,
+    g: Lookup,
     images: &[u8],
-    n: u32,
-    permutations: u32,
+    points: &[u64],
+    links: &[u32],
     moved: &[u64],
+    count: usize,
     x: Point,
     listed: Point,
 ) -> bool
-    requires { ⌜ Coverable heads n count (pointsOf (now points)) (now links) permutations (now images)
-        (pointsOf (now moved)) x × (listed < 2 ^ n) ⌝ }
-    ensures { λ r. ⌜ r ≡ allFlips (covered (permutationsIn n permutations (now (images .entry)))
-        (take count (pointsOf (now (points .entry))))) n x listed ⌝ }
+    requires { ⌜ Coverable (g .heads) (g .variables) count (pointsOf (now points)) (now links) (g .permutations)
+        (now images) (pointsOf (now moved)) x × (listed < 2 ^ g .variables) ⌝ }
+    ensures { λ r. ⌜ r ≡ allFlips (covered (permutationsIn (g .variables) (g .permutations) (now (images .entry)))
+        (take count (pointsOf (now (points .entry))))) (g .variables) x listed ⌝ }
 {
+    let n = g.variables;
     let mut left = listed;
     let mut v = points::next_variable(left);
     while v < n {
-        let known = flip_covered(
-            links,
-            heads,
-            points,
-            n,
-            count,
-            images,
-            permutations,
-            moved,
-            x,
-            v,
-        );
+        let known = flip_covered(g, images, points, links, moved, count, x, v);
         if !known {
             return false;
         }
@@ -85,83 +75,67 @@ fn flips_covered(
 // Whether the flips of the point at index i, by the clause that the number there names, are covered; `moved` has the
 // images of the point.
 fn flips_pass(
+    g: Lookup,
+    images: &[u8],
     positive: &[u64],
     negative: &[u64],
     points: &[u64],
     falsified: &[u32],
-    count: usize,
     links: &[u32],
-    heads: usize,
-    images: &[u8],
-    n: u32,
-    permutations: u32,
     moved: &[u64],
+    count: usize,
     i: usize,
 ) -> bool
-    requires { ⌜ Testable n permutations (now images) (now positive) (now negative) count (now points) heads (now links)
-        × (i < count)
-        × Imaged n permutations (now images) (getD (pointsOf (now points)) i 0) (pointsOf (now moved)) ⌝ }
-    ensures { λ r. ⌜ r ≡ flipsPass n (numbered (clausesOf (now (positive .entry)) (now (negative .entry))))
-        (permutationsIn n permutations (now (images .entry)))
+    requires { ⌜ Testable g (now images) (clauseSlices (now positive) (now negative)) (pointsOf (now points))
+        (now links) count × (i < count) × Imaged (g .variables) (g .permutations) (now images)
+        (getD (pointsOf (now points)) i 0) (pointsOf (now moved)) ⌝ }
+    ensures { λ r. ⌜ r ≡ flipsPass (g .variables) (numbered
+        (clausesOf (clauseSlices (now (positive .entry)) (now (negative .entry)))))
+        (permutationsIn (g .variables) (g .permutations) (now (images .entry)))
         (take count (pointsOf (now (points .entry)))) (now (falsified .entry)) i ⌝ }
 {
     let k = number_at(falsified, i);
     let x = point_at(points, i);
     let listed = variables_of(positive, negative, k);
-    flips_covered(
-        links,
-        heads,
-        points,
-        count,
-        images,
-        n,
-        permutations,
-        moved,
-        x,
-        listed,
-    )
+    flips_covered(g, images, points, links, moved, count, x, listed)
 }
 
 // The number, from 1, of the first of `count` points with a flip that is not covered; 0 if there is none. From point to
 // point the images are turned, one step for each permutation and each variable in which the points differ.
 fn first_uncovered(
+    g: Lookup,
+    images: &[u8],
     positive: &[u64],
     negative: &[u64],
     points: &[u64],
     falsified: &[u32],
-    count: usize,
     links: &[u32],
-    heads: usize,
-    images: &[u8],
-    n: u32,
-    permutations: u32,
+    count: usize,
 ) -> usize
-    requires { ⌜ Testable n permutations (now images) (now positive) (now negative) count (now points) heads (now links)
-        ⌝ }
-    ensures { λ r. ⌜ r ≡ firstFailing (flipsPass n (numbered
-        (clausesOf (now (positive .entry)) (now (negative .entry))))
-        (permutationsIn n permutations (now (images .entry)))
+    requires { ⌜ Testable g (now images) (clauseSlices (now positive) (now negative)) (pointsOf (now points))
+        (now links) count ⌝ }
+    ensures { λ r. ⌜ r ≡ firstFailing (flipsPass (g .variables) (numbered
+        (clausesOf (clauseSlices (now (positive .entry)) (now (negative .entry)))))
+        (permutationsIn (g .variables) (g .permutations) (now (images .entry)))
         (take count (pointsOf (now (points .entry)))) (now (falsified .entry))) (below count) ⌝ }
 {
-    let mut moved = [0u64; 16];
-    let mut seen: Point = 0;
+    let mut moved = [0u64; Formula::MAX_PERMUTATIONS as usize];
+    let mut seen = points::EMPTY;
     let mut i = 0;
     while i < count {
         let x = point_at(points, i);
-        move_images(&mut moved, images, n, permutations, seen, x);
+        move_images(images, g.variables, g.permutations, &mut moved, seen, x);
         seen = x;
         let fine = flips_pass(
+            g,
+            images,
             positive,
             negative,
             points,
             falsified,
-            count,
             links,
-            heads,
-            images,
-            n,
-            permutations,
             &moved,
+            count,
             i,
         );
         if !fine {
@@ -176,34 +150,31 @@ fn first_uncovered(
 // most n · (permutations + 1) look-ups, each of at most n + 1 comparisons. Refusals 10, 11 and 16 see to what it
 // requires.
 pub fn flips_refusal(
+    g: Lookup,
+    images: &[u8],
     positive: &[u64],
     negative: &[u64],
     points: &[u64],
     falsified: &[u32],
-    count: usize,
     links: &[u32],
-    heads: usize,
-    images: &[u8],
-    n: u32,
-    permutations: u32,
+    count: usize,
 ) -> Checked
-    requires { ⌜ Testable n permutations (now images) (now positive) (now negative) count (now points) heads (now links)
-        ⌝ }
-    ensures { λ r. ⌜ faultOf r ≡ flipsFault n (numbered (clausesOf (now (positive .entry)) (now (negative .entry))))
-        (permutationsIn n permutations (now (images .entry)))
+    requires { ⌜ Testable g (now images) (clauseSlices (now positive) (now negative)) (pointsOf (now points))
+        (now links) count ⌝ }
+    ensures { λ r. ⌜ faultOf r ≡ flipsFault (g .variables) (numbered (clausesOf (clauseSlices (now (positive .entry))
+        (now (negative .entry)))))
+        (permutationsIn (g .variables) (g .permutations) (now (images .entry)))
         (take count (pointsOf (now (points .entry)))) (now (falsified .entry)) ⌝ }
 {
     let k = first_uncovered(
+        g,
+        images,
         positive,
         negative,
         points,
         falsified,
-        count,
         links,
-        heads,
-        images,
-        n,
-        permutations,
+        count,
     );
     if k == 0 {
         Checked::Passed

@@ -5,6 +5,7 @@ use mathlib.Core.Path.{_≡_}
 use Prim.Native.Nat.{ℕ}
 use lib.Dec.{eqb}
 use lib.ListN.{length}
+use Rattle.point_slices.specs.Slices.{ClauseSlices}
 use Rattle.points.specs.Points.{variables}
 use Rattle.formula.specs.declared.Formula.{Formula}
 use Rattle.formula.specs.Limits.{maxSlots}
@@ -28,11 +29,11 @@ sizesFault n m file = cond (sameSizes n m file) no-fault (fault 15 0)
 
 -- N6: "Checker: 10 (no wish), 14, 15, 11, 12, 16, 17, 18; 14 measures the bodies by the n in the contents."
 -- K2: "It uses the certificate's exchanges, not the sheet's."
-unfoldable pub checkFault : Formula → List ℕ → List ℕ → List ℕ → Fault
+unfoldable pub checkFault : Formula → ClauseSlices → List ℕ → Fault
 unfolding problemOf clausesFault fileFault sizesFault filePermutations filePoints fileNumbers permutationFault
     symmetryFault pointsFault numbersFault flipsFault first
-checkFault f positive negative file =
-    let pb = problemOf f positive negative in
+checkFault f clauses file =
+    let pb = problemOf f clauses in
     let n = pb .variables in
     let permutations = filePermutations file in
     let points = filePoints file in
@@ -44,19 +45,19 @@ checkFault f positive negative file =
     let row16 = pointsFault maxSlots n (length points) points in
     let row17 = numbersFault (pb .clauses) (length points) points falsified in
     let row18 = flipsFault n (pb .clauses) permutations points falsified in
-    first (clausesFault f positive negative ∷ row14 ∷ row15 ∷ row11 ∷ row12 ∷ row16 ∷ row17 ∷ row18 ∷ [])
+    first (clausesFault f clauses ∷ row14 ∷ row15 ∷ row11 ∷ row12 ∷ row16 ∷ row17 ∷ row18 ∷ [])
 
 -- K1: "It accepts a certificate for a sheet's rules exactly if all of these hold": accepted where no row finds a fault
-unfoldable pub checkReply : Formula → List ℕ → List ℕ → List ℕ → Reply
+unfoldable pub checkReply : Formula → ClauseSlices → List ℕ → Reply
 unfolding checkFault unless
-checkReply f positive negative file = unless (checkFault f positive negative file) accepted
+checkReply f clauses file = unless (checkFault f clauses file) accepted
 
 -- K1: "It accepts a certificate for a sheet's rules exactly if all of these hold: counts and lengths fit, its exchanges
 -- are permutations .."
-pub record Accepts (f : Formula) (positive negative file : List ℕ) : Type 0 where
-  pub clausesPass : clausesFault f positive negative ≡ no-fault
+pub record Accepts (f : Formula) (clauses : ClauseSlices) (file : List ℕ) : Type 0 where
+  pub clausesPass : clausesFault f clauses ≡ no-fault
   pub inOrder : WellFormed file
-  pub sameVariables : contentsOf file .variables ≡ problemOf f positive negative .variables
-  pub sameTotal : contentsOf file .clauses ≡ problemOf f positive negative .total
-  pub stable : Stable (problemOf f positive negative .variables) (problemOf f positive negative .clauses)
+  pub sameVariables : contentsOf file .variables ≡ problemOf f clauses .variables
+  pub sameTotal : contentsOf file .clauses ≡ problemOf f clauses .total
+  pub stable : Stable (problemOf f clauses .variables) (problemOf f clauses .clauses)
       (filePermutations file) (filePoints file) (fileNumbers file)

@@ -2,6 +2,7 @@
 use mathlib.Core.List.{List}
 use mathlib.Core.Path.{_≡_}
 use Prim.Native.Nat.{ℕ}
+use Rattle.point_slices.specs.Slices.{ClauseSlices}
 use Rattle.formula.specs.declared.Formula.{Formula}
 use Rattle.formula.specs.Reply.{Reply, refused, accepted}
 use Rattle.checker.specs.Checker.{checkReply}
@@ -14,5 +15,5 @@ replyOfVerdict Accepted = accepted
 replyOfVerdict (Refused code place) = refused code place
 
 -- G.a: what the checker promises
-pub record CheckedAs (f : Formula) (positive negative file : List ℕ) (r : Verdict) : Type 0 where
-  pub reply : replyOfVerdict r ≡ checkReply f positive negative file
+pub record CheckedAs (f : Formula) (clauses : ClauseSlices) (file : List ℕ) (r : Verdict) : Type 0 where
+  pub reply : replyOfVerdict r ≡ checkReply f clauses file

@@ -9,7 +9,7 @@ use formula::refusals::permutations_refusal;
 use formula::refusals::symmetry_refusal;
 ghost use mathlib.Core.Path.{_≡_};
 ghost use Rattle.points.specs.Points.{numbered};
-ghost use Rattle.point_slices.specs.Slices.{clausesOf};
+ghost use Rattle.point_slices.specs.Slices.{clausesOf, clauseSlices};
 ghost use Rattle.formula.specs.Refusals.{Fits, faultOf};
 ghost use Rattle.formula.specs.Reply.{accepted, unless};
 ghost use Rattle.certificate.specs.Certificate.{filePermutations, filePoints, fileNumbers};
@@ -35,9 +35,9 @@ fn as_verdict(checked: Checked) -> Verdict
 // C8, F4: refusals 11, 12, 16, 17 and 18, each body handed on as its own part of the file. K2: the permutations are the
 // file's. `file_refusal` sees to what it requires.
 fn bodies_refusal(c: Contents, positive: &[u64], negative: &[u64], file: &[u8]) -> Checked
-    requires { ⌜ Readable c (now positive) (now negative) (now file) ⌝ }
+    requires { ⌜ Readable c (clauseSlices (now positive) (now negative)) (now file) ⌝ }
     ensures { λ r. ⌜ faultOf r ≡ bodiesFault (c .variables)
-        (numbered (clausesOf (now (positive .entry)) (now (negative .entry))))
+        (numbered (clausesOf (clauseSlices (now (positive .entry)) (now (negative .entry)))))
         (filePermutations (now (file .entry))) (filePoints (now (file .entry))) (fileNumbers (now (file .entry))) ⌝ }
 {
     let n = c.variables;
@@ -61,22 +61,22 @@ fn bodies_refusal(c: Contents, positive: &[u64], negative: &[u64], file: &[u8]) 
     let points = &file[second..third];
     let falsified = &file[third..file.len()];
     decoded_refusal(
+        n,
+        permutations,
+        images,
         positive,
         negative,
         points,
         falsified,
         count,
-        images,
-        n,
-        permutations,
     )
 }
 
 // R15: refusals 14 and 15, then those of the bodies. Refusal 10 sees to what it requires.
 fn file_refusal(n: u32, clauses: u32, positive: &[u64], negative: &[u64], file: &[u8]) -> Checked
-    requires { ⌜ Fits n clauses (now positive) (now negative) ⌝ }
-    ensures { λ r. ⌜ faultOf r ≡ fileRows n clauses (now (positive .entry)) (now (negative .entry)) (now (file .entry))
-        ⌝ }
+    requires { ⌜ Fits n clauses (clauseSlices (now positive) (now negative)) ⌝ }
+    ensures { λ r. ⌜ faultOf r ≡ fileRows n clauses (clauseSlices (now (positive .entry)) (now (negative .entry)))
+        (now (file .entry)) ⌝ }
 {
     let opened = certificate::read(file);
     match opened {
@@ -95,7 +95,8 @@ fn file_refusal(n: u32, clauses: u32, positive: &[u64], negative: &[u64], file: 
 
 // D2.3, K1, N6: checks a file for the clauses of a formula, whose target and permutations it does not look at.
 pub fn check(f: Formula, positive: &[u64], negative: &[u64], file: &[u8]) -> Verdict
-    ensures { λ r. ⌜ CheckedAs f (now (positive .entry)) (now (negative .entry)) (now (file .entry)) r ⌝ }
+    ensures { λ r. ⌜ CheckedAs f (clauseSlices (now (positive .entry)) (now (negative .entry))) (now (file .entry))
+        r ⌝ }
 {
     let ten = clauses_refusal(f, positive, negative);
     let Checked::Passed = ten else {

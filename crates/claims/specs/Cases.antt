@@ -1,18 +1,21 @@
 -- Document 01, 'Sheets to try': the cases marked *, one list under one proposition (G.d: "Cases marked * are theorems,
 -- gathered as a list under one proposition"). Points are written as numbers: name 1 is bit 0. Assumes nothing.
-use mathlib.Core.List.{List, [], _∷_, map}
+use mathlib.Core.List.{List, [], _∷_}
 use mathlib.Core.Option.{Option, some, none}
 use mathlib.Core.Path.{_≡_}
-use Prim.Native.Nat.{ℕ}
+use Prim.Native.Nat.{ℕ, _-_}
 use lib.ListN.{length, replicate}
+use Rattle.point_slices.specs.Slices.{ClauseSlices, wholeClauses, wholeSlots}
 use Rattle.formula.specs.declared.Formula.{Formula}
+use Rattle.formula.specs.Limits.{maxImages, maxSlots}
 use Rattle.formula.specs.Problem.{problemOf}
 use Rattle.formula.specs.Reply.{Reply, parsed, satisfiable, unsatisfiable, unknown}
+use Rattle.search_theory.specs.Slots.{filledWith}
 use Rattle.search_theory.specs.Walk.{Slot, slot}
 use Rattle.search.specs.Search.{searchReply, searchSlots}
 use Rattle.certificate.specs.Certificate.{contentsOf}
 use Rattle.certificate.specs.Writer.{certificateOf}
-use Rattle.dimacs_format.specs.Reader.{readReply, readFormula, readPositive, readNegative}
+use Rattle.dimacs_format.specs.Reader.{readReply, readFormula, readClauses}
 
 -- ---- what a case is
 
@@ -27,8 +30,7 @@ pub record Sizes : Type 0 where
 -- certificate's sizes
 pub record Case : Type 0 where
   pub formula : Formula
-  pub positive : List ℕ
-  pub negative : List ℕ
+  pub clauses : ClauseSlices
   pub lent : ℕ
   pub reply : Reply
   pub slots : Option (List Slot)
@@ -37,9 +39,8 @@ pub record Case : Type 0 where
 -- the certificate of a case: what the writer puts out from the slots that the search leaves
 abbrev pub certificateIn : Case → List ℕ
 certificateIn c =
-    let l = searchSlots (c .formula) (c .positive) (c .negative) (c .lent) in
-    certificateOf (problemOf (c .formula) (c .positive) (c .negative)) (map (λ (s : Slot). s .point) l)
-    (map (λ (s : Slot). s .falsified) l) (length l)
+    let l = searchSlots (c .formula) (c .clauses) (c .lent) in
+    certificateOf (problemOf (c .formula) (c .clauses)) (filledWith l (wholeSlots [] [] [])) (length l)
 
 -- a thing is what document 01 gives, if it gives it
 abbrev pub Given : {A : Type 0} → Option A → A → Type 0
@@ -48,8 +49,8 @@ Given (some y) x = x ≡ y
 
 -- the definitions say of the case what document 01 says
 pub record Holds (c : Case) : Type 0 where
-  pub answered : searchReply (c .formula) (c .positive) (c .negative) (c .lent) ≡ c .reply
-  pub filled : Given (c .slots) (searchSlots (c .formula) (c .positive) (c .negative) (c .lent))
+  pub answered : searchReply (c .formula) (c .clauses) (c .lent) ≡ c .reply
+  pub filled : Given (c .slots) (searchSlots (c .formula) (c .clauses) (c .lent))
   pub certified : Given (c .certificate)
       (record {
         size = length (certificateIn c);
@@ -67,23 +68,19 @@ AllHold (c ∷ cs) = Holds c × AllHold cs
 
 -- a formula of n variables and m clauses with the target 0 and no permutation
 abbrev plain : ℕ → ℕ → Formula
-plain n m = record { variables = n; clauses = m; target = 0; permutations = 0; images = replicate 1024 0 }
+plain n m = record { variables = n; clauses = m; target = 0; permutations = 0; images = replicate maxImages 0 }
 
 -- "A: n 2, rules (1 2) (−1 2) (1 −2) (−1 −2), wish 00": clauses of A
-abbrev pub positiveA : List ℕ
-positiveA = 3 ∷ 2 ∷ 1 ∷ 0 ∷ []
-
-abbrev pub negativeA : List ℕ
-negativeA = 0 ∷ 1 ∷ 2 ∷ 3 ∷ []
+abbrev pub clausesA : ClauseSlices
+clausesA = wholeClauses (3 ∷ 2 ∷ 1 ∷ 0 ∷ []) (0 ∷ 1 ∷ 2 ∷ 3 ∷ [])
 
 -- V1: "cannot be met; 00 10 01 11, rules 1 2 3 4, depths 0 1 1 2"
 abbrev pub caseA : Case
 caseA =
     record {
       formula = plain 2 4;
-      positive = positiveA;
-      negative = negativeA;
-      lent = 65536;
+      clauses = clausesA;
+      lent = maxSlots;
       reply = unsatisfiable 4;
       slots = some (slot 0 1 0 ∷ slot 1 2 1 ∷ slot 2 3 1 ∷ slot 3 4 2 ∷ []);
       certificate = none;
@@ -93,10 +90,16 @@ caseA =
 abbrev pub caseA-swap : Case
 caseA-swap =
     record {
-      formula = record { variables = 2; clauses = 4; target = 0; permutations = 1; images = 2 ∷ 1 ∷ replicate 1022 0 };
-      positive = positiveA;
-      negative = negativeA;
-      lent = 65536;
+      formula = record {
+        variables = 2;
+        clauses = 4;
+        target = 0;
+        permutations = 1;
+        images = 2 ∷ 1 ∷ replicate
+            (maxImages - 2) 0;
+      };
+      clauses = clausesA;
+      lent = maxSlots;
       reply = unsatisfiable 3;
       slots = some (slot 0 1 0 ∷ slot 1 2 1 ∷ slot 3 4 2 ∷ []);
       certificate = some (record { size = 70; permutationsAt = 32; pointsAt = 34; numbersAt = 58 });
@@ -106,8 +109,7 @@ caseA-swap =
 abbrev pub caseA-3 : Case
 caseA-3 = record {
   formula = plain 2 4;
-  positive = positiveA;
-  negative = negativeA;
+  clauses = clausesA;
   lent = 3;
   reply = unknown 1 3;
   slots = none;
@@ -118,8 +120,7 @@ caseA-3 = record {
 abbrev pub caseA-4 : Case
 caseA-4 = record {
   formula = plain 2 4;
-  positive = positiveA;
-  negative = negativeA;
+  clauses = clausesA;
   lent = 4;
   reply = unsatisfiable 4;
   slots = none;
@@ -130,9 +131,8 @@ caseA-4 = record {
 abbrev pub caseB : Case
 caseB = record {
   formula = plain 3 2;
-  positive = 3 ∷ 4 ∷ [];
-  negative = 0 ∷ 1 ∷ [];
-  lent = 65536;
+  clauses = wholeClauses (3 ∷ 4 ∷ []) (0 ∷ 1 ∷ []);
+  lent = maxSlots;
   reply = satisfiable 2 1 4;
   slots = none;
   certificate = none;
@@ -142,8 +142,7 @@ caseB = record {
 abbrev pub caseB-3 : Case
 caseB-3 = record {
   formula = plain 3 2;
-  positive = 3 ∷ 4 ∷ [];
-  negative = 0 ∷ 1 ∷ [];
+  clauses = wholeClauses (3 ∷ 4 ∷ []) (0 ∷ 1 ∷ []);
   lent = 3;
   reply = unknown 1 3;
   slots = none;
@@ -154,9 +153,8 @@ caseB-3 = record {
 abbrev pub case-none : Case
 case-none =
     record {
-      formula = record { variables = 3; clauses = 0; target = 5; permutations = 0; images = replicate 1024 0 };
-      positive = [];
-      negative = [];
+      formula = record { variables = 3; clauses = 0; target = 5; permutations = 0; images = replicate maxImages 0 };
+      clauses = wholeClauses [] [];
       lent = 1;
       reply = satisfiable 5 0 1;
       slots = none;
@@ -167,9 +165,8 @@ case-none =
 abbrev pub case-empty : Case
 case-empty = record {
   formula = plain 1 1;
-  positive = 0 ∷ [];
-  negative = 0 ∷ [];
-  lent = 65536;
+  clauses = wholeClauses (0 ∷ []) (0 ∷ []);
+  lent = maxSlots;
   reply = unsatisfiable 1;
   slots = none;
   certificate = none;
@@ -179,8 +176,7 @@ case-empty = record {
 abbrev pub case-both : Case
 case-both = record {
   formula = plain 1 1;
-  positive = 1 ∷ [];
-  negative = 1 ∷ [];
+  clauses = wholeClauses (1 ∷ []) (1 ∷ []);
   lent = 1;
   reply = satisfiable 0 0 1;
   slots = none;
@@ -192,10 +188,13 @@ cases = caseA ∷ caseA-swap ∷ caseA-3 ∷ caseA-4 ∷ caseB ∷ caseB-3 ∷ c
 
 -- ---- a text that says a case
 
+-- slices for two clauses
+abbrev pub twoPlaces : ClauseSlices
+twoPlaces = wholeClauses (0 ∷ 0 ∷ []) (0 ∷ 0 ∷ [])
+
 -- P2: "For `p cnf 3 2`, `c wish 000`, `1 2 0`, `-1 3 0` on four lines": the reader yields the formula and the clauses
 -- of B
 pub record Yields (text : List ℕ) (c : Case) : Type 0 where
-  pub answer : readReply text (0 ∷ 0 ∷ []) (0 ∷ 0 ∷ []) ≡ parsed
-  pub formula : readFormula text (0 ∷ 0 ∷ []) (0 ∷ 0 ∷ []) ≡ c .formula
-  pub positive : readPositive text (0 ∷ 0 ∷ []) (0 ∷ 0 ∷ []) ≡ c .positive
-  pub negative : readNegative text (0 ∷ 0 ∷ []) (0 ∷ 0 ∷ []) ≡ c .negative
+  pub answer : readReply text twoPlaces ≡ parsed
+  pub formula : readFormula text twoPlaces ≡ c .formula
+  pub clauses : readClauses text twoPlaces ≡ c .clauses

@@ -1,5 +1,6 @@
 // The reader: for any bytes a formula and its clauses, or a numbered refusal with its place. It tests the size of the
 // text, its problem line, its limits and the room, then reads the lines.
+use dimacs_format::Sizes;
 use dimacs_lines::Parsed;
 use dimacs_lines::read_clauses;
 use dimacs_lines::refused;
@@ -10,10 +11,11 @@ use dimacs_words::begins;
 use dimacs_words::read_number;
 use dimacs_words::run_end;
 use formula::Formula;
-use point_slices::point_count;
+use point_slices::clause_count;
 ghost use mathlib.Core.Path.{_≡_};
 ghost use Prim.Native.Nat.{_≤_, _-_};
 ghost use lib.ListN.{length, take, drop};
+ghost use Rattle.point_slices.specs.Slices.{clauseSlices, clauseRoom};
 ghost use Rattle.dimacs_format.specs.Reader.{problemIn, isSkipped, withSizes};
 ghost use Rattle.dimacs_format.specs.Text.{piece, sameBytes, maxText};
 ghost use Rattle.dimacs.specs.Laws.ProblemScans.{sizingOf, WordMatched, NumberMatched, ProblemFound};
@@ -35,7 +37,7 @@ pub enum Sized {
 
 // What a problem line says: n and C, or it is malformed.
 pub enum Sizing {
-    Sizes { variables: u32, total: u32 },
+    Read(Sizes),
     Malformed,
 }
 
@@ -122,7 +124,7 @@ pub fn read_problem(line: &[u8]) -> Sizing
     if end < line.len() {
         return Sizing::Malformed;
     }
-    Sizing::Sizes { variables, total }
+    Sizing::Read(Sizes { variables, total })
 }
 
 // Whether a line before the problem line is a comment or all blanks. A byte is visited at most twice.
@@ -165,42 +167,41 @@ fn read_sized(
     text: &[u8],
     start: usize,
     stop: usize,
-    variables: u32,
-    total: u32,
+    sizes: Sizes,
     positive: &mut [u64],
     negative: &mut [u64],
 ) -> Parsed
     requires { ⌜ (length (now text) ≤ maxText) × (stop ≤ length (now text)) ⌝ }
-    ensures { λ r. ⌜ ParsedAs (withSizes (length (now (text .entry))) (length (now (positive .entry)))
-        (length (now (negative .entry))) (piece start (take (stop - start) (drop start (now (text .entry)))))
-        (linesBehind (now (text .entry)) stop) (record { variables = variables; total = total }))
-        (now (positive .entry)) (now (negative .entry)) r (now (positive .exit)) (now (negative .exit)) ⌝ }
+    ensures { λ r. ⌜ ParsedAs (withSizes (length (now (text .entry)))
+        (clauseRoom (clauseSlices (now (positive .entry)) (now (negative .entry))))
+        (piece start (take (stop - start) (drop start (now (text .entry)))))
+        (linesBehind (now (text .entry)) stop) sizes)
+        (clauseSlices (now (positive .entry)) (now (negative .entry))) r
+        (clauseSlices (now (positive .exit)) (now (negative .exit))) ⌝ }
 {
-    if variables < 1 {
+    if sizes.variables < 1 {
         return refused(3, start);
     }
-    if Formula::MAX_VARIABLES < variables {
+    if Formula::MAX_VARIABLES < sizes.variables {
         return refused(3, start);
     }
-    if Formula::MAX_CLAUSES < total {
+    if Formula::MAX_CLAUSES < sizes.total {
         return refused(3, start);
     }
-    let count = total as usize;
-    if point_count(positive) < count {
+    let total = sizes.total as usize;
+    let room = clause_count(positive, negative);
+    if room < total {
         return refused(4, start);
     }
-    if point_count(negative) < count {
-        return refused(4, start);
-    }
-    read_clauses(text, stop, variables, total, positive, negative)
+    read_clauses(text, stop, sizes, positive, negative)
 }
 
 // D2.1: "A sheet is read as DIMACS CNF, as document 01 fixes it." The work is linear in the text: a byte before the
 // problem line is visited at most three times, one of that line at most six times, one behind it at most nineteen times
 // (`read_lines`).
 pub fn read(text: &[u8], positive: &mut [u64], negative: &mut [u64]) -> Parsed
-    ensures { λ r. ⌜ Read (now (text .entry)) (now (positive .entry)) (now (negative .entry)) r (now (positive .exit))
-        (now (negative .exit)) ⌝ }
+    ensures { λ r. ⌜ Read (now (text .entry)) (clauseSlices (now (positive .entry)) (now (negative .entry))) r
+        (clauseSlices (now (positive .exit)) (now (negative .exit))) ⌝ }
 {
     let size = text.len();
     if MAX_TEXT < size {
@@ -211,8 +212,8 @@ pub fn read(text: &[u8], positive: &mut [u64], negative: &mut [u64]) -> Parsed
         return refused(2, size);
     };
     let sizing = read_problem(&text[start..stop]);
-    let Sizing::Sizes { variables, total } = sizing else {
+    let Sizing::Read(sizes) = sizing else {
         return refused(2, start);
     };
-    read_sized(text, start, stop, variables, total, positive, negative)
+    read_sized(text, start, stop, sizes, positive, negative)
 }

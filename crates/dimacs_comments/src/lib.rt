@@ -1,29 +1,31 @@
-// One function for each kind of line with a meaning: the target line, the permutation line and a line of words. They
-// hand on what the lines have said so far.
-use dimacs_clauses::Begun;
-use dimacs_clauses::Taken;
-use dimacs_clauses::clause_line;
+// The two comments with meaning: a function for each, from what its lines have said so far to what they say with one
+// more, and the readers of their contents. They are handed what stands behind the head of the line.
 use dimacs_words::Class;
 use dimacs_words::Cursor;
 use dimacs_words::Word;
 use dimacs_words::is_blank;
 use dimacs_words::read_word;
 use dimacs_words::run_end;
+use formula::Checked;
 use formula::Formula;
 use permutation_images::is_permutation;
 use points::Point;
+use points::with_variable;
 ghost use mathlib.Core.Path.{_≡_};
-ghost use Prim.Native.Nat.{_+_, _≤_};
+ghost use Prim.Native.Nat.{_+_, _≤_, _<_};
 ghost use lib.ListN.{length};
+ghost use Rattle.points.specs.Points.{pointDigits};
+ghost use Rattle.formula.specs.Limits.{maxVariables};
 ghost use Rattle.dimacs_format.specs.Reader.{targetIn};
-ghost use Rattle.dimacs_comments.specs.Laws.CommentScans.{wantedOf, binaryIn, Imaging, Storing, Permuting};
-ghost use Rattle.dimacs_comments.specs.Laws.HandlerScans.{TargetTaken, PermutationTaken, WordsTaken, KeptImages};
-ghost use Rattle.dimacs_clauses.specs.Laws.ClauseScans.{Ready, Inside};
+ghost use Rattle.dimacs_comments.specs.Laws.CommentScans.{wantedOf, noTarget, withDigit, binaryIn, Imaging};
+ghost use Rattle.dimacs_comments.specs.Laws.CommentScans.{Storing};
+ghost use Rattle.dimacs_comments.specs.Laws.CommentScans.{Permuting};
+ghost use Rattle.dimacs_comments.specs.Laws.HandlerScans.{TargetRead, PermutationRead, KeptImages};
 
-// What a target line holds: the target, or something else.
-pub enum Wanted {
-    Target(Point),
-    Malformed,
+// What the target lines have said, or what one holds: a target, if it was found.
+pub struct Wanted {
+    pub found: bool,
+    pub target: Point,
 }
 
 // What stands next in a permutation line: nothing, the number of a variable with the cursor behind it, or something
@@ -34,43 +36,63 @@ pub enum Image {
     Malformed,
 }
 
+// No target.
+pub fn no_target() -> Wanted
+    ensures { λ r. ⌜ r ≡ noTarget ⌝ }
+{
+    Wanted {
+        found: false,
+        target: points::EMPTY,
+    }
+}
+
+// The point with one more digit, that of bit i.
+fn with_digit(x: Point, i: u32, one: bool) -> Point
+    requires { ⌜ i < pointDigits ⌝ }
+    ensures { λ r. ⌜ r ≡ withDigit x i one ⌝ }
+{
+    if one { with_variable(x, i) } else { x }
+}
+
 // S18: "holds n digits 0 or 1 unparted, name 1 first". One step a digit. The caller has seen to n and to the length.
 fn target_digits(bytes: &[u8], n: u32) -> Wanted
-    requires { ⌜ (n ≤ 64) × (n ≤ length (now bytes)) ⌝ }
+    requires { ⌜ (n ≤ maxVariables) × (n ≤ length (now bytes)) ⌝ }
     ensures { λ r. ⌜ wantedOf r ≡ binaryIn n (now (bytes .entry)) ⌝ }
 {
-    let mut x: Point = 0;
+    let mut x = points::EMPTY;
     let mut i: u32 = 0;
     while i < n {
         let at = i as usize;
         let b = bytes[at];
         if b < 48 {
-            return Wanted::Malformed;
+            return no_target();
         }
         if 49 < b {
-            return Wanted::Malformed;
+            return no_target();
         }
-        let low = b - 48;
-        let digit = low as Point;
-        x = points::carry(x, digit, 0, i);
+        let one = b == 49;
+        x = with_digit(x, i, one);
         i += 1;
     }
-    Wanted::Target(x)
+    Wanted {
+        found: true,
+        target: x,
+    }
 }
 
 // S18: "holds n digits 0 or 1 unparted, name 1 first, then only blanks". One step a byte.
 // `dimacs_comments::target_line` is called below refusal 3, which sees to n.
 pub fn read_target(bytes: &[u8], n: u32) -> Wanted
-    requires { ⌜ n ≤ 64 ⌝ }
+    requires { ⌜ n ≤ maxVariables ⌝ }
     ensures { λ r. ⌜ wantedOf r ≡ targetIn n (now (bytes .entry)) ⌝ }
 {
     let size = n as usize;
     if bytes.len() < size {
-        return Wanted::Malformed;
+        return no_target();
     }
     let end = run_end(bytes, size, Class::Blank);
     if end < bytes.len() {
-        return Wanted::Malformed;
+        return no_target();
     }
     target_digits(bytes, n)
 }
@@ -107,7 +129,7 @@ fn next_image(bytes: &[u8], cursor: Cursor, n: u32) -> Image
 // The numbers of a permutation line, into a part of n bytes; whether they are n numbers. A byte of the line is visited
 // at most three times.
 fn store_numbers(bytes: &[u8], n: u32, part: &mut [u8]) -> bool
-    requires { ⌜ (n ≤ 64) × (length (now part) ≡ n) ⌝ }
+    requires { ⌜ (n ≤ maxVariables) × (length (now part) ≡ n) ⌝ }
     ensures { λ r. ⌜ Storing n (now (bytes .entry)) (now (part .exit)) r ⌝ }
 {
     let mut j = 0;
@@ -138,7 +160,7 @@ fn store_numbers(bytes: &[u8], n: u32, part: &mut [u8]) -> bool
 // the n bytes at `at`. `dimacs_comments::permutation_line` sees to the room, by its count of at most 16, and refusal 3
 // to n.
 pub fn read_permutation(bytes: &[u8], n: u32, images: &mut [u8], at: usize) -> bool
-    requires { ⌜ (n ≤ 64) × (at + n ≤ length (now images)) ⌝ }
+    requires { ⌜ (n ≤ maxVariables) × (at + n ≤ length (now images)) ⌝ }
     ensures { λ r. ⌜ Permuting n (now (bytes .entry)) at (now (images .entry)) (now (images .exit)) r ⌝ }
 {
     if bytes.len() < 1 {
@@ -156,110 +178,81 @@ pub fn read_permutation(bytes: &[u8], n: u32, images: &mut [u8], at: usize) -> b
     is_permutation(&images[at..end], n)
 }
 
-// What the lines have said so far, beside the slices of the clauses and the images.
-pub struct State {
-    pub begun: Begun,
-    pub targeted: bool,
-    pub target: Point,
+// What comes of a target line: on with its target, or a refusal.
+pub struct TargetTaken {
+    pub answer: Checked,
+    pub wanted: Wanted,
+}
+
+// R8: "wish line malformed or second | 8 | line's first byte", which stands at `start`. Refusal 3 sees to n.
+pub fn target_line(bytes: &[u8], start: usize, n: u32, wanted: Wanted) -> TargetTaken
+    requires { ⌜ n ≤ maxVariables ⌝ }
+    ensures { λ r. ⌜ TargetRead n start (now (bytes .entry)) wanted r ⌝ }
+{
+    let refusal = Checked::Refused {
+        code: 8,
+        place: start,
+    };
+    let second = wanted.found;
+    if second {
+        return TargetTaken {
+            answer: refusal,
+            wanted,
+        };
+    }
+    let read = read_target(bytes, n);
+    if !read.found {
+        return TargetTaken {
+            answer: refusal,
+            wanted,
+        };
+    }
+    TargetTaken {
+        answer: Checked::Passed,
+        wanted: read,
+    }
+}
+
+// What comes of a permutation line: how many permutations there are with it, or a refusal.
+pub struct PermutationTaken {
+    pub answer: Checked,
     pub permutations: u32,
 }
 
-// What comes of a line: on with what was said, or a refusal.
-pub enum Advanced {
-    On(State),
-    Refused { code: u32, place: usize },
-}
-
-// R8: "wish line malformed or second | 8 | line's first byte". `dimacs_lines::read_line` has found the head; refusal 3
-// sees to n.
-pub fn target_line(line: &[u8], start: usize, n: u32, state: State) -> Advanced
-    requires { ⌜ (n ≤ 64) × (7 ≤ length (now line)) ⌝ }
-    ensures { λ r. ⌜ TargetTaken n start (now (line .entry)) state r ⌝ }
-{
-    if state.targeted {
-        return Advanced::Refused {
-            code: 8,
-            place: start,
-        };
-    }
-    let wanted = read_target(&line[7..], n);
-    let Wanted::Target(target) = wanted else {
-        return Advanced::Refused {
-            code: 8,
-            place: start,
-        };
-    };
-    let begun = state.begun;
-    Advanced::On(State {
-        begun,
-        targeted: true,
-        target,
-        permutations: state.permutations,
-    })
-}
-
-// R9: "exchange line malformed or seventeenth | 9 | line's first byte". `dimacs_lines::read_line` has found the head
-// and hands on the images as the lines so far left it; refusal 3 sees to n.
+// R9: "exchange line malformed or seventeenth | 9 | line's first byte", which stands at `start`.
+// `dimacs_lines::read_comment` hands on the images as the lines so far left them; refusal 3 sees to n.
 pub fn permutation_line(
-    line: &[u8],
+    bytes: &[u8],
     start: usize,
     n: u32,
-    state: State,
+    permutations: u32,
     images: &mut [u8],
-) -> Advanced
-    requires { ⌜ (n ≤ 64) × (7 ≤ length (now line)) × KeptImages n (state .permutations) (now images) ⌝ }
-    ensures { λ r. ⌜ PermutationTaken n start (now (line .entry)) state (now (images .entry)) (now (images .exit)) r ⌝ }
+) -> PermutationTaken
+    requires { ⌜ (n ≤ maxVariables) × KeptImages n permutations (now images) ⌝ }
+    ensures { λ r. ⌜ PermutationRead n start (now (bytes .entry)) permutations (now (images .entry)) r
+        (now (images .exit)) ⌝ }
 {
-    let count = state.permutations;
-    if Formula::MAX_PERMUTATIONS <= count {
-        return Advanced::Refused {
-            code: 9,
-            place: start,
+    let refusal = Checked::Refused {
+        code: 9,
+        place: start,
+    };
+    if Formula::MAX_PERMUTATIONS <= permutations {
+        return PermutationTaken {
+            answer: refusal,
+            permutations,
         };
     }
-    let at = count * n;
-    let fine = read_permutation(&line[7..], n, images, at as usize);
+    let at = permutations * n;
+    let fine = read_permutation(bytes, n, images, at as usize);
     if !fine {
-        return Advanced::Refused {
-            code: 9,
-            place: start,
+        return PermutationTaken {
+            answer: refusal,
+            permutations,
         };
     }
-    let begun = state.begun;
-    let permutations = count + 1;
-    Advanced::On(State {
-        begun,
-        targeted: state.targeted,
-        target: state.target,
-        permutations,
-    })
-}
-
-// A line that is no comment. `dimacs_lines::read_line` hands on the slices as the lines so far left them; refusals 1
-// and 3 see to the rest.
-pub fn word_line(
-    line: &[u8],
-    start: usize,
-    n: u32,
-    total: u32,
-    state: State,
-    positive: &mut [u64],
-    negative: &mut [u64],
-) -> Advanced
-    requires { ⌜ Ready (record { variables = n; total = total }) (state .begun .closed) (now positive) (now negative)
-        × Inside start (now line) ⌝ }
-    ensures { λ r. ⌜ WordsTaken (record { variables = n; total = total }) start (now (line .entry)) state
-        (now (positive .entry)) (now (negative .entry)) (now (positive .exit)) (now (negative .exit)) r ⌝ }
-{
-    let begun = state.begun;
-    let taken = clause_line(line, start, n, total, begun, positive, negative);
-    match taken {
-        Taken::On(more) => Advanced::On(State {
-            begun: more,
-            targeted: state.targeted,
-            target: state.target,
-            permutations: state.permutations,
-        }),
-        Taken::Refused { code, place } => Advanced::Refused { code, place },
+    let more = permutations + 1;
+    PermutationTaken {
+        answer: Checked::Passed,
+        permutations: more,
     }
 }

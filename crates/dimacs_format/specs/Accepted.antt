@@ -14,7 +14,8 @@ use Rattle.points.specs.Points.{Clause}
 use Rattle.permutation_theory.specs.Permutations.{Permutation, IsPermutation}
 use Rattle.formula.specs.Limits.{maxVariables, maxClauses, maxPermutations}
 use Rattle.dimacs_format.specs.Text.{maxText, isBlank, Line, Word, lines, words, wordsOf, spelled, isComment}
-use Rattle.dimacs_format.specs.Text.{problemWord, formatWord, behindHead, isTargetLine, isPermutationLine}
+use Rattle.dimacs_format.specs.Text.{problemWord, formatWord, targetHead, permutationHead, behind, isTargetLine}
+use Rattle.dimacs_format.specs.Text.{isPermutationLine}
 use Rattle.dimacs_format.specs.Text.{numberIn, Literal, variable, Token, tokenIn, literal, close}
 use Rattle.dimacs_format.specs.Input.{Input, clauseOf}
 
@@ -56,7 +57,7 @@ pub record Grouped (n : ℕ) (ws : List Word) (cs : List Clause) : Type 0 where
 pub record TargetLine (n : ℕ) (l : Line) (x : ℕ) : Type 0 where
   pub digits : List ℕ
   pub rest : List ℕ
-  pub whole : behindHead l ≡ digits ++ rest
+  pub whole : behind targetHead l ≡ digits ++ rest
   pub size : length digits ≡ n
   pub binary : (b : ℕ) → b ∈ digits → (b ≡ 48) ⊎ (b ≡ 49)
   pub blank : (b : ℕ) → b ∈ rest → isBlank b ≡ true
@@ -73,9 +74,9 @@ pub data Targeted (n : ℕ) : List Line → ℕ → Type 0 where
 pub record PermutationLine (n : ℕ) (l : Line) (e : Permutation) : Type 0 where
   pub byte : ℕ
   pub rest : List ℕ
-  pub first : behindHead l ≡ byte ∷ rest
+  pub first : behind permutationHead l ≡ byte ∷ rest
   pub unblank : isBlank byte ≡ false
-  pub numbers : map numberIn (spelled (words 0 (behindHead l))) ≡ map some (e .images)
+  pub numbers : map numberIn (spelled (words 0 (behind permutationHead l))) ≡ map some (e .images)
   pub permutation : IsPermutation n e
 
 -- S19: "such lines", in order the permutations
@@ -95,9 +96,9 @@ wordsAmong ls = flatMap wordsOf (select (λ l. not (isComment l)) ls)
 abbrev pub Skipped : Line → Type 0
 Skipped l = (isComment l ≡ true) ⊎ ((b : ℕ) → b ∈ l .bytes → isBlank b ≡ true)
 
--- D2.1: "A sheet is read as DIMACS CNF, as document 01 fixes it.": the text is accepted and says d, with slices of p
--- and q places for its clauses
-pub record Accepts (text : List ℕ) (p q : ℕ) (d : Input) : Type 0 where
+-- D2.1: "A sheet is read as DIMACS CNF, as document 01 fixes it.": the text is accepted and says d, with slices that
+-- have the given room for its clauses
+pub record Accepts (text : List ℕ) (room : ℕ) (d : Input) : Type 0 where
   -- S7: "The text is at most 1,048,576 bytes."
   pub size : length text ≤ maxText
   pub before : List Line
@@ -113,8 +114,7 @@ pub record Accepts (text : List ℕ) (p q : ℕ) (d : Input) : Type 0 where
   pub few-variables : d .variables ≤ maxVariables
   pub few-clauses : length (d .clauses) ≤ maxClauses
   -- R4: "a rule slice shorter than C"
-  pub room-positive : length (d .clauses) ≤ p
-  pub room-negative : length (d .clauses) ≤ q
+  pub enough-room : length (d .clauses) ≤ room
   -- S13: "Afterwards words parted by blanks or line ends are signed decimal numbers"; S15: "Exactly C rules are
   -- closed."
   pub grouped : Grouped (d .variables) (wordsAmong after) (d .clauses)

@@ -1,16 +1,16 @@
 -- What an accepted text says, how its clauses come from their literals, and how all of it lies in a formula by value
--- and two slices. Assumes nothing.
+-- and clause slices. Assumes nothing.
 use mathlib.Core.List.{List, [], _∷_, _++_, map, flatMap}
 use mathlib.Core.Bool.{true}
 use mathlib.Core.Path.{_≡_}
-use Prim.Native.Nat.{ℕ, suc, _-_, _*_, _^_}
+use Prim.Native.Nat.{ℕ, suc, _-_, _^_}
 use lib.Bits.{bitOr}
 use lib.ListN.{length, replicate}
 use Rattle.math.specs.Bits.{bit}
 use Rattle.math.specs.Lists.{_∈_}
 use Rattle.points.specs.Points.{Clause}
 use Rattle.permutation_theory.specs.Permutations.{Permutation}
-use Rattle.formula.specs.Limits.{maxVariables, maxPermutations}
+use Rattle.formula.specs.Limits.{maxImages}
 use Rattle.formula.specs.declared.Formula.{Formula}
 use Rattle.dimacs_format.specs.Text.{Literal, pos, neg}
 
@@ -51,10 +51,6 @@ pub record IsClause (g : List Literal) (c : Clause) : Type 0 where
 
 -- ---- the formula by value
 
--- the places of all images: 1,024
-abbrev pub imagePlaces : ℕ
-imagePlaces = maxVariables * maxPermutations
-
 -- "they stand without gaps, n bytes each, e(1) first"
 unfoldable pub imagesOf : List Permutation → List ℕ
 unfolding flatMap
@@ -73,10 +69,10 @@ formulaOf d =
       clauses = length (d .clauses);
       target = d .target;
       permutations = length (d .permutations);
-      images = padded imagePlaces (imagesOf (d .permutations));
+      images = padded maxImages (imagesOf (d .permutations));
     }
 
--- ---- the two slices
+-- ---- the clause slices
 
 -- the positive and the negative sets of clauses
 abbrev pub positives : List Clause → List ℕ

@@ -1,6 +1,6 @@
 -- Document 01, 'Sheet' and rows 1 to 9 of 'When the desk says no': the reader, as a fold over the lines of the text.
 -- Accepted has the same for texts that are not refused, without a fold. Assumes nothing.
-use mathlib.Core.Bool.{Bool, true, false, not, cond, _&&_, _||_}
+use mathlib.Core.Bool.{Bool, false, not, cond, _&&_, _||_}
 use mathlib.Core.List.{List, [], _∷_, _++_}
 use mathlib.Core.Option.{Option, some, none, Option·getD}
 use Prim.Native.Nat.{ℕ, _+_, _-_, _*_}
@@ -8,15 +8,17 @@ use lib.Dec.{eqb, leb, ltb}
 use lib.ListN.{length, take, drop}
 use Rattle.math.specs.Lists.{over, all}
 use Rattle.points.specs.Points.{Clause}
+use Rattle.point_slices.specs.Slices.{ClauseSlices, clauseRoom}
 use Rattle.permutation_theory.specs.Permutations.{Permutation, isPermutation}
 use Rattle.formula.specs.Limits.{maxVariables, maxClauses, maxPermutations}
 use Rattle.formula.specs.Problem.{emptyFormula}
 use Rattle.formula.specs.Reply.{Reply, parsed, refused}
 use Rattle.formula.specs.declared.Formula.{Formula}
+use Rattle.dimacs_format.specs.declared.Sizes.{Sizes as SizesValue}
 use Rattle.dimacs_format.specs.Text.{maxText, isBlank, Line, Word, lines, words, wordsOf, spelled, sameBytes}
-use Rattle.dimacs_format.specs.Text.{begins, isComment, allBlank, problemWord, formatWord, behindHead}
-use Rattle.dimacs_format.specs.Text.{isTargetLine, isPermutationLine, numberIn, variable, Token, tokenIn, literal}
-use Rattle.dimacs_format.specs.Text.{close, malformed}
+use Rattle.dimacs_format.specs.Text.{begins, isComment, allBlank, problemWord, formatWord, targetHead}
+use Rattle.dimacs_format.specs.Text.{permutationHead, behind, numberIn, variable}
+use Rattle.dimacs_format.specs.Text.{Token, tokenIn, literal, close, malformed}
 use Rattle.dimacs_format.specs.Input.{Input, emptyClause, withLiteral, formulaOf, positives, negatives}
 
 -- ---- steps that may refuse
@@ -41,10 +43,9 @@ module _ {S X : Type 0} where
 
 -- ---- the problem line
 
--- n and C
-pub record Sizes : Type 0 where
-  pub variables : ℕ
-  pub total : ℕ
+-- n and C, as the reader hands them on
+abbrev pub Sizes : Type 0
+Sizes = SizesValue
 
 -- both sizes, if both are numbers
 unfoldable pub sizesIn : Option ℕ → Option ℕ → Option Sizes
@@ -116,11 +117,16 @@ unfoldable pub targetKept : ℕ → Option ℕ → Step (Option ℕ)
 targetKept place none = refuses 8 place
 targetKept place (some x) = goes (some x)
 
--- S18: "at most one such line"; R8: "wish line malformed or second | 8 | line's first byte"
-unfoldable pub targetStep : ℕ → Option ℕ → Line → Step (Option ℕ)
+-- S18: "at most one such line"; R8: "wish line malformed or second | 8 | line's first byte": from the line's place and
+-- what stands behind its head
+unfoldable pub targetSaid : ℕ → Option ℕ → ℕ → List ℕ → Step (Option ℕ)
 unfolding targetIn targetKept
-targetStep n none l = targetKept (l .start) (targetIn n (behindHead l))
-targetStep n (some x) l = refuses 8 (l .start)
+targetSaid n none place bytes = targetKept place (targetIn n bytes)
+targetSaid n (some x) place bytes = refuses 8 place
+
+-- S18: "A line that begins with the seven bytes `c wish ` .."
+abbrev pub targetStep : ℕ → Option ℕ → Line → Step (Option ℕ)
+targetStep n t l = targetSaid n t (l .start) (behind targetHead l)
 
 -- S19: "the first right behind those seven bytes": a byte that is no blank comes first
 unfoldable pub beginsWord : List ℕ → Bool
@@ -157,32 +163,45 @@ unfoldable pub permutationKept : List Permutation → ℕ → Option Permutation
 permutationKept es place none = refuses 9 place
 permutationKept es place (some e) = goes (es ++ e ∷ [])
 
--- S19: "at most 16 such lines"; R9: "exchange line malformed or seventeenth | 9 | line's first byte"
-unfoldable pub permutationStep : ℕ → List Permutation → Line → Step (List Permutation)
+-- S19: "at most 16 such lines"; R9: "exchange line malformed or seventeenth | 9 | line's first byte": from the line's
+-- place and what stands behind its head
+unfoldable pub permutationSaid : ℕ → List Permutation → ℕ → List ℕ → Step (List Permutation)
 unfolding permutationIn permutationKept
-permutationStep n es l = cond (ltb (length es) maxPermutations)
-    (permutationKept es (l .start) (permutationIn n (behindHead l))) (refuses 9 (l .start))
+permutationSaid n es place bytes = cond (ltb (length es) maxPermutations)
+    (permutationKept es place (permutationIn n bytes)) (refuses 9 place)
+
+-- S19: "One that begins with `c exch ` .."
+abbrev pub permutationStep : ℕ → List Permutation → Line → Step (List Permutation)
+permutationStep n es l = permutationSaid n es (l .start) (behind permutationHead l)
 
 -- ---- a line behind the problem line
 
--- S17: "After the problem line two comments have meaning, also inside a rule."
+-- S17: "After the problem line two comments have meaning, also inside a rule.": the kinds of lines that say something
 pub data Kind : Type 0 where
   clause-line : Kind
   target-line : Kind
   permutation-line : Kind
-  remark : Kind
 
--- from whether the line is a comment, has the one head, has the other
-unfoldable pub kindBy : Bool → Bool → Bool → Kind
-kindBy false t p = clause-line
-kindBy true true p = target-line
-kindBy true false true = permutation-line
-kindBy true false false = remark
+-- a kind of comment, by the head of its lines
+pub record Headed : Type 0 where
+  pub head : List ℕ
+  pub kind : Kind
+
+-- S18: "A line that begins with the seven bytes `c wish `"; S19: "One that begins with `c exch `"
+abbrev pub headedKinds : List Headed
+headedKinds = record { head = targetHead; kind = target-line }
+    ∷ record { head = permutationHead; kind = permutation-line } ∷ []
+
+-- the kind whose head stands first in the bytes of a comment; none is a remark
+unfoldable pub kindAmong : List Headed → List ℕ → Option Kind
+unfolding begins
+kindAmong [] bytes = none
+kindAmong (h ∷ hs) bytes = cond (begins (h .head) bytes) (some (h .kind)) (kindAmong hs bytes)
 
 -- the kind of a line behind the problem line
-unfoldable pub kindOf : Line → Kind
-unfolding kindBy isComment isTargetLine isPermutationLine
-kindOf l = kindBy (isComment l) (isTargetLine l) (isPermutationLine l)
+unfoldable pub kindOf : Line → Option Kind
+unfolding isComment kindAmong
+kindOf l = cond (isComment l) (kindAmong headedKinds (l .bytes)) (some clause-line)
 
 -- what the lines behind the problem line have said so far
 pub record Progress : Type 0 where
@@ -194,24 +213,43 @@ pub record Progress : Type 0 where
 abbrev pub begin : Progress
 begin = record { clauses = record { closed = []; begun = emptyClause }; target = none; permutations = [] }
 
--- one handler a kind of line; S20: "Thus an ordinary remark beginning so is refused."
-unfoldable pub handled : Sizes → Progress → Line → Kind → Step Progress
-unfolding walk wordStep targetStep permutationStep
-handled z s l clause-line =
-    andThen (walk (wordStep z) (s .clauses) (wordsOf l))
-    (λ c. goes (record { clauses = c; target = s .target; permutations = s .permutations }))
-handled z s l target-line =
-    andThen (targetStep (z .variables) (s .target) l) (λ t. goes
-    (record { clauses = s .clauses; target = t; permutations = s .permutations }))
-handled z s l permutation-line =
-    andThen (permutationStep (z .variables) (s .permutations) l)
-    (λ es. goes (record { clauses = s .clauses; target = s .target; permutations = es }))
-handled z s l remark = goes s
+-- each kind of line says a part of it
+abbrev pub Part : Kind → Type 0
+Part clause-line = Clauses
+Part target-line = Option ℕ
+Part permutation-line = List Permutation
+
+abbrev pub partOf : (k : Kind) → Progress → Part k
+partOf clause-line s = s .clauses
+partOf target-line s = s .target
+partOf permutation-line s = s .permutations
+
+-- the same with the part of one kind replaced
+abbrev pub withPart : (k : Kind) → Progress → Part k → Progress
+withPart clause-line s c = record { clauses = c; target = s .target; permutations = s .permutations }
+withPart target-line s t = record { clauses = s .clauses; target = t; permutations = s .permutations }
+withPart permutation-line s es = record { clauses = s .clauses; target = s .target; permutations = es }
+
+-- one handler a kind of line, from its part and the line
+abbrev pub partStep : Sizes → (k : Kind) → Part k → Line → Step (Part k)
+partStep z clause-line c l = walk (wordStep z) c (wordsOf l)
+partStep z target-line t l = targetStep (z .variables) t l
+partStep z permutation-line es l = permutationStep (z .variables) es l
+
+-- a line changes the part of its kind alone; S20: "Thus an ordinary remark beginning so is refused."
+unfoldable pub handled : Sizes → Progress → Line → Option Kind → Step Progress
+unfolding andThen walk wordStep targetSaid permutationSaid
+handled z s l none = goes s
+handled z s l (some k) = andThen (partStep z k (partOf k s) l) (λ a. goes (withPart k s a))
 
 -- S17: one line behind the problem line
 unfoldable pub lineStep : Sizes → Progress → Line → Step Progress
 unfolding handled kindOf
 lineStep z s l = handled z s l (kindOf l)
+
+-- what the lines behind the problem line say
+abbrev pub linesSay : Sizes → List Line → Step Progress
+linesSay z after = walk (lineStep z) begin after
 
 -- ---- the whole text
 
@@ -239,33 +277,36 @@ inputOf n s = record {
 unfoldable pub atEnd : ℕ → Sizes → Progress → Step Input
 atEnd size z s = cond (eqb (length (s .clauses .closed)) (z .total)) (goes (inputOf (z .variables) s)) (refuses 7 size)
 
--- R4: "a rule slice shorter than C | 4 | line's first byte"; p and q are the lengths of the two slices
-unfoldable pub withRoom : ℕ → ℕ → ℕ → Line → List Line → Sizes → Step Input
+-- what they say up to the end of a text of the given size
+abbrev pub textSays : ℕ → Sizes → List Line → Step Input
+textSays size z after = andThen (linesSay z after) (atEnd size z)
+
+-- R4: "a rule slice shorter than C | 4 | line's first byte"; the room is the length of the shortest slice
+unfoldable pub withRoom : ℕ → ℕ → Line → List Line → Sizes → Step Input
 unfolding andThen walk lineStep atEnd
-withRoom size p q l after z = cond (leb (z .total) p && leb (z .total) q)
-    (andThen (walk (lineStep z) begin after) (atEnd size z)) (refuses 4 (l .start))
+withRoom size room l after z = cond (leb (z .total) room) (textSays size z after) (refuses 4 (l .start))
 
 -- R3: "V or C outside limits | 3 | line's first byte"
-unfoldable pub withSizes : ℕ → ℕ → ℕ → Line → List Line → Sizes → Step Input
+unfoldable pub withSizes : ℕ → ℕ → Line → List Line → Sizes → Step Input
 unfolding withinLimits withRoom
-withSizes size p q l after z = cond (withinLimits z) (withRoom size p q l after z) (refuses 3 (l .start))
+withSizes size room l after z = cond (withinLimits z) (withRoom size room l after z) (refuses 3 (l .start))
 
 -- R2: "problem line absent or malformed | 2 | its first byte, or text length": malformed
-unfoldable pub withProblem : ℕ → ℕ → ℕ → Line → List Line → Option Sizes → Step Input
+unfoldable pub withProblem : ℕ → ℕ → Line → List Line → Option Sizes → Step Input
 unfolding withSizes
-withProblem size p q l after none = refuses 2 (l .start)
-withProblem size p q l after (some z) = withSizes size p q l after z
+withProblem size room l after none = refuses 2 (l .start)
+withProblem size room l after (some z) = withSizes size room l after z
 
 -- R2: absent
-unfoldable pub withLines : ℕ → ℕ → ℕ → List Line → Step Input
+unfoldable pub withLines : ℕ → ℕ → List Line → Step Input
 unfolding withProblem problemIn
-withLines size p q [] = refuses 2 size
-withLines size p q (l ∷ after) = withProblem size p q l after (problemIn l)
+withLines size room [] = refuses 2 size
+withLines size room (l ∷ after) = withProblem size room l after (problemIn l)
 
 -- R1: "text too long | 1 | 1,048,576"; N3: "Reader: 1, 2, 3, 4, then the first fault in text order"
-unfoldable pub reading : List ℕ → ℕ → ℕ → Step Input
+unfoldable pub reading : List ℕ → ℕ → Step Input
 unfolding withLines fromProblem lines
-reading text p q = cond (leb (length text) maxText) (withLines (length text) p q (fromProblem (lines 0 text)))
+reading text room = cond (leb (length text) maxText) (withLines (length text) room (fromProblem (lines 0 text)))
     (refuses 1 maxText)
 
 -- ---- what the reader answers, and what it leaves in the slices
@@ -281,27 +322,32 @@ unfolding formulaOf emptyFormula
 formulaFrom (goes d) = formulaOf d
 formulaFrom (refuses code place) = emptyFormula
 
+-- S23: "Rules go to two lent slices, places past C unchanged."
+abbrev pub storedIn : ClauseSlices → List Clause → ClauseSlices
+storedIn old cs = record {
+  positive = over (positives cs) (old .positive);
+  negative = over (negatives cs) (old .negative);
+  positiveRest = old .positiveRest;
+  negativeRest = old .negativeRest;
+}
+
 -- N1: "Every row leaves all lent slices unchanged"
-unfoldable pub sliceFrom : (List Clause → List ℕ) → Step Input → List ℕ → List ℕ
+unfoldable pub slicesFrom : Step Input → ClauseSlices → ClauseSlices
 unfolding over
-sliceFrom part (goes d) old = over (part (d .clauses)) old
-sliceFrom part (refuses code place) old = old
+slicesFrom (goes d) old = storedIn old (d .clauses)
+slicesFrom (refuses code place) old = old
 
 -- D1.1, D2.1: what the reader answers
-unfoldable pub readReply : List ℕ → List ℕ → List ℕ → Reply
+unfoldable pub readReply : List ℕ → ClauseSlices → Reply
 unfolding reading replyTo
-readReply text positive negative = replyTo (reading text (length positive) (length negative))
+readReply text clauses = replyTo (reading text (clauseRoom clauses))
 
 -- N2: the formula beside the answer
-unfoldable pub readFormula : List ℕ → List ℕ → List ℕ → Formula
+unfoldable pub readFormula : List ℕ → ClauseSlices → Formula
 unfolding reading formulaFrom
-readFormula text positive negative = formulaFrom (reading text (length positive) (length negative))
+readFormula text clauses = formulaFrom (reading text (clauseRoom clauses))
 
--- S23, N1: the two slices at exit
-unfoldable pub readPositive : List ℕ → List ℕ → List ℕ → List ℕ
-unfolding reading sliceFrom
-readPositive text positive negative = sliceFrom positives (reading text (length positive) (length negative)) positive
-
-unfoldable pub readNegative : List ℕ → List ℕ → List ℕ → List ℕ
-unfolding reading sliceFrom
-readNegative text positive negative = sliceFrom negatives (reading text (length positive) (length negative)) negative
+-- S23, N1: the slices at exit
+unfoldable pub readClauses : List ℕ → ClauseSlices → ClauseSlices
+unfolding reading slicesFrom
+readClauses text clauses = slicesFrom (reading text (clauseRoom clauses)) clauses

@@ -138,9 +138,9 @@ targetHead = ascii "c wish "
 abbrev pub permutationHead : List ℕ
 permutationHead = ascii "c exch "
 
--- what stands behind the seven bytes of either head
-abbrev pub behindHead : Line → List ℕ
-behindHead l = drop 7 (l .bytes)
+-- what stands behind the head of a line
+abbrev pub behind : List ℕ → Line → List ℕ
+behind head l = drop (length head) (l .bytes)
 
 -- S18: "A line that begins with the seven bytes `c wish `"
 unfoldable pub isTargetLine : Line → Bool

@@ -1,5 +1,4 @@
 -- The reader's answer in document 01's terms. Assumes nothing.
-use Prim.Native.Nat.{ℕ}
 use Rattle.formula.specs.Reply.{Reply, parsed, refused}
 use Rattle.dimacs_lines.specs.declared.Parse.{Parse}
 use Rattle.dimacs_lines.specs.declared.Parse.the-variants.{Accepted, Refused}

@@ -1,77 +1,140 @@
 // The lines behind the problem line, one after the other, and the reader's answer to them: clauses are collected
 // apart until the text is accepted.
 use dimacs_clauses::Begun;
-use dimacs_comments::Advanced;
-use dimacs_comments::State;
+use dimacs_clauses::clause_line;
+use dimacs_clauses::none_begun;
+use dimacs_comments::Wanted;
+use dimacs_comments::no_target;
 use dimacs_comments::permutation_line;
 use dimacs_comments::target_line;
-use dimacs_comments::word_line;
+use dimacs_format::Sizes;
 use dimacs_words::Class;
 use dimacs_words::begins;
 use dimacs_words::run_end;
+use formula::Checked;
 use formula::Formula;
 use point_slices::point_at;
 use point_slices::put_point;
 use points::Point;
+ghost use mathlib.Core.Bool.{true};
+ghost use mathlib.Core.Option.{Option·getD};
 ghost use mathlib.Core.Path.{_≡_};
 ghost use Prim.Native.Nat.{_≤_};
-ghost use lib.ListN.{length, take};
-ghost use Rattle.dimacs_lines.specs.Laws.LineScans.{nothingSaid, Standing, Advancing, LinesRead, advancedOf};
-ghost use Rattle.dimacs_lines.specs.Laws.LineScans.{progressFrom, Stands};
-ghost use Rattle.dimacs_format.specs.Text.{maxText};
-ghost use Rattle.dimacs_clauses.specs.Laws.ClauseScans.{Inside};
-ghost use Rattle.math.specs.Lists.{over};
-ghost use Rattle.dimacs_format.specs.Reader.{andThen, walk, lineStep, begin, atEnd};
+ghost use lib.ListN.{length};
+ghost use Rattle.point_slices.specs.Slices.{pointsOf, clauseSlices};
+ghost use Rattle.dimacs_format.specs.Text.{maxText, piece, isComment};
+ghost use Rattle.dimacs_format.specs.Reader.{andThen, atEnd, textSays};
+ghost use Rattle.dimacs_format.specs.Laws.AnswerLaws.{stepTo, WherePassed};
 ghost use Rattle.dimacs_words.specs.Laws.Scans.{linesBehind};
-ghost use Rattle.dimacs_lines.specs.Laws.ParsedAs.{wantedOr0, refusedWith, ParsedAs, Limited, HasRoom};
+ghost use Rattle.dimacs_clauses.specs.Laws.ClauseScans.{Inside};
+ghost use Rattle.dimacs_comments.specs.Laws.CommentScans.{wantedOf};
+ghost use Rattle.dimacs_lines.specs.Laws.LineScans.{nothingSaid, progressFrom, Kept, Standing, CommentRead};
+ghost use Rattle.dimacs_lines.specs.Laws.LineScans.{Advancing, LinesRead};
+ghost use Rattle.dimacs_lines.specs.Laws.ParsedAs.{Copied, refusedWith, fewClauses, Limited, HasRoom, ParsedAs};
 
-// S17: "After the problem line two comments have meaning, also inside a rule." F2: the heads are fixed byte strings.
-// One line behind the problem line; the heads are at most fifteen bytes to compare, and each handler says how often it
-// visits a byte.
+// What the lines have said so far, beside the slices of the clauses and the images: a part for each kind of line.
+pub struct State {
+    pub begun: Begun,
+    pub wanted: Wanted,
+    pub permutations: u32,
+}
+
+// What comes of lines: on with what was said, or a refusal.
+pub struct Advanced {
+    pub answer: Checked,
+    pub state: State,
+}
+
+// S17: "After the problem line two comments have meaning, also inside a rule." F2: the heads are fixed byte strings. A
+// comment behind the problem line: each kind replaces its own part of what was said. The heads are at most fourteen
+// bytes to compare. `read_line` sees to what it requires.
+fn read_comment(
+    line: &[u8],
+    start: usize,
+    sizes: Sizes,
+    state: State,
+    images: &mut [u8],
+) -> Advanced
+    requires { ⌜ Kept sizes state (now images) × (isComment (piece start (now line)) ≡ true) ⌝ }
+    ensures { λ r. ⌜ CommentRead sizes start (now (line .entry)) state (now (images .entry)) r
+        (now (images .exit)) ⌝ }
+{
+    let n = sizes.variables;
+    let mut more = state;
+    let head: &[u8] = b"c wish ";
+    let targeting = begins(head, line);
+    if targeting {
+        let from = head.len();
+        let wanted = state.wanted;
+        let taken = target_line(&line[from..], start, n, wanted);
+        let answer = taken.answer;
+        let wanted = taken.wanted;
+        more.wanted = wanted;
+        return Advanced {
+            answer,
+            state: more,
+        };
+    }
+    let head: &[u8] = b"c exch ";
+    let permuting = begins(head, line);
+    if permuting {
+        let from = head.len();
+        let taken = permutation_line(&line[from..], start, n, state.permutations, images);
+        let answer = taken.answer;
+        more.permutations = taken.permutations;
+        return Advanced {
+            answer,
+            state: more,
+        };
+    }
+    Advanced {
+        answer: Checked::Passed,
+        state,
+    }
+}
+
+// One line behind the problem line: words, or a comment. The heads are at most fifteen bytes to compare, and each
+// handler says how often it visits a byte.
 fn read_line(
     line: &[u8],
     start: usize,
-    n: u32,
-    total: u32,
+    sizes: Sizes,
     state: State,
     positive: &mut [u64],
     negative: &mut [u64],
     images: &mut [u8],
 ) -> Advanced
-    requires { ⌜ Standing (record { variables = n; total = total }) state (now positive) (now negative) (now images)
+    requires { ⌜ Standing sizes state (clauseSlices (now positive) (now negative)) (now images)
         × Inside start (now line) ⌝ }
-    ensures { λ r. ⌜ Advancing (record { variables = n; total = total }) start (now (line .entry)) state
-        (now (positive .entry)) (now (negative .entry)) (now (images .entry)) r (now (positive .exit))
-        (now (negative .exit)) (now (images .exit)) ⌝ }
+    ensures { λ r. ⌜ Advancing sizes start (now (line .entry)) state
+        (clauseSlices (now (positive .entry)) (now (negative .entry))) (now (images .entry)) r
+        (clauseSlices (now (positive .exit)) (now (negative .exit))) (now (images .exit)) ⌝ }
 {
     let comment = begins(b"c", line);
-    if !comment {
-        return word_line(line, start, n, total, state, positive, negative);
+    if comment {
+        return read_comment(line, start, sizes, state, images);
     }
-    let targeting = begins(b"c wish ", line);
-    if targeting {
-        return target_line(line, start, n, state);
+    let mut more = state;
+    let begun = state.begun;
+    let taken = clause_line(line, start, sizes, begun, positive, negative);
+    let answer = taken.answer;
+    let begun = taken.begun;
+    more.begun = begun;
+    Advanced {
+        answer,
+        state: more,
     }
-    let permuting = begins(b"c exch ", line);
-    if permuting {
-        return permutation_line(line, start, n, state, images);
-    }
-    Advanced::On(state)
 }
 
 // What the lines have said before the first of them.
 fn begin() -> State
     ensures { λ r. ⌜ r ≡ nothingSaid ⌝ }
 {
-    let begun = Begun {
-        closed: 0,
-        positive: 0,
-        negative: 0,
-    };
+    let begun = none_begun(0);
+    let wanted = no_target();
     State {
         begun,
-        targeted: false,
-        target: 0,
+        wanted,
         permutations: 0,
     }
 }
@@ -83,16 +146,15 @@ fn begin() -> State
 pub fn read_lines(
     text: &[u8],
     end: usize,
-    n: u32,
-    total: u32,
+    sizes: Sizes,
     positive: &mut [u64],
     negative: &mut [u64],
     images: &mut [u8],
 ) -> Advanced
-    requires { ⌜ Standing (record { variables = n; total = total }) nothingSaid (now positive) (now negative)
-        (now images) × (length (now text) ≤ maxText) × (end ≤ length (now text)) ⌝ }
-    ensures { λ r. ⌜ LinesRead (record { variables = n; total = total }) (now (text .entry)) end r
-        (now (positive .exit)) (now (negative .exit)) (now (images .exit)) ⌝ }
+    requires { ⌜ Standing sizes nothingSaid (clauseSlices (now positive) (now negative)) (now images)
+        × (length (now text) ≤ maxText) × (end ≤ length (now text)) ⌝ }
+    ensures { λ r. ⌜ LinesRead sizes (now (text .entry)) end r
+        (clauseSlices (now (positive .exit)) (now (negative .exit))) (now (images .exit)) ⌝ }
 {
     let mut state = begin();
     let mut last = end;
@@ -102,20 +164,23 @@ pub fn read_lines(
         let step = read_line(
             &text[start..stop],
             start,
-            n,
-            total,
+            sizes,
             state,
             positive,
             negative,
             images,
         );
-        let Advanced::On(more) = step else {
+        let answer = step.answer;
+        let Checked::Passed = answer else {
             return step;
         };
-        state = more;
+        state = step.state;
         last = stop;
     }
-    Advanced::On(state)
+    Advanced {
+        answer: Checked::Passed,
+        state,
+    }
 }
 
 // What the reader says of a text.
@@ -141,10 +206,10 @@ pub fn refused(code: u32, place: usize) -> Parsed
     }
 }
 
-// The first `count` numbers of one slice, to the front of another. One step a number. Callers have seen to the room.
+// The first `count` points of one slice, to the front of another. One step a point. Callers have seen to the room.
 fn copy(from: &[u64], to: &mut [u64], count: usize)
-    requires { ⌜ (count ≤ length (now from)) × (count ≤ length (now to)) ⌝ }
-    ensures { λ _. ⌜ now (to .exit) ≡ over (take count (now (from .entry))) (now (to .entry)) ⌝ }
+    requires { ⌜ (count ≤ length (pointsOf (now from))) × (count ≤ length (pointsOf (now to))) ⌝ }
+    ensures { λ _. ⌜ Copied (now (from .entry)) (now (to .entry)) count (now (to .exit)) ⌝ }
 {
     let mut i = 0;
     while i < count {
@@ -155,45 +220,49 @@ fn copy(from: &[u64], to: &mut [u64], count: usize)
 }
 
 // S18: "without it the wish is all 0".
-fn wanted(targeted: bool, x: Point) -> Point
-    ensures { λ r. ⌜ r ≡ wantedOr0 targeted x ⌝ }
+fn wanted_or_0(wanted: Wanted) -> Point
+    ensures { λ r. ⌜ r ≡ Option·getD (wantedOf wanted) 0 ⌝ }
 {
-    if targeted { x } else { 0 }
+    if wanted.found {
+        wanted.target
+    } else {
+        points::EMPTY
+    }
 }
 
 // S15: "Exactly C rules are closed." Then, and not before, the clauses go to the lent slices. Refusals 3 and 4 see to
 // the room.
 fn accept(
     size: usize,
-    n: u32,
-    total: u32,
+    sizes: Sizes,
     state: State,
     p: &[u64],
     q: &[u64],
-    images: [u8; 1024],
+    images: [u8; Formula::MAX_IMAGES],
     positive: &mut [u64],
     negative: &mut [u64],
 ) -> Parsed
-    requires { ⌜ Standing (record { variables = n; total = total }) state (now p) (now q) images
-        × HasRoom total (now positive) (now negative) ⌝ }
-    ensures { λ r. ⌜ ParsedAs (atEnd size (record { variables = n; total = total })
-        (progressFrom n (now (p .entry)) (now (q .entry)) images state)) (now (positive .entry)) (now (negative .entry))
-        r (now (positive .exit)) (now (negative .exit)) ⌝ }
+    requires { ⌜ Standing sizes state (clauseSlices (now p) (now q)) images
+        × HasRoom sizes (clauseSlices (now positive) (now negative)) ⌝ }
+    ensures { λ r. ⌜ ParsedAs (atEnd size sizes (progressFrom (sizes .variables)
+        (clauseSlices (now (p .entry)) (now (q .entry))) images state))
+        (clauseSlices (now (positive .entry)) (now (negative .entry))) r
+        (clauseSlices (now (positive .exit)) (now (negative .exit))) ⌝ }
 {
     let begun = state.begun;
-    if begun.closed < total {
+    if begun.closed < sizes.total {
         return refused(7, size);
     }
-    let target = wanted(state.targeted, state.target);
-    let permutations = state.permutations;
-    let count = total as usize;
+    let wanted = state.wanted;
+    let target = wanted_or_0(wanted);
+    let count = sizes.total as usize;
     copy(p, positive, count);
     copy(q, negative, count);
     let formula = Formula {
-        variables: n,
-        clauses: total,
+        variables: sizes.variables,
+        clauses: sizes.total,
         target,
-        permutations,
+        permutations: state.permutations,
         images: images,
     };
     Parsed {
@@ -205,70 +274,113 @@ fn accept(
 // What the lines lead to. The lines' own function sees to what it requires.
 fn finish(
     size: usize,
-    n: u32,
-    total: u32,
+    sizes: Sizes,
     done: Advanced,
     p: &[u64],
     q: &[u64],
-    images: [u8; 1024],
+    images: [u8; Formula::MAX_IMAGES],
     positive: &mut [u64],
     negative: &mut [u64],
 ) -> Parsed
-    requires { ⌜ Stands (record { variables = n; total = total }) done (now p) (now q) images
-        × HasRoom total (now positive) (now negative) ⌝ }
-    ensures { λ r. ⌜ ParsedAs (andThen (advancedOf n (now (p .entry)) (now (q .entry)) images done)
-        (atEnd size (record { variables = n; total = total }))) (now (positive .entry)) (now (negative .entry)) r
-        (now (positive .exit)) (now (negative .exit)) ⌝ }
+    requires { ⌜ WherePassed (done .answer) (Standing sizes (done .state) (clauseSlices (now p) (now q)) images)
+        × HasRoom sizes (clauseSlices (now positive) (now negative)) ⌝ }
+    ensures { λ r. ⌜ ParsedAs (andThen (stepTo (done .answer) (progressFrom (sizes .variables)
+        (clauseSlices (now (p .entry)) (now (q .entry))) images (done .state))) (atEnd size sizes))
+        (clauseSlices (now (positive .entry)) (now (negative .entry))) r
+        (clauseSlices (now (positive .exit)) (now (negative .exit))) ⌝ }
 {
-    match done {
-        Advanced::On(state) => { accept(size, n, total, state, p, q, images, positive, negative) }
-        Advanced::Refused { code, place } => refused(code, place),
+    let answer = done.answer;
+    let state = done.state;
+    match answer {
+        Checked::Passed => accept(size, sizes, state, p, q, images, positive, negative),
+        Checked::Refused { code, place } => refused(code, place),
     }
 }
 
-// N1: the clauses are collected in `p` and `q`, so that a later refusal finds the lent slices unchanged. `read_clauses`
-// sees to what it requires.
+// N1: the clauses are collected in `p` and `q`, so that a later refusal finds the lent slices unchanged. `few_clauses`
+// and `many_clauses` see to what it requires. The images take 1 KiB of the stack.
 fn collect(
     text: &[u8],
     end: usize,
-    n: u32,
-    total: u32,
+    sizes: Sizes,
     p: &mut [u64],
     q: &mut [u64],
     positive: &mut [u64],
     negative: &mut [u64],
 ) -> Parsed
-    requires { ⌜ Limited n total × HasRoom total (now p) (now q) × HasRoom total (now positive) (now negative)
-        × (length (now text) ≤ maxText) × (end ≤ length (now text)) ⌝ }
-    ensures { λ r. ⌜ ParsedAs (andThen (walk (lineStep (record { variables = n; total = total })) begin
-        (linesBehind (now (text .entry)) end)) (atEnd (length (now (text .entry)))
-        (record { variables = n; total = total }))) (now (positive .entry)) (now (negative .entry)) r
-        (now (positive .exit)) (now (negative .exit)) ⌝ }
+    requires { ⌜ Limited sizes × HasRoom sizes (clauseSlices (now p) (now q))
+        × HasRoom sizes (clauseSlices (now positive) (now negative)) × (length (now text) ≤ maxText)
+        × (end ≤ length (now text)) ⌝ }
+    ensures { λ r. ⌜ ParsedAs (textSays (length (now (text .entry))) sizes (linesBehind (now (text .entry)) end))
+        (clauseSlices (now (positive .entry)) (now (negative .entry))) r
+        (clauseSlices (now (positive .exit)) (now (negative .exit))) ⌝ }
 {
     let size = text.len();
-    let mut images = [0u8; 1024];
-    let done = read_lines(text, end, n, total, p, q, &mut images);
-    finish(size, n, total, done, p, q, images, positive, negative)
+    let mut images = [0u8; Formula::MAX_IMAGES];
+    let done = read_lines(text, end, sizes, p, q, &mut images);
+    finish(size, sizes, done, p, q, images, positive, negative)
 }
 
-// The lines, with arrays of the function's own to collect the clauses in. `dimacs::read_sized` sees to what it
-// requires, by refusals 1, 3 and 4.
-pub fn read_clauses(
+// The most clauses for which small arrays are made.
+pub const FEW_CLAUSES: usize = 256;
+
+// Few clauses, collected in local arrays of 2 KiB each.
+fn few_clauses(
     text: &[u8],
     end: usize,
-    n: u32,
-    total: u32,
+    sizes: Sizes,
     positive: &mut [u64],
     negative: &mut [u64],
 ) -> Parsed
-    requires { ⌜ Limited n total × HasRoom total (now positive) (now negative) × (length (now text) ≤ maxText)
+    requires { ⌜ Limited sizes × (sizes .total ≤ fewClauses)
+        × HasRoom sizes (clauseSlices (now positive) (now negative)) × (length (now text) ≤ maxText)
         × (end ≤ length (now text)) ⌝ }
-    ensures { λ r. ⌜ ParsedAs (andThen (walk (lineStep (record { variables = n; total = total })) begin
-        (linesBehind (now (text .entry)) end)) (atEnd (length (now (text .entry)))
-        (record { variables = n; total = total }))) (now (positive .entry)) (now (negative .entry)) r
-        (now (positive .exit)) (now (negative .exit)) ⌝ }
+    ensures { λ r. ⌜ ParsedAs (textSays (length (now (text .entry))) sizes (linesBehind (now (text .entry)) end))
+        (clauseSlices (now (positive .entry)) (now (negative .entry))) r
+        (clauseSlices (now (positive .exit)) (now (negative .exit))) ⌝ }
 {
-    let mut p = [0u64; 4096];
-    let mut q = [0u64; 4096];
-    collect(text, end, n, total, &mut p, &mut q, positive, negative)
+    let mut p = [0u64; FEW_CLAUSES];
+    let mut q = [0u64; FEW_CLAUSES];
+    collect(text, end, sizes, &mut p, &mut q, positive, negative)
+}
+
+// As many clauses as there can be, collected in local arrays of 32 KiB each.
+fn many_clauses(
+    text: &[u8],
+    end: usize,
+    sizes: Sizes,
+    positive: &mut [u64],
+    negative: &mut [u64],
+) -> Parsed
+    requires { ⌜ Limited sizes × HasRoom sizes (clauseSlices (now positive) (now negative))
+        × (length (now text) ≤ maxText) × (end ≤ length (now text)) ⌝ }
+    ensures { λ r. ⌜ ParsedAs (textSays (length (now (text .entry))) sizes (linesBehind (now (text .entry)) end))
+        (clauseSlices (now (positive .entry)) (now (negative .entry))) r
+        (clauseSlices (now (positive .exit)) (now (negative .exit))) ⌝ }
+{
+    let mut p = [0u64; Formula::MAX_CLAUSES as usize];
+    let mut q = [0u64; Formula::MAX_CLAUSES as usize];
+    collect(text, end, sizes, &mut p, &mut q, positive, negative)
+}
+
+// The lines, with arrays to collect the clauses in whose size follows C, since each array is made 0 first.
+// `dimacs::read_sized` sees to what it requires, by refusals 1, 3 and 4.
+pub fn read_clauses(
+    text: &[u8],
+    end: usize,
+    sizes: Sizes,
+    positive: &mut [u64],
+    negative: &mut [u64],
+) -> Parsed
+    requires { ⌜ Limited sizes × HasRoom sizes (clauseSlices (now positive) (now negative))
+        × (length (now text) ≤ maxText) × (end ≤ length (now text)) ⌝ }
+    ensures { λ r. ⌜ ParsedAs (textSays (length (now (text .entry))) sizes (linesBehind (now (text .entry)) end))
+        (clauseSlices (now (positive .entry)) (now (negative .entry))) r
+        (clauseSlices (now (positive .exit)) (now (negative .exit))) ⌝ }
+{
+    let total = sizes.total as usize;
+    if total <= FEW_CLAUSES {
+        return few_clauses(text, end, sizes, positive, negative);
+    }
+    many_clauses(text, end, sizes, positive, negative)
 }

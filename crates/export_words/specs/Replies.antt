@@ -3,6 +3,7 @@ use mathlib.Core.List.{List, [], _∷_}
 use mathlib.Core.Option.{Option, some, none}
 use Prim.Native.Nat.{ℕ}
 use Rattle.certificate.specs.Certificate.{FileContents}
+use Rattle.solver.specs.declared.Settled.{Settled}
 use Rattle.solver.specs.declared.Solution.{Solution}
 use Rattle.solver.specs.declared.Solution.the-variants.{Satisfiable, Unsatisfiable, Uncertified, Unknown, Refused}
 
@@ -20,9 +21,12 @@ contentsWords none = []
 -- F10: the solver's answer as four words. As the search tells it: 1, the point, its distance, slots filled; 3, the
 -- bound, slots filled, 0; 0, a refusal's number and place, 0. Beside these 8, slots filled, the size of the certificate
 -- written, 0; and 9, slots filled, the size needed for it, 0.
-unfoldable pub solutionWords : Solution → List ℕ
-solutionWords (Satisfiable x d filled) = 1 ∷ x ∷ d ∷ filled ∷ []
-solutionWords (Unsatisfiable filled size) = 8 ∷ filled ∷ size ∷ 0 ∷ []
-solutionWords (Uncertified filled needed) = 9 ∷ filled ∷ needed ∷ 0 ∷ []
-solutionWords (Unknown b filled) = 3 ∷ b ∷ filled ∷ 0 ∷ []
-solutionWords (Refused code place) = 0 ∷ code ∷ place ∷ 0 ∷ []
+unfoldable pub solutionWords : ℕ → Solution → List ℕ
+solutionWords x (Satisfiable d filled) = 1 ∷ x ∷ d ∷ filled ∷ []
+solutionWords x (Unsatisfiable filled size) = 8 ∷ filled ∷ size ∷ 0 ∷ []
+solutionWords x (Uncertified filled needed) = 9 ∷ filled ∷ needed ∷ 0 ∷ []
+solutionWords x (Unknown b filled) = 3 ∷ b ∷ filled ∷ 0 ∷ []
+solutionWords x (Refused code place) = 0 ∷ code ∷ place ∷ 0 ∷ []
+
+abbrev pub settledWords : Settled → List ℕ
+settledWords r = solutionWords (r .point) (r .answer)

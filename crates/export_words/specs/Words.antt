@@ -4,6 +4,7 @@ use mathlib.Core.List.{List, [], _∷_}
 use Prim.Native.Nat.{ℕ}
 use lib.Dec.{leb}
 use lib.ListN.{length, take, replicate}
+use Rattle.formula.specs.Limits.{maxImages}
 use Rattle.math.specs.Lists.{over}
 use Rattle.formula.specs.declared.Formula.{Formula}
 use Rattle.formula.specs.Reply.{Reply, refused, satisfiable, unsatisfiable, unknown, parsed, written, opened, accepted}
@@ -19,10 +20,10 @@ wordsOf (written size) = 5 ∷ size ∷ 0 ∷ 0 ∷ []
 wordsOf opened = 6 ∷ 0 ∷ 0 ∷ 0 ∷ []
 wordsOf accepted = 7 ∷ 0 ∷ 0 ∷ 0 ∷ []
 
--- S21: "the exchanges as 1,024 bytes": the first 1,024 bytes lent, and 0 where there are fewer
+-- S21: "the exchanges as 1,024 bytes": so many of the bytes lent, and 0 where there are fewer
 unfoldable pub imagesFrom : List ℕ → List ℕ
 unfolding over
-imagesFrom bytes = over (take 1024 bytes) (replicate 1024 0)
+imagesFrom bytes = over (take maxImages bytes) (replicate maxImages 0)
 
 -- the formula by value that numbers and bytes make
 unfoldable pub formulaFrom : ℕ → ℕ → ℕ → ℕ → List ℕ → Formula

@@ -7,21 +7,24 @@ use checker::Verdict;
 use dimacs_lines::Parse;
 use formula::Formula;
 use point_slices::least;
+use search::Found;
 use search::Outcome;
+use solver::Settled;
 use solver::Solution;
 ghost use mathlib.Core.List.{[], _∷_};
 ghost use mathlib.Core.Path.{_≡_};
 ghost use Prim.Native.Nat.{_≤_};
 ghost use lib.ListN.{length, take};
 ghost use Rattle.math.specs.Lists.{over};
+ghost use Rattle.formula.specs.Limits.{maxImages};
 ghost use Rattle.export_words.specs.Words.{imagesFrom, formulaFrom, numbersOf, wordsOf};
 ghost use mathlib.Core.Option.{some};
 ghost use Rattle.dimacs_lines.specs.Reply.{replyOfParse};
-ghost use Rattle.search.specs.Contract.{replyOfOutcome};
+ghost use Rattle.search.specs.Contract.{replyOfFound};
 ghost use Rattle.certificate_writer.specs.Contract.{replyOfWritten};
-ghost use Rattle.certificate.specs.Contract.{handedOut, valueOf, contentsIn, replyOfOpened};
+ghost use Rattle.certificate.specs.Contract.{handedOut, entryOf, contentsIn, replyOfOpened};
 ghost use Rattle.checker.specs.Contract.{replyOfVerdict};
-ghost use Rattle.export_words.specs.Replies.{entryWords, contentsWords, solutionWords};
+ghost use Rattle.export_words.specs.Replies.{entryWords, contentsWords, settledWords};
 
 // How many words an answer takes.
 pub const WORDS: usize = 4;
@@ -38,12 +41,12 @@ pub fn copy_bytes(to: &mut [u8], from: &[u8], count: usize)
     }
 }
 
-// The images of a formula by value from lent bytes: the first 1,024, and 0 for those that are not lent.
-pub fn images_from(bytes: &[u8]) -> [u8; Formula::IMAGES]
+// The images of a formula by value from lent bytes: as many as there can be, and 0 for those that are not lent.
+pub fn images_from(bytes: &[u8]) -> [u8; Formula::MAX_IMAGES]
     ensures { λ r. ⌜ r ≡ imagesFrom (now (bytes .entry)) ⌝ }
 {
-    let mut images = [0u8; Formula::IMAGES];
-    let count = least(bytes.len(), Formula::IMAGES);
+    let mut images = [0u8; Formula::MAX_IMAGES];
+    let count = least(bytes.len(), Formula::MAX_IMAGES);
     copy_bytes(&mut images, bytes, count);
     images
 }
@@ -80,7 +83,7 @@ pub fn put_words(to: &mut [u64], a: u64, b: u64, c: u64, d: u64)
 
 // Writes a formula's four numbers and its images; the callers see to the room for them. One step a byte of the images.
 pub fn put_formula(numbers: &mut [u64], images: &mut [u8], f: Formula)
-    requires { ⌜ (4 ≤ length (now numbers)) × (1024 ≤ length (now images)) ⌝ }
+    requires { ⌜ (4 ≤ length (now numbers)) × (maxImages ≤ length (now images)) ⌝ }
     ensures { λ _. ⌜ (now (numbers .exit) ≡ over (numbersOf f) (now (numbers .entry)))
         × (now (images .exit) ≡ over (f .images) (now (images .entry))) ⌝ }
 {
@@ -92,7 +95,7 @@ pub fn put_formula(numbers: &mut [u64], images: &mut [u8], f: Formula)
         f.target,
         f.permutations as u64,
     );
-    copy_bytes(images, &bytes, Formula::IMAGES);
+    copy_bytes(images, &bytes, Formula::MAX_IMAGES);
 }
 
 // How many words an entry of a body takes, and how many a file's contents.
@@ -112,17 +115,17 @@ pub fn put_parse(reply: &mut [u64], r: Parse)
 }
 
 // Writes the words of the search's answer; the callers see to the room for them.
-pub fn put_outcome(reply: &mut [u64], r: Outcome)
+pub fn put_found(reply: &mut [u64], r: Found)
     requires { ⌜ 4 ≤ length (now reply) ⌝ }
-    ensures { λ _. ⌜ now (reply .exit) ≡ over (wordsOf (replyOfOutcome r)) (now (reply .entry)) ⌝ }
+    ensures { λ _. ⌜ now (reply .exit) ≡ over (wordsOf (replyOfFound r)) (now (reply .entry)) ⌝ }
 {
-    match r {
+    let x = r.point;
+    let answer = r.answer;
+    match answer {
         Outcome::Refused { code, place } => put_words(reply, 0, code as u64, place as u64, 0),
-        Outcome::Satisfiable {
-            point,
-            distance,
-            filled,
-        } => put_words(reply, 1, point, distance as u64, filled as u64),
+        Outcome::Satisfiable { distance, filled } => {
+            put_words(reply, 1, x, distance as u64, filled as u64)
+        }
         Outcome::Unsatisfiable { filled } => put_words(reply, 2, filled as u64, 0, 0),
         Outcome::Unknown { bound, filled } => put_words(reply, 3, bound as u64, filled as u64, 0),
     }
@@ -153,17 +156,14 @@ pub fn put_verdict(reply: &mut [u64], r: Verdict)
 // Writes the two words of an entry of a body; the callers see to the room for them.
 pub fn put_entry(reply: &mut [u64], r: Entry)
     requires { ⌜ 2 ≤ length (now reply) ⌝ }
-    ensures { λ _. ⌜ now (reply .exit) ≡ over (entryWords (valueOf r)) (now (reply .entry)) ⌝ }
+    ensures { λ _. ⌜ now (reply .exit) ≡ over (entryWords (entryOf r)) (now (reply .entry)) ⌝ }
 {
-    match r {
-        Entry::Value(x) => {
-            reply[0] = 1;
-            reply[1] = x;
-        }
-        Entry::Outside => {
-            reply[0] = 0;
-            reply[1] = 0;
-        }
+    if r.inside {
+        reply[0] = 1;
+        reply[1] = r.value;
+    } else {
+        reply[0] = 0;
+        reply[1] = 0;
     }
 }
 
@@ -199,16 +199,16 @@ pub fn put_opened(contents: &mut [u64], reply: &mut [u64], r: Opened)
 }
 
 // Writes the words of the solver's answer; the callers see to the room for them.
-pub fn put_solution(reply: &mut [u64], r: Solution)
+pub fn put_settled(reply: &mut [u64], r: Settled)
     requires { ⌜ 4 ≤ length (now reply) ⌝ }
-    ensures { λ _. ⌜ now (reply .exit) ≡ over (solutionWords r) (now (reply .entry)) ⌝ }
+    ensures { λ _. ⌜ now (reply .exit) ≡ over (settledWords r) (now (reply .entry)) ⌝ }
 {
-    match r {
-        Solution::Satisfiable {
-            point,
-            distance,
-            filled,
-        } => put_words(reply, 1, point, distance as u64, filled as u64),
+    let x = r.point;
+    let answer = r.answer;
+    match answer {
+        Solution::Satisfiable { distance, filled } => {
+            put_words(reply, 1, x, distance as u64, filled as u64)
+        }
         Solution::Unsatisfiable { filled, size } => {
             put_words(reply, 8, filled as u64, size as u64, 0)
         }

@@ -7,6 +7,7 @@ use mathlib.Core.Path.{_≡_}
 use Prim.Native.Nat.{ℕ}
 use lib.Dec.{leb}
 use lib.ListN.{length}
+use Rattle.point_slices.specs.Slices.{ClauseSlices}
 use Rattle.math.specs.Lists.{over}
 use Rattle.formula.specs.declared.Formula.{Formula}
 use Rattle.certificate.specs.Reader.{openedReply, openedContents}
@@ -15,9 +16,10 @@ use Rattle.export_words.specs.Words.{wordsOf, hasRoom}
 use Rattle.export_words.specs.Replies.{entryWords, contentsWords}
 
 -- D2.4 for a caller in another language: with room for the answer, it is the checker's; without, nothing changes
-pub record CheckReturns (f : Formula) (positive negative file reply₀ : List ℕ) (r : ℕ) (reply₁ : List ℕ) : Type 0 where
-  pub returned : r ≡ cond (hasRoom reply₀) 1 0
-  pub reply : reply₁ ≡ cond (hasRoom reply₀) (over (wordsOf (checkReply f positive negative file)) reply₀) reply₀
+pub record CheckReturns (f : Formula) (clauses : ClauseSlices) (file reply₀ : List ℕ) (r : ℕ) (reply₁ : List ℕ) : Type 0
+  where
+    pub returned : r ≡ cond (hasRoom reply₀) 1 0
+    pub reply : reply₁ ≡ cond (hasRoom reply₀) (over (wordsOf (checkReply f clauses file)) reply₀) reply₀
 
 -- whether there is room for an answer's words and for the eight numbers of a file's contents
 abbrev pub hasContentsRoom : List ℕ → List ℕ → Bool

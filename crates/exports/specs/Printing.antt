@@ -5,12 +5,13 @@ use mathlib.Core.Path.{_≡_}
 use Prim.Native.Nat.{ℕ}
 use lib.Dec.{leb}
 use lib.ListN.{length}
+use Rattle.program_text.specs.Report.{longestText}
 use Rattle.math.specs.Lists.{over}
 use Rattle.program.specs.Program.{printed}
 
--- whether there is room for the longest text
+-- whether there is room for every text
 abbrev pub hasTextRoom : List ℕ → Bool
-hasTextRoom out = leb 312 (length out)
+hasTextRoom out = leb longestText (length out)
 
 -- "The program `nearest`" for a caller in another language: with room, what it prints and how many bytes that is;
 -- without, nothing changes

@@ -5,26 +5,25 @@ use mathlib.Core.Path.{_≡_}
 use Prim.Native.Nat.{ℕ}
 use lib.Dec.{leb}
 use lib.ListN.{length}
+use Rattle.formula.specs.Limits.{maxImages}
+use Rattle.point_slices.specs.Slices.{ClauseSlices}
 use Rattle.math.specs.Lists.{over}
-use Rattle.dimacs_format.specs.Reader.{readReply, readFormula, readPositive, readNegative}
+use Rattle.dimacs_format.specs.Reader.{readReply, readFormula, readClauses}
 use Rattle.export_words.specs.Words.{wordsOf, hasRoom, numbersOf}
 
 -- whether there is room for an answer's words and for a formula's numbers and images
 abbrev pub hasFormulaRoom : List ℕ → List ℕ → List ℕ → Bool
-hasFormulaRoom numbers images reply = hasRoom reply && hasRoom numbers && leb 1024 (length images)
+hasFormulaRoom numbers images reply = hasRoom reply && hasRoom numbers && leb maxImages (length images)
 
 -- D2.1 for a caller in another language: with room for the answer, it, the formula and the clause slices are the
 -- reader's; without, nothing changes
-pub record ReadReturns (text positive₀ negative₀ numbers₀ images₀ reply₀ : List ℕ) (r : ℕ)
-    (positive₁ negative₁ numbers₁ images₁ reply₁ : List ℕ) : Type 0 where
+pub record ReadReturns (text : List ℕ) (clauses₀ : ClauseSlices) (numbers₀ images₀ reply₀ : List ℕ) (r : ℕ)
+    (clauses₁ : ClauseSlices) (numbers₁ images₁ reply₁ : List ℕ) : Type 0 where
   pub returned : r ≡ cond (hasFormulaRoom numbers₀ images₀ reply₀) 1 0
   pub reply : reply₁ ≡ cond (hasFormulaRoom numbers₀ images₀ reply₀)
-      (over (wordsOf (readReply text positive₀ negative₀)) reply₀) reply₀
+      (over (wordsOf (readReply text clauses₀)) reply₀) reply₀
   pub numbers : numbers₁ ≡ cond (hasFormulaRoom numbers₀ images₀ reply₀)
-      (over (numbersOf (readFormula text positive₀ negative₀)) numbers₀) numbers₀
+      (over (numbersOf (readFormula text clauses₀)) numbers₀) numbers₀
   pub images : images₁ ≡ cond (hasFormulaRoom numbers₀ images₀ reply₀)
-      (over (readFormula text positive₀ negative₀ .images) images₀) images₀
-  pub positive : positive₁ ≡ cond (hasFormulaRoom numbers₀ images₀ reply₀) (readPositive text positive₀ negative₀)
-      positive₀
-  pub negative : negative₁ ≡ cond (hasFormulaRoom numbers₀ images₀ reply₀) (readNegative text positive₀ negative₀)
-      negative₀
+      (over (readFormula text clauses₀ .images) images₀) images₀
+  pub clauses : clauses₁ ≡ cond (hasFormulaRoom numbers₀ images₀ reply₀) (readClauses text clauses₀) clauses₀

@@ -10,6 +10,7 @@ use export_words::formula_from;
 use export_words::put_entry;
 use export_words::put_opened;
 use export_words::put_verdict;
+ghost use Rattle.point_slices.specs.Slices.{clauseSlices};
 ghost use Rattle.certificate.specs.Bytes.{pointWidth, numberWidth};
 ghost use Rattle.certificate.specs.Certificate.{numberAt, imageAt};
 ghost use Rattle.export_words.specs.Words.{formulaFrom};
@@ -30,7 +31,7 @@ pub extern "C" fn jugbowo_check(
     reply: &mut [u64],
 ) -> u32
     ensures { λ r. ⌜ CheckReturns (formulaFrom variables clauses target permutations (now (images .entry)))
-        (now (positive .entry)) (now (negative .entry)) (now (file .entry)) (now (reply .entry)) r
+        (clauseSlices (now (positive .entry)) (now (negative .entry))) (now (file .entry)) (now (reply .entry)) r
         (now (reply .exit)) ⌝ }
 {
     if reply.len() < WORDS {

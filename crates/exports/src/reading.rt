@@ -4,6 +4,7 @@ use export_words::WORDS;
 use export_words::put_formula;
 use export_words::put_parse;
 use formula::Formula;
+ghost use Rattle.point_slices.specs.Slices.{clauseSlices};
 ghost use Rattle.exports.specs.Reading.{ReadReturns};
 
 // The reader, its answer put into the first four words of `reply`, beside the formula: its four numbers in `numbers`,
@@ -18,9 +19,10 @@ pub extern "C" fn jugbowo_read(
     images: &mut [u8],
     reply: &mut [u64],
 ) -> u32
-    ensures { λ r. ⌜ ReadReturns (now (text .entry)) (now (positive .entry)) (now (negative .entry))
+    ensures { λ r. ⌜ ReadReturns (now (text .entry)) (clauseSlices (now (positive .entry)) (now (negative .entry)))
         (now (numbers .entry)) (now (images .entry)) (now (reply .entry)) r
-        (now (positive .exit)) (now (negative .exit)) (now (numbers .exit)) (now (images .exit)) (now (reply .exit)) ⌝ }
+        (clauseSlices (now (positive .exit)) (now (negative .exit))) (now (numbers .exit)) (now (images .exit))
+        (now (reply .exit)) ⌝ }
 {
     if reply.len() < WORDS {
         return 0;
@@ -28,7 +30,7 @@ pub extern "C" fn jugbowo_read(
     if numbers.len() < WORDS {
         return 0;
     }
-    if images.len() < Formula::IMAGES {
+    if images.len() < Formula::MAX_IMAGES {
         return 0;
     }
     let r = read(text, positive, negative);

@@ -1,8 +1,10 @@
 // The search as an exported function.
 use export_words::WORDS;
 use export_words::formula_from;
-use export_words::put_outcome;
+use export_words::put_found;
+use points::Depth;
 use search::search;
+ghost use Rattle.point_slices.specs.Slices.{clauseSlices, slotSlices};
 ghost use Rattle.export_words.specs.Words.{formulaFrom};
 ghost use Rattle.exports.specs.Searching.{SearchReturns};
 
@@ -19,19 +21,19 @@ pub extern "C" fn jugbowo_search(
     negative: &[u64],
     points: &mut [u64],
     falsified: &mut [u32],
-    depths: &mut [u32],
+    depths: &mut [Depth],
     reply: &mut [u64],
 ) -> u32
     ensures { λ r. ⌜ SearchReturns (formulaFrom variables clauses target permutations (now (images .entry)))
-        (now (positive .entry)) (now (negative .entry)) (now (points .entry)) (now (falsified .entry))
-        (now (depths .entry)) (now (reply .entry)) r (now (points .exit)) (now (falsified .exit)) (now (depths .exit))
-        (now (reply .exit)) ⌝ }
+        (clauseSlices (now (positive .entry)) (now (negative .entry)))
+        (slotSlices (now (points .entry)) (now (falsified .entry)) (now (depths .entry))) (now (reply .entry)) r
+        (slotSlices (now (points .exit)) (now (falsified .exit)) (now (depths .exit))) (now (reply .exit)) ⌝ }
 {
     if reply.len() < WORDS {
         return 0;
     }
     let f = formula_from(variables, clauses, target, permutations, images);
     let r = search(f, positive, negative, points, falsified, depths);
-    put_outcome(reply, r);
+    put_found(reply, r);
     1
 }

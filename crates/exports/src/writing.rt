@@ -3,6 +3,8 @@ use certificate_writer::write;
 use export_words::WORDS;
 use export_words::formula_from;
 use export_words::put_written;
+use points::Depth;
+ghost use Rattle.point_slices.specs.Slices.{clauseSlices, slotSlices};
 ghost use Rattle.export_words.specs.Words.{formulaFrom};
 ghost use Rattle.exports.specs.Writing.{WriteReturns};
 
@@ -19,14 +21,15 @@ pub extern "C" fn jugbowo_write(
     negative: &[u64],
     points: &[u64],
     falsified: &[u32],
-    depths: &[u32],
+    depths: &[Depth],
     filled: u32,
     out: &mut [u8],
     reply: &mut [u64],
 ) -> u32
     ensures { λ r. ⌜ WriteReturns (formulaFrom variables clauses target permutations (now (images .entry)))
-        (now (positive .entry)) (now (negative .entry)) (now (points .entry)) (now (falsified .entry))
-        (now (depths .entry)) filled (now (out .entry)) (now (reply .entry)) r (now (out .exit)) (now (reply .exit)) ⌝ }
+        (clauseSlices (now (positive .entry)) (now (negative .entry)))
+        (slotSlices (now (points .entry)) (now (falsified .entry)) (now (depths .entry))) filled (now (out .entry))
+        (now (reply .entry)) r (now (out .exit)) (now (reply .exit)) ⌝ }
 {
     if reply.len() < WORDS {
         return 0;

@@ -7,6 +7,7 @@ use lib.Dec.{leb, ltb, eqb}
 use lib.ListN.{length}
 use Rattle.math.specs.Lists.{_∈_, all, firstFailing}
 use Rattle.points.specs.Points.{Numbered}
+use Rattle.point_slices.specs.Slices.{ClauseSlices}
 use Rattle.permutation_theory.specs.Permutations.{Permutation, isPermutation, keeps}
 use Rattle.formula.specs.declared.Checked.{Checked}
 use Rattle.formula.specs.declared.Checked.the-variants.{Passed, Refused}
@@ -21,33 +22,33 @@ unfolding all
 allBelow n xs = all (λ x. ltb x (2 ^ n)) xs
 
 -- n within its limits, and each rule slice C long, C at most 4,096, with no bit above n
-pub record Fits (n m : ℕ) (positive negative : List ℕ) : Type 0 where
+pub record Fits (n m : ℕ) (clauses : ClauseSlices) : Type 0 where
   pub some-variable : 1 ≤ n
   pub few-variables : n ≤ maxVariables
   pub few-clauses : m ≤ maxClauses
-  pub positive-length : length positive ≡ m
-  pub negative-length : length negative ≡ m
-  pub positive-below : (s : ℕ) → s ∈ positive → s < 2 ^ n
-  pub negative-below : (s : ℕ) → s ∈ negative → s < 2 ^ n
+  pub positive-length : length (clauses .positive) ≡ m
+  pub negative-length : length (clauses .negative) ≡ m
+  pub positive-below : (s : ℕ) → s ∈ clauses .positive → s < 2 ^ n
+  pub negative-below : (s : ℕ) → s ∈ clauses .negative → s < 2 ^ n
 
 -- the same, computed
-unfoldable pub fits : ℕ → ℕ → List ℕ → List ℕ → Bool
+unfoldable pub fits : ℕ → ℕ → ClauseSlices → Bool
 unfolding allBelow
-fits n m positive negative =
-    leb 1 n && leb n maxVariables && leb m maxClauses && eqb (length positive) m && eqb (length negative) m
-    && allBelow n positive && allBelow n negative
+fits n m clauses =
+    leb 1 n && leb n maxVariables && leb m maxClauses && eqb (length (clauses .positive)) m
+    && eqb (length (clauses .negative)) m && allBelow n (clauses .positive) && allBelow n (clauses .negative)
 
 -- R10 without the target, for the checker: "n outside its limits, rule lengths (unequal to C, over 4,096), a bit above
 -- n | 10 | 0"
-unfoldable pub clausesFault : Formula → List ℕ → List ℕ → Fault
+unfoldable pub clausesFault : Formula → ClauseSlices → Fault
 unfolding fits
-clausesFault f positive negative = cond (fits (f .variables) (f .clauses) positive negative) no-fault (fault 10 0)
+clausesFault f clauses = cond (fits (f .variables) (f .clauses) clauses) no-fault (fault 10 0)
 
 -- R10 whole: the target has no bit above n either
-unfoldable pub formulaFault : Formula → List ℕ → List ℕ → Fault
+unfoldable pub formulaFault : Formula → ClauseSlices → Fault
 unfolding fits
-formulaFault f positive negative =
-    cond (fits (f .variables) (f .clauses) positive negative && ltb (f .target) (2 ^ f .variables)) no-fault
+formulaFault f clauses =
+    cond (fits (f .variables) (f .clauses) clauses && ltb (f .target) (2 ^ f .variables)) no-fault
     (fault 10 0)
 
 -- R11: "over 16 exchanges, or no permutation | 11 | its number; 17 if too many, tested first"
@@ -62,11 +63,11 @@ unfolding firstFailing keeps faultAt
 symmetryFault cs es = faultAt 12 (firstFailing (keeps cs) es)
 
 -- the rows 10, 11 and 12 in this order, which the search and the writer test first
-unfoldable pub problemFault : Formula → List ℕ → List ℕ → Fault
+unfoldable pub problemFault : Formula → ClauseSlices → Fault
 unfolding first formulaFault permutationFault symmetryFault problemOf
-problemFault f positive negative =
-    let pb = problemOf f positive negative in
-    first (formulaFault f positive negative ∷ permutationFault (pb .variables) (pb .permutations)
+problemFault f clauses =
+    let pb = problemOf f clauses in
+    first (formulaFault f clauses ∷ permutationFault (pb .variables) (pb .permutations)
     ∷ symmetryFault (pb .clauses) (pb .permutations) ∷ [])
 
 -- F10: what the code's answer of a test means

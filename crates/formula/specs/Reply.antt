@@ -20,6 +20,17 @@ pub data Reply : Type 0 where
   -- the certificate is accepted
   accepted : Reply
 
+-- the point that a reply hands back, 0 where it has none
+unfoldable pub pointIn : Reply → ℕ
+pointIn (satisfiable x d filled) = x
+pointIn (refused code place) = 0
+pointIn (unsatisfiable filled) = 0
+pointIn (unknown b filled) = 0
+pointIn parsed = 0
+pointIn (written size) = 0
+pointIn opened = 0
+pointIn accepted = 0
+
 -- what one test finds: nothing, or a refusal's number and place
 pub data Fault : Type 0 where
   no-fault : Fault
@@ -41,7 +52,8 @@ unfoldable pub unless : Fault → Reply → Reply
 unless no-fault r = r
 unless (fault code place) r = refused code place
 
--- D1.2, N1: "Every row leaves all lent slices unchanged"
-unfoldable pub unlessKept : Fault → List ℕ → List ℕ → List ℕ
-unlessKept no-fault new old = new
-unlessKept (fault code place) new old = old
+module _ {A : Type 0} where
+  -- D1.2, N1: "Every row leaves all lent slices unchanged"
+  unfoldable pub unlessKept : Fault → A → A → A
+  unlessKept no-fault new old = new
+  unlessKept (fault code place) new old = old

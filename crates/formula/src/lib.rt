@@ -13,7 +13,7 @@ pub struct Formula {
     pub clauses: u32,
     pub target: Point,
     pub permutations: u32,
-    pub images: [u8; Formula::IMAGES],
+    pub images: [u8; Formula::MAX_IMAGES],
 }
 
 // What a test of an entry point finds: nothing, or a refusal's number and its place.
@@ -31,8 +31,10 @@ impl Formula {
     pub const MAX_PERMUTATIONS: u32 = 16;
 
     pub const MAX_SLOTS: u32 = 65536;
+
     // Bytes for the images of the most permutations of the most variables.
-    pub const IMAGES: usize = 1024;
+    pub const MAX_IMAGES: usize = Formula::MAX_PERMUTATIONS as usize
+        * Formula::MAX_VARIABLES as usize;
 
     // F5, N2: the formula that is 0 throughout, which a refusal carries.
     pub fn empty() -> Formula
@@ -41,9 +43,9 @@ impl Formula {
         Formula {
             variables: 0,
             clauses: 0,
-            target: 0,
+            target: points::EMPTY,
             permutations: 0,
-            images: [0u8; Formula::IMAGES],
+            images: [0u8; Formula::MAX_IMAGES],
         }
     }
 }

@@ -12,9 +12,10 @@ ghost use Prim.Native.Nat.{_*_, _≤_};
 ghost use lib.ListN.{length};
 ghost use Rattle.math.specs.Lists.{firstFailing};
 ghost use Rattle.points.specs.Points.{numbered};
-ghost use Rattle.point_slices.specs.Slices.{pointsOf, clausesOf};
+ghost use Rattle.point_slices.specs.Slices.{pointsOf, clausesOf, clauseSlices};
 ghost use Rattle.permutation_images.specs.Laws.Contracts.{Listed};
 ghost use Rattle.permutation_theory.specs.Permutations.{isPermutation, keeps, permutationsIn};
+ghost use Rattle.formula.specs.Limits.{maxVariables, maxPermutations};
 ghost use Rattle.formula.specs.Refusals.{allBelow, fits, clausesFault, formulaFault, permutationFault};
 ghost use Rattle.formula.specs.Refusals.{symmetryFault, problemFault, faultOf};
 
@@ -36,7 +37,7 @@ fn all_below(xs: &[u64], n: u32) -> bool
 
 // Whether n is within its limits, and both clause slices are as long as they should be and have no bit at n or above.
 fn fits(n: u32, clauses: u32, positive: &[u64], negative: &[u64]) -> bool
-    ensures { λ r. ⌜ r ≡ fits n clauses (now (positive .entry)) (now (negative .entry)) ⌝ }
+    ensures { λ r. ⌜ r ≡ fits n clauses (clauseSlices (now (positive .entry)) (now (negative .entry))) ⌝ }
 {
     if n < 1 {
         return false;
@@ -63,7 +64,7 @@ fn fits(n: u32, clauses: u32, positive: &[u64], negative: &[u64]) -> bool
 
 // Refusal 10 without the target.
 pub fn clauses_refusal(f: Formula, positive: &[u64], negative: &[u64]) -> Checked
-    ensures { λ r. ⌜ faultOf r ≡ clausesFault f (now (positive .entry)) (now (negative .entry)) ⌝ }
+    ensures { λ r. ⌜ faultOf r ≡ clausesFault f (clauseSlices (now (positive .entry)) (now (negative .entry))) ⌝ }
 {
     if fits(f.variables, f.clauses, positive, negative) {
         Checked::Passed
@@ -74,7 +75,7 @@ pub fn clauses_refusal(f: Formula, positive: &[u64], negative: &[u64]) -> Checke
 
 // Refusal 10.
 pub fn formula_refusal(f: Formula, positive: &[u64], negative: &[u64]) -> Checked
-    ensures { λ r. ⌜ faultOf r ≡ formulaFault f (now (positive .entry)) (now (negative .entry)) ⌝ }
+    ensures { λ r. ⌜ faultOf r ≡ formulaFault f (clauseSlices (now (positive .entry)) (now (negative .entry))) ⌝ }
 {
     if fits(f.variables, f.clauses, positive, negative) {
         if points::below(f.target, f.variables) {
@@ -87,7 +88,7 @@ pub fn formula_refusal(f: Formula, positive: &[u64], negative: &[u64]) -> Checke
 // The number, from 1, of the first of the listed that is no permutation; 0 if all are. Refusals 10 and 11 see to what
 // it requires.
 fn first_non_permutation(images: &[u8], n: u32, permutations: u32) -> usize
-    requires { ⌜ (n ≤ 64) × (permutations * n ≤ length (now images)) ⌝ }
+    requires { ⌜ (n ≤ maxVariables) × (permutations * n ≤ length (now images)) ⌝ }
     ensures { λ r. ⌜ r ≡ firstFailing (isPermutation n) (permutationsIn n permutations (now (images .entry))) ⌝ }
 {
     let size = n as usize;
@@ -106,7 +107,7 @@ fn first_non_permutation(images: &[u8], n: u32, permutations: u32) -> usize
 
 // Refusal 11, of `permutations` permutations of n bytes each. Refusal 10, or 15, sees to what it requires.
 pub fn permutations_refusal(images: &[u8], n: u32, permutations: u32) -> Checked
-    requires { ⌜ (n ≤ 64) × (permutations ≤ 16 → permutations * n ≤ length (now images)) ⌝ }
+    requires { ⌜ (n ≤ maxVariables) × (permutations ≤ maxPermutations → permutations * n ≤ length (now images)) ⌝ }
     ensures { λ r. ⌜ faultOf r ≡ permutationFault n (permutationsIn n permutations (now (images .entry))) ⌝ }
 {
     if Formula::MAX_PERMUTATIONS < permutations {
@@ -134,7 +135,8 @@ fn first_non_symmetry(
     negative: &[u64],
 ) -> usize
     requires { ⌜ Listed n permutations (now images) ⌝ }
-    ensures { λ r. ⌜ r ≡ firstFailing (keeps (numbered (clausesOf (now (positive .entry)) (now (negative .entry)))))
+    ensures { λ r. ⌜ r ≡ firstFailing (keeps (numbered
+        (clausesOf (clauseSlices (now (positive .entry)) (now (negative .entry))))))
         (permutationsIn n permutations (now (images .entry))) ⌝ }
 {
     let size = n as usize;
@@ -160,7 +162,8 @@ fn guessed_non_symmetry(
     negative: &[u64],
 ) -> usize
     requires { ⌜ Listed n permutations (now images) ⌝ }
-    ensures { λ r. ⌜ r ≡ firstFailing (keeps (numbered (clausesOf (now (positive .entry)) (now (negative .entry)))))
+    ensures { λ r. ⌜ r ≡ firstFailing (keeps (numbered
+        (clausesOf (clauseSlices (now (positive .entry)) (now (negative .entry))))))
         (permutationsIn n permutations (now (images .entry))) ⌝ }
 {
     let mut guesses = [0u32; ENTRIES];
@@ -179,7 +182,8 @@ pub fn symmetry_refusal(
     negative: &[u64],
 ) -> Checked
     requires { ⌜ Listed n permutations (now images) ⌝ }
-    ensures { λ r. ⌜ faultOf r ≡ symmetryFault (numbered (clausesOf (now (positive .entry)) (now (negative .entry))))
+    ensures { λ r. ⌜ faultOf r ≡ symmetryFault (numbered
+        (clausesOf (clauseSlices (now (positive .entry)) (now (negative .entry)))))
         (permutationsIn n permutations (now (images .entry))) ⌝ }
 {
     if permutations < 1 {
@@ -195,7 +199,7 @@ pub fn symmetry_refusal(
 
 // Refusals 10, 11 and 12, in this order.
 pub fn problem_refusal(f: Formula, positive: &[u64], negative: &[u64]) -> Checked
-    ensures { λ r. ⌜ faultOf r ≡ problemFault f (now (positive .entry)) (now (negative .entry)) ⌝ }
+    ensures { λ r. ⌜ faultOf r ≡ problemFault f (clauseSlices (now (positive .entry)) (now (negative .entry))) ⌝ }
 {
     let ten = formula_refusal(f, positive, negative);
     let Checked::Passed = ten else {

@@ -9,3 +9,4 @@ pub mod CountLaws
 pub mod QueueLaws
 pub mod OverLaws
 pub mod SpliceLaws
+pub mod NumeralLaws

@@ -6,9 +6,12 @@
 use libc::STDERR_FILENO;
 use libc::STDIN_FILENO;
 use libc::STDOUT_FILENO;
+use program::MAX_INPUT;
 use program::answer;
+use program_text::LONGEST;
 ghost use Prim.Native.Nat.{_≤_};
 ghost use lib.ListN.{length};
+ghost use Rattle.program_text.specs.Report.{longestText};
 
 // How many bytes were read, and whether a read failed.
 struct Got {
@@ -54,7 +57,7 @@ fn read_input(buffer: &mut [u8]) -> Got
 
 // Answers the input, with the two arrays of `main` lent. A write that fails is told on standard error.
 fn respond(input: &mut [u8], out: &mut [u8])
-    requires { ⌜ 312 ≤ length (now out) ⌝ }
+    requires { ⌜ longestText ≤ length (now out) ⌝ }
 {
     let got = read_input(input);
     if got.failed {
@@ -69,9 +72,9 @@ fn respond(input: &mut [u8], out: &mut [u8])
     }
 }
 
-// One byte more than a sheet may have, so that a longer one is seen, and the bytes that the longest text takes.
+// One byte more than a sheet may have, so that a longer one is seen, and as many bytes as bound every text.
 fn main() {
-    let mut input = [0u8; 65537];
-    let mut out = [0u8; 312];
+    let mut input = [0u8; MAX_INPUT + 1];
+    let mut out = [0u8; LONGEST];
     respond(&mut input, &mut out);
 }

@@ -13,9 +13,16 @@ ghost use Rattle.point_slices.specs.Slices.{pointsOf};
 ghost use Rattle.permutation_theory.specs.Permutations.{covered, permutationsIn};
 ghost use Rattle.permutation_coverage.specs.Laws.Coverage.{Permuting, Imaged, Coverable, Turns, Sends};
 
+// What a look-up goes by: the number of variables and of permutations, and the heads of the index.
+pub struct Lookup {
+    pub variables: u32,
+    pub permutations: u32,
+    pub heads: usize,
+}
+
 // The image stored at index i, flipped where the permutation of index i sends variable v: the image of the flipped
 // point (`image-flip`).
-fn flipped_image(moved: &[u64], images: &[u8], n: u32, i: usize, v: u32) -> Point
+fn flipped_image(images: &[u8], n: u32, moved: &[u64], i: usize, v: u32) -> Point
     requires { ⌜ Sends n i v (now images) ⌝ }
     ensures { λ r. ⌜ r ≡ flip (getD (pointsOf (now (moved .entry))) i 0) (getD (now (images .entry)) (i * n + v) 0 - 1)
         ⌝ }
@@ -27,15 +34,15 @@ fn flipped_image(moved: &[u64], images: &[u8], n: u32, i: usize, v: u32) -> Poin
 }
 
 // Turns the images of a point into those of the point with variable v flipped: one step for each permutation.
-fn flip_images(moved: &mut [u64], images: &[u8], n: u32, permutations: u32, v: u32)
-    requires { ⌜ Permuting n permutations (now images) × (permutations ≤ length (now moved)) × (v < n) ⌝ }
+fn flip_images(images: &[u8], n: u32, permutations: u32, moved: &mut [u64], v: u32)
+    requires { ⌜ Permuting n permutations (now images) × (permutations ≤ length (pointsOf (now moved))) × (v < n) ⌝ }
     ensures { λ _. ⌜ Turns n permutations (now (images .entry)) v (pointsOf (now (moved .entry)))
         (pointsOf (now (moved .exit))) ⌝ }
 {
     let permutations = permutations as usize;
     let mut i = 0;
     while i < permutations {
-        let image = flipped_image(moved, images, n, i, v);
+        let image = flipped_image(images, n, moved, i, v);
         put_point(moved, i, image);
         i += 1;
     }
@@ -43,7 +50,7 @@ fn flip_images(moved: &mut [u64], images: &[u8], n: u32, permutations: u32, v: u
 
 // Turns the images of x into those of y: one step for each permutation and each variable in which they differ, which
 // are two where both were filled from one point.
-pub fn move_images(moved: &mut [u64], images: &[u8], n: u32, permutations: u32, x: Point, y: Point)
+pub fn move_images(images: &[u8], n: u32, permutations: u32, moved: &mut [u64], x: Point, y: Point)
     requires { ⌜ Permuting n permutations (now images) × Imaged n permutations (now images) x (pointsOf (now moved))
         × (y < 2 ^ n) ⌝ }
     ensures { λ _. ⌜ Imaged n permutations (now (images .entry)) y (pointsOf (now (moved .exit))) ⌝ }
@@ -51,7 +58,7 @@ pub fn move_images(moved: &mut [u64], images: &[u8], n: u32, permutations: u32, 
     let mut left = points::differing(x, y);
     let mut v = points::next_variable(left);
     while v < n {
-        flip_images(moved, images, n, permutations, v);
+        flip_images(images, n, permutations, moved, v);
         left = points::flip(left, v);
         v = points::next_variable(left);
     }
@@ -61,31 +68,30 @@ pub fn move_images(moved: &mut [u64], images: &[u8], n: u32, permutations: u32, 
 // `moved` holds the images of x. At most permutations + 1 look-ups, each of at most n + 1 comparisons, and one step for
 // each image.
 pub fn flip_covered(
-    links: &[u32],
-    heads: usize,
-    points: &[u64],
-    n: u32,
-    k: usize,
+    g: Lookup,
     images: &[u8],
-    permutations: u32,
+    points: &[u64],
+    links: &[u32],
     moved: &[u64],
+    k: usize,
     x: Point,
     v: u32,
 ) -> bool
-    requires { ⌜ Coverable heads n k (pointsOf (now points)) (now links) permutations (now images)
-        (pointsOf (now moved)) x × (v < n) ⌝ }
-    ensures { λ r. ⌜ r ≡ covered (permutationsIn n permutations (now (images .entry)))
+    requires { ⌜ Coverable (g .heads) (g .variables) k (pointsOf (now points)) (now links) (g .permutations)
+        (now images) (pointsOf (now moved)) x × (v < g .variables) ⌝ }
+    ensures { λ r. ⌜ r ≡ covered (permutationsIn (g .variables) (g .permutations) (now (images .entry)))
         (take k (pointsOf (now (points .entry)))) (flip x v) ⌝ }
 {
+    let n = g.variables;
     let flipped = points::flip(x, v);
-    if contains(links, heads, points, n, k, flipped) {
+    if contains(n, points, links, g.heads, k, flipped) {
         return true;
     }
-    let permutations = permutations as usize;
+    let permutations = g.permutations as usize;
     let mut i = 0;
     while i < permutations {
-        let image = flipped_image(moved, images, n, i, v);
-        if contains(links, heads, points, n, k, image) {
+        let image = flipped_image(images, n, moved, i, v);
+        if contains(n, points, links, g.heads, k, image) {
             return true;
         }
         i += 1;

@@ -5,6 +5,7 @@ use points::Point;
 ghost use mathlib.Core.Path.{_≡_};
 ghost use Prim.Native.Nat.{_+_, _*_, _≤_};
 ghost use lib.ListN.{length, take, drop};
+ghost use Rattle.points.specs.Points.{pointDigits};
 ghost use Rattle.points.specs.Laws.Contracts.{clauseOf};
 ghost use Rattle.permutation_theory.specs.Permutations.{isPermutation, moved, imageOfPoint, imageOfClause};
 ghost use Rattle.permutation_images.specs.Laws.Contracts.{Movable, fresh};
@@ -22,15 +23,15 @@ fn fresh(seen: Point, v: u32, n: u32) -> bool
     !points::member(seen, v - 1)
 }
 
-// Whether the bytes are each of 1 to n exactly once. One step a byte. At most 64 variables: refusal 10 sees to it.
+// Whether the bytes are each of 1 to n exactly once. One step a byte. Refusal 10 sees to it that a point has n digits.
 pub fn is_permutation(e: &[u8], n: u32) -> bool
-    requires { ⌜ n ≤ 64 ⌝ }
+    requires { ⌜ n ≤ pointDigits ⌝ }
     ensures { λ r. ⌜ r ≡ isPermutation n (record { images = now (e .entry) }) ⌝ }
 {
     if e.len() != n as usize {
         return false;
     }
-    let mut seen: Point = 0;
+    let mut seen = points::EMPTY;
     let mut i = 0;
     while i < e.len() {
         let v = e[i] as u32;
@@ -48,7 +49,7 @@ pub fn moved(e: &[u8], s: Point) -> Point
     requires { ⌜ Movable (now e) ⌝ }
     ensures { λ r. ⌜ r ≡ moved (now (e .entry)) s ⌝ }
 {
-    let mut r: Point = 0;
+    let mut r = points::EMPTY;
     let mut i = e.len();
     while 0 < i {
         i -= 1;

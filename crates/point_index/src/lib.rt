@@ -45,9 +45,10 @@ fn child_of(heads: usize, j: usize, x: Point, d: u32) -> usize
 }
 
 // Looks x up among the first k points: at most n + 1 comparisons.
-pub fn find(links: &[u32], heads: usize, points: &[u64], n: u32, k: usize, x: Point) -> Spot
+pub fn find(n: u32, points: &[u64], links: &[u32], heads: usize, k: usize, x: Point) -> Spot
     requires { ⌜ Askable heads n (take k (pointsOf (now points))) (now links) x ⌝ }
-    ensures { λ r. ⌜ Ends heads n (take k (pointsOf (now (points .entry)))) (now (links .entry)) x (r .held) (r .link) ⌝ }
+    ensures { λ r. ⌜ Ends heads n (take k (pointsOf (now (points .entry)))) (now (links .entry)) x (r .held) (r .link)
+        ⌝ }
 {
     let mut link = head_of(x, heads);
     let mut depth = 0;
@@ -73,22 +74,22 @@ pub fn find(links: &[u32], heads: usize, points: &[u64], n: u32, k: usize, x: Po
 }
 
 // Whether x is among the first k points: at most n + 1 comparisons.
-pub fn contains(links: &[u32], heads: usize, points: &[u64], n: u32, k: usize, x: Point) -> bool
+pub fn contains(n: u32, points: &[u64], links: &[u32], heads: usize, k: usize, x: Point) -> bool
     requires { ⌜ Askable heads n (take k (pointsOf (now points))) (now links) x ⌝ }
     ensures { λ r. ⌜ r ≡ has x (take k (pointsOf (now (points .entry)))) ⌝ }
 {
-    let found = find(links, heads, points, n, k, x);
+    let found = find(n, points, links, heads, k, x);
     found.held
 }
 
 // Adds x behind the first k points, where the caller stores it, and answers whether it was among them; then nothing is
 // stored. At most n + 1 comparisons, and one store.
-pub fn add(links: &mut [u32], heads: usize, points: &[u64], n: u32, k: usize, x: Point) -> bool
+pub fn add(n: u32, points: &[u64], links: &mut [u32], heads: usize, k: usize, x: Point) -> bool
     requires { ⌜ Addable heads n k (pointsOf (now points)) (now links) x ⌝ }
     ensures { λ r. ⌜ Adds heads n (take k (pointsOf (now (points .entry)))) (now (links .entry)) x r (now (links .exit))
         ⌝ }
 {
-    let spot = find(links, heads, points, n, k, x);
+    let spot = find(n, points, links, heads, k, x);
     if spot.held {
         return true;
     }

@@ -1,13 +1,14 @@
 // Points, clauses and numbers in lent slices. A slice of points has one word a point, and the clauses lie in two
-// parallel slices.
+// parallel slices. Outside this crate no index is a place of a word in a slice of points.
 use points::Clause;
 use points::Point;
+ghost use mathlib.Core.List.{[]};
 ghost use mathlib.Core.Path.{_≡_};
-ghost use Prim.Native.Nat.{min};
-ghost use lib.ListN.{length, getD, set};
+ghost use Prim.Native.Nat.{min, _≤_};
+ghost use lib.ListN.{length, getD, set, take};
 ghost use Rattle.points.specs.Laws.Contracts.{clauseOf};
 ghost use Rattle.points.specs.Points.{firstFalsified, numbered, numberOf};
-ghost use Rattle.point_slices.specs.Slices.{pointsOf, clausesOf, noLiterals};
+ghost use Rattle.point_slices.specs.Slices.{pointsOf, restOf, clauseSlices, clausesOf, noLiterals};
 
 // How many points a slice holds.
 pub fn point_count(points: &[u64]) -> usize
@@ -20,16 +21,29 @@ pub fn point_count(points: &[u64]) -> usize
 pub fn point_at(points: &[u64], i: usize) -> Point
     ensures { λ r. ⌜ r ≡ getD (pointsOf (now (points .entry))) i 0 ⌝ }
 {
-    if i < points.len() { points[i] } else { 0 }
+    if i < points.len() {
+        points[i]
+    } else {
+        points::EMPTY
+    }
 }
 
 // Stores a point at index i; past the end nothing is stored.
 pub fn put_point(points: &mut [u64], i: usize, x: Point)
-    ensures { λ _. ⌜ pointsOf (now (points .exit)) ≡ set (pointsOf (now (points .entry))) i x ⌝ }
+    ensures { λ _. ⌜ (pointsOf (now (points .exit)) ≡ set (pointsOf (now (points .entry))) i x)
+        × (restOf (now (points .exit)) ≡ restOf (now (points .entry))) ⌝ }
 {
     if i < points.len() {
         points[i] = x;
     }
+}
+
+// The part of a slice that holds its first k points. Callers have seen to it that there are so many.
+pub fn first_points(points: &[u64], k: usize) -> &[u64]
+    requires { ⌜ k ≤ length (pointsOf (now points)) ⌝ }
+    ensures { λ r. ⌜ (pointsOf (now r) ≡ take k (pointsOf (now (points .entry)))) × (restOf (now r) ≡ []) ⌝ }
+{
+    &points[0..k]
 }
 
 // The number at index i, 0 past the end.
@@ -57,25 +71,26 @@ pub fn least(a: usize, b: usize) -> usize
 
 // How many clauses two parallel slices hold.
 pub fn clause_count(positive: &[u64], negative: &[u64]) -> usize
-    ensures { λ r. ⌜ r ≡ length (clausesOf (now (positive .entry)) (now (negative .entry))) ⌝ }
+    ensures { λ r. ⌜ r ≡ length (clausesOf (clauseSlices (now (positive .entry)) (now (negative .entry)))) ⌝ }
 {
     least(positive.len(), negative.len())
 }
 
 // The clause at index i, the one without literals past the end.
 pub fn clause_at(positive: &[u64], negative: &[u64], i: usize) -> Clause
-    ensures { λ r. ⌜ clauseOf r ≡ getD (clausesOf (now (positive .entry)) (now (negative .entry))) i noLiterals ⌝ }
+    ensures { λ r. ⌜ clauseOf r ≡ getD (clausesOf (clauseSlices (now (positive .entry)) (now (negative .entry))))
+        i noLiterals ⌝ }
 {
     if positive.len() <= i {
         return Clause {
-            positive: 0,
-            negative: 0,
+            positive: points::EMPTY,
+            negative: points::EMPTY,
         };
     }
     if negative.len() <= i {
         return Clause {
-            positive: 0,
-            negative: 0,
+            positive: points::EMPTY,
+            negative: points::EMPTY,
         };
     }
     Clause {
@@ -86,8 +101,8 @@ pub fn clause_at(positive: &[u64], negative: &[u64], i: usize) -> Clause
 
 // The number, from 1, of the first clause that the point falsifies; 0 where it satisfies all. One step a clause.
 pub fn first_falsified(positive: &[u64], negative: &[u64], x: Point) -> usize
-    ensures { λ r. ⌜ r ≡ numberOf (firstFalsified (numbered (clausesOf (now (positive .entry)) (now (negative .entry))))
-        x) ⌝ }
+    ensures { λ r. ⌜ r ≡ numberOf (firstFalsified (numbered
+        (clausesOf (clauseSlices (now (positive .entry)) (now (negative .entry))))) x) ⌝ }
 {
     let end = clause_count(positive, negative);
     let mut i = 0;

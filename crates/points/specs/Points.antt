@@ -12,6 +12,10 @@ use lib.Dec.{eqb}
 use Rattle.math.specs.Bits.{bit, members}
 use Rattle.math.specs.Lists.{_∈_, count, below}
 
+-- S2: "A choice (point) is a 64-bit number": the digits that a point has room for, apart from the limit of n
+abbrev pub pointDigits : ℕ
+pointDigits = 64
+
 -- S2: "A choice (point) is a 64-bit number: bit i−1 is 1 where name i is yes; bits n and up are 0": a point of n
 -- variables
 abbrev pub Point : ℕ → ℕ → Type 0

@@ -5,11 +5,20 @@ ghost use Prim.Native.Nat.{_<_, _*_, _/_, _%_, _^_};
 ghost use lib.Bits.{bitOr, bitXor};
 ghost use lib.Dec.{eqb, ltb};
 ghost use Rattle.math.specs.Bits.{bit, flip};
-ghost use Rattle.points.specs.Points.{satisfies, distance, listed};
+ghost use Rattle.points.specs.Points.{pointDigits, satisfies, distance, listed};
 ghost use Rattle.points.specs.Laws.Contracts.{NextVariable, clauseOf};
 
 // A point (01: choice), or a set of variables: bit i - 1 for variable i.
 pub type Point = u64;
+
+// The point of which every digit is 0; as a set the empty one.
+pub const EMPTY: Point = 0;
+
+// How many digits a point has: so many variables there can be at most, whatever the limit of n is.
+pub const DIGITS: u32 = 64;
+
+// A slot's depth: how many flips lie between the target and its point.
+pub type Depth = u32;
 
 // A clause (01: rule) by value.
 pub struct Clause {
@@ -28,7 +37,7 @@ pub fn same(x: Point, y: Point) -> bool
 pub fn below(x: Point, n: u32) -> bool
     ensures { λ r. ⌜ r ≡ ltb x (2 ^ n) ⌝ }
 {
-    if 64 <= n {
+    if DIGITS <= n {
         return true;
     }
     x >> n == 0
@@ -36,7 +45,7 @@ pub fn below(x: Point, n: u32) -> bool
 
 // The point with the variable of bit v flipped.
 pub fn flip(x: Point, v: u32) -> Point
-    requires { ⌜ v < 64 ⌝ }
+    requires { ⌜ v < pointDigits ⌝ }
     ensures { λ r. ⌜ r ≡ flip x v ⌝ }
 {
     let mask: Point = 1 << v;
@@ -47,7 +56,7 @@ pub fn flip(x: Point, v: u32) -> Point
 pub fn member(s: Point, v: u32) -> bool
     ensures { λ r. ⌜ r ≡ bit s v ⌝ }
 {
-    if 64 <= v {
+    if DIGITS <= v {
         return false;
     }
     (s >> v) % 2 == 1
@@ -55,7 +64,7 @@ pub fn member(s: Point, v: u32) -> bool
 
 // The set r, with the variable of bit v where the set s has that of bit i: one step of moving s by a permutation.
 pub fn carry(r: Point, s: Point, i: u32, v: u32) -> Point
-    requires { ⌜ (i < 64) × (v < 64) ⌝ }
+    requires { ⌜ (i < pointDigits) × (v < pointDigits) ⌝ }
     ensures { λ t. ⌜ t ≡ bitOr (s / 2 ^ i % 2 * 2 ^ v) r ⌝ }
 {
     let digit = (s >> i) % 2;
@@ -65,14 +74,14 @@ pub fn carry(r: Point, s: Point, i: u32, v: u32) -> Point
 
 // The set with the variable of bit v as well.
 pub fn with_variable(s: Point, v: u32) -> Point
-    requires { ⌜ v < 64 ⌝ }
+    requires { ⌜ v < pointDigits ⌝ }
     ensures { λ r. ⌜ r ≡ bitOr s (2 ^ v) ⌝ }
 {
     let mask: Point = 1 << v;
     s | mask
 }
 
-// F1: the lowest variable of a set, as its bit, by trailing zeros; 64 for the empty set.
+// F1: the lowest variable of a set, as its bit, by trailing zeros; `DIGITS` for the empty set.
 pub fn next_variable(s: Point) -> u32
     ensures { λ r. ⌜ NextVariable s r ⌝ }
 {
@@ -88,7 +97,7 @@ pub fn differing(x: Point, y: Point) -> Point
 
 // F1: the number of variables in which two points differ, by the count of ones.
 pub fn distance(x: Point, y: Point) -> u32
-    ensures { λ r. ⌜ r ≡ distance 64 x y ⌝ }
+    ensures { λ r. ⌜ r ≡ distance pointDigits x y ⌝ }
 {
     u64::count_ones(x ^ y)
 }

@@ -17,9 +17,9 @@ maxInput = 65536
 abbrev pub slots : ℕ
 slots = 4096
 
--- the sheet that an input is: the reader is lent two clause slices of 4,096 places
+-- the sheet that an input is: the reader is lent slices for the most clauses
 abbrev pub sheetIn : List ℕ → Sheet
-sheetIn input = from-text input blank blank
+sheetIn input = from-text input blank
 
 -- P4: "(1 and 65536 for a longer input)"
 unfoldable pub replyTo : List ℕ → Reply

@@ -2,7 +2,8 @@
 -- has what follows. Assumes nothing.
 use mathlib.Core.Bool.{Bool, true, false}
 use mathlib.Core.List.{List, [], _∷_, _++_}
-use Prim.Native.Nat.{ℕ, zero, suc, _+_}
+use Prim.Native.Nat.{ℕ, zero, suc, _+_, _*_}
+use Rattle.formula.specs.Limits.{maxVariables}
 use Rattle.math.specs.Bits.{bit}
 use Rattle.dimacs_format.specs.Text.{ascii}
 use Rattle.program_text.specs.Decimal.{lineEnd, numeral, field, line}
@@ -90,3 +91,8 @@ reportOf n parsed = []
 reportOf n (written size) = []
 reportOf n opened = []
 reportOf n accepted = []
+
+-- a bound for the text of every reply, in bytes: 15 in front of the names, four a name, 3 behind them, 38 in the last
+-- line
+abbrev pub longestText : ℕ
+longestText = 15 + 4 * maxVariables + 3 + 38

@@ -1,17 +1,24 @@
 // The text that the program prints for a reply, put into lent bytes. Callers see to the room.
 use certificate_output::put_bytes;
+use formula::Formula;
+use points::Depth;
 use points::Point;
 use points::member;
+use search::Found;
 use search::Outcome;
 ghost use mathlib.Core.List.{[], _∷_};
 ghost use Prim.Native.Nat.{_+_, _≤_, _<_, _*_};
 ghost use lib.ListN.{length};
+ghost use Rattle.formula.specs.Limits.{maxVariables};
 ghost use Rattle.program_text.specs.Decimal.{numeral, field, line};
 ghost use Rattle.program_text.specs.Laws.Putting.{Put};
-ghost use Rattle.search.specs.Contract.{replyOfOutcome};
+ghost use Rattle.search.specs.Contract.{replyOfFound};
 ghost use Rattle.program_text.specs.Report.{literal, literals, satisfiableText, unsatisfiableText, unknownText};
-ghost use Rattle.program_text.specs.Report.{refusedText, reportOf};
+ghost use Rattle.program_text.specs.Report.{refusedText, reportOf, longestText};
 ghost use Rattle.program_text.specs.Laws.Putting.{Printed};
+
+// A bound for the text of every reply, in bytes; the program's output and those who lend one have so many.
+pub const LONGEST: usize = 15 + 4 * Formula::MAX_VARIABLES as usize + 3 + 38;
 
 // Puts one digit, and answers the place behind it.
 fn put_digit(out: &mut [u8], at: usize, d: u64) -> usize
@@ -68,7 +75,7 @@ pub fn put_line(out: &mut [u8], at: usize, head: &[u8], a: u64, between: &[u8], 
 // P3: puts the name of bit i of a point, with a minus where the bit is 0. That takes four bytes at most; `put_literals`
 // sees to them.
 fn put_literal(out: &mut [u8], at: usize, x: Point, i: u32) -> usize
-    requires { ⌜ (i < 64) × (at + 4 ≤ length (now out)) ⌝ }
+    requires { ⌜ (i < maxVariables) × (at + 4 ≤ length (now out)) ⌝ }
     ensures { λ r. ⌜ Put at (literal x i) (now (out .entry)) r (now (out .exit)) ⌝ }
 {
     let name = i as u64 + 1;
@@ -81,7 +88,7 @@ fn put_literal(out: &mut [u8], at: usize, x: Point, i: u32) -> usize
 
 // P3: puts the first n names of a point, ascending. One step a name. `put_satisfiable` sees to the room.
 fn put_literals(out: &mut [u8], at: usize, x: Point, n: u32) -> usize
-    requires { ⌜ (n ≤ 64) × (at + 4 * n ≤ length (now out)) ⌝ }
+    requires { ⌜ (n ≤ maxVariables) × (at + 4 * n ≤ length (now out)) ⌝ }
     ensures { λ r. ⌜ Put at (literals x n) (now (out .entry)) r (now (out .exit)) ⌝ }
 {
     let mut place = at;
@@ -97,7 +104,7 @@ fn put_literals(out: &mut [u8], at: usize, x: Point, n: u32) -> usize
 // Puts the three lines of a point that meets all clauses. Like the three functions after it, it leaves its requirement
 // to `put_report`.
 fn put_satisfiable(out: &mut [u8], n: u32, x: Point, distance: u32, filled: u32) -> usize
-    requires { ⌜ (n ≤ 64) × (312 ≤ length (now out)) ⌝ }
+    requires { ⌜ (n ≤ maxVariables) × (longestText ≤ length (now out)) ⌝ }
     ensures { λ r. ⌜ Printed (satisfiableText n x distance filled) (now (out .entry)) r (now (out .exit)) ⌝ }
 {
     let changes = distance as u64;
@@ -110,7 +117,7 @@ fn put_satisfiable(out: &mut [u8], n: u32, x: Point, distance: u32, filled: u32)
 
 // Puts the two lines of a formula that no point meets.
 fn put_unsatisfiable(out: &mut [u8], filled: u32) -> usize
-    requires { ⌜ 312 ≤ length (now out) ⌝ }
+    requires { ⌜ longestText ≤ length (now out) ⌝ }
     ensures { λ r. ⌜ Printed (unsatisfiableText filled) (now (out .entry)) r (now (out .exit)) ⌝ }
 {
     let place = put_field(out, 0, b"s UNSATISFIABLE\nc slots ", filled as u64);
@@ -118,8 +125,8 @@ fn put_unsatisfiable(out: &mut [u8], filled: u32) -> usize
 }
 
 // Puts the two lines of a search that had no room.
-fn put_unknown(out: &mut [u8], bound: u32, filled: u32) -> usize
-    requires { ⌜ 312 ≤ length (now out) ⌝ }
+fn put_unknown(out: &mut [u8], bound: Depth, filled: u32) -> usize
+    requires { ⌜ longestText ≤ length (now out) ⌝ }
     ensures { λ r. ⌜ Printed (unknownText bound filled) (now (out .entry)) r (now (out .exit)) ⌝ }
 {
     put_line(
@@ -134,24 +141,22 @@ fn put_unknown(out: &mut [u8], bound: u32, filled: u32) -> usize
 
 // Puts the line of a refusal. Callers see to the room.
 pub fn put_refused(out: &mut [u8], code: u32, place: usize) -> usize
-    requires { ⌜ 312 ≤ length (now out) ⌝ }
+    requires { ⌜ longestText ≤ length (now out) ⌝ }
     ensures { λ r. ⌜ Printed (refusedText code place) (now (out .entry)) r (now (out .exit)) ⌝ }
 {
     put_line(out, 0, b"c refused ", code as u64, b" ", place as u64)
 }
 
 // Puts the text of a reply, for a formula of n variables, to the front of the output and answers its length. No text is
-// longer than 312 bytes where n is at most 64; `program::answer` sees to both.
-pub fn put_report(out: &mut [u8], n: u32, r: Outcome) -> usize
-    requires { ⌜ (n ≤ 64) × (312 ≤ length (now out)) ⌝ }
-    ensures { λ s. ⌜ Printed (reportOf n (replyOfOutcome r)) (now (out .entry)) s (now (out .exit)) ⌝ }
+// longer than `LONGEST` where n is within its limit; `program::answer` sees to both.
+pub fn put_report(out: &mut [u8], n: u32, r: Found) -> usize
+    requires { ⌜ (n ≤ maxVariables) × (longestText ≤ length (now out)) ⌝ }
+    ensures { λ s. ⌜ Printed (reportOf n (replyOfFound r)) (now (out .entry)) s (now (out .exit)) ⌝ }
 {
-    match r {
-        Outcome::Satisfiable {
-            point,
-            distance,
-            filled,
-        } => put_satisfiable(out, n, point, distance, filled),
+    let x = r.point;
+    let answer = r.answer;
+    match answer {
+        Outcome::Satisfiable { distance, filled } => put_satisfiable(out, n, x, distance, filled),
         Outcome::Unsatisfiable { filled } => put_unsatisfiable(out, filled),
         Outcome::Unknown { bound, filled } => put_unknown(out, bound, filled),
         Outcome::Refused { code, place } => put_refused(out, code, place),

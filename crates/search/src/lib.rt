@@ -4,55 +4,56 @@ use formula::Checked;
 use formula::Formula;
 use formula::refusals::problem_refusal;
 use formula::room::room;
+use permutation_coverage::Lookup;
+use points::Depth;
 use points::Point;
 use search_expansion::Frame;
+use search_stages::Answer;
 use search_step::Conclusion;
 ghost use mathlib.Core.Path.{_≡_};
-ghost use Rattle.search_step.specs.Laws.Stepping.{replyOfConclusion};
-ghost use Rattle.search.specs.Contract.{replyOfOutcome, Searched};
+ghost use Rattle.point_slices.specs.Slices.{clauseSlices, slotSlices};
+ghost use Rattle.formula.specs.Reply.{pointIn};
+ghost use Rattle.search_stages.specs.Laws.StageLaws.{replyOfAnswer};
+ghost use Rattle.search.specs.Contract.{replyOfFound, Searched};
 
-// A slot's depth: how many flips lie between the target and its point.
-pub type Depth = search_expansion::Depth;
-
-// What the search answers. Of an unknown result the bound is a number of variables: every satisfying point differs from
-// the target in at least so many.
+// What the search answers, beside the point that it finds. Of an unknown result the bound is a number of variables:
+// every satisfying point differs from the target in at least so many.
 pub enum Outcome {
-    Satisfiable {
-        point: Point,
-        distance: u32,
-        filled: u32,
-    },
-    Unsatisfiable {
-        filled: u32,
-    },
-    Unknown {
-        bound: u32,
-        filled: u32,
-    },
-    Refused {
-        code: u32,
-        place: usize,
-    },
+    Satisfiable { distance: u32, filled: u32 },
+    Unsatisfiable { filled: u32 },
+    Unknown { bound: Depth, filled: u32 },
+    Refused { code: u32, place: usize },
+}
+
+// The answer, and the point that it hands back: 0 where it has none.
+pub struct Found {
+    pub answer: Outcome,
+    pub point: Point,
 }
 
 // What a search that was not refused answers.
-fn as_outcome(a: Conclusion) -> Outcome
-    ensures { λ r. ⌜ replyOfOutcome r ≡ replyOfConclusion a ⌝ }
+fn as_found(a: Answer) -> Found
+    ensures { λ r. ⌜ (replyOfFound r ≡ replyOfAnswer a) × (r .point ≡ pointIn (replyOfAnswer a)) ⌝ }
 {
-    match a {
-        Conclusion::Satisfiable {
-            point,
-            distance,
-            filled,
-        } => Outcome::Satisfiable {
-            point: point,
-            distance: distance,
-            filled: filled,
+    let conclusion = a.conclusion;
+    match conclusion {
+        Conclusion::Satisfiable { distance, filled } => Found {
+            answer: Outcome::Satisfiable {
+                distance: distance,
+                filled: filled,
+            },
+            point: a.point,
         },
-        Conclusion::Unsatisfiable { filled } => Outcome::Unsatisfiable { filled: filled },
-        Conclusion::Unknown { bound, filled } => Outcome::Unknown {
-            bound: bound,
-            filled: filled,
+        Conclusion::Unsatisfiable { filled } => Found {
+            answer: Outcome::Unsatisfiable { filled: filled },
+            point: points::EMPTY,
+        },
+        Conclusion::Unknown { bound, filled } => Found {
+            answer: Outcome::Unknown {
+                bound: bound,
+                filled: filled,
+            },
+            point: points::EMPTY,
         },
     }
 }
@@ -68,32 +69,43 @@ pub fn search(
     points: &mut [u64],
     falsified: &mut [u32],
     depths: &mut [Depth],
-) -> Outcome
-    ensures { λ r. ⌜ Searched f (now (positive .entry)) (now (negative .entry)) (now (points .entry))
-        (now (falsified .entry)) (now (depths .entry)) r
-        (now (points .exit)) (now (falsified .exit)) (now (depths .exit)) ⌝ }
+) -> Found
+    ensures { λ r. ⌜ Searched f (clauseSlices (now (positive .entry)) (now (negative .entry)))
+        (slotSlices (now (points .entry)) (now (falsified .entry)) (now (depths .entry))) r
+        (slotSlices (now (points .exit)) (now (falsified .exit)) (now (depths .exit))) ⌝ }
 {
     let checked = problem_refusal(f, positive, negative);
     match checked {
         Checked::Passed => {}
         Checked::Refused { code, place } => {
-            return Outcome::Refused {
-                code: code,
-                place: place,
+            return Found {
+                answer: Outcome::Refused {
+                    code: code,
+                    place: place,
+                },
+                point: points::EMPTY,
             };
         }
     }
     let lent = room(points, falsified, depths);
     if lent == 0 {
-        return Outcome::Refused { code: 13, place: 0 };
+        return Found {
+            answer: Outcome::Refused { code: 13, place: 0 },
+            point: points::EMPTY,
+        };
     }
     let images = f.images;
-    let g = Frame {
+    // each stage has heads of its own
+    let lookup = Lookup {
         variables: f.variables,
         permutations: f.permutations,
+        heads: 0,
+    };
+    let g = Frame {
+        lookup,
         room: lent,
         target: f.target,
     };
     let answer = search_stages::start(g, &images, positive, negative, points, falsified, depths);
-    as_outcome(answer)
+    as_found(answer)
 }

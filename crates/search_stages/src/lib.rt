@@ -1,20 +1,41 @@
 // The search from the target, in stages: each goes on where the one before paused, with an index for more points. So
 // what a search pays to make the links 0 follows the slots that it fills, and not those that it is lent.
 use check_distinct::index_points;
-use search_expansion::Depth;
+use formula::Formula;
+use permutation_coverage::Lookup;
+use points::Depth;
+use points::Point;
 use search_expansion::Frame;
+use search_expansion::Visit;
 use search_expansion::fill;
+use search_loop::Explored;
 use search_loop::Stage;
 use search_loop::explore;
 use search_step::Conclusion;
+use search_step::Position;
 ghost use mathlib.Core.List.{[], _∷_};
+ghost use Rattle.point_slices.specs.Slices.{clauseSlices, slotSlices};
 ghost use Rattle.search_theory.specs.Walk.{slot};
 ghost use Rattle.check_distinct.specs.Laws.Indexing.{Links};
-ghost use Rattle.search_expansion.specs.Laws.Memory.{memory, Lends};
-ghost use Rattle.search_step.specs.Laws.Stepping.{replyOfConclusion, framed, Searchable, Midway, Ended};
+ghost use Rattle.search_expansion.specs.Laws.Memory.{Lends};
+ghost use Rattle.search_step.specs.Laws.Stepping.{framed, Searchable, Midway, Ended};
 ghost use Rattle.search_loop.specs.Laws.Exploring.{Explores, Concludes};
+ghost use Rattle.search_stages.specs.Laws.StageLaws.{headedBy, replyOfAnswer};
 
-// Explores from index `at` on with an index of at most `heads` points, made here of those filled: one look-up each. The
+// The heads of the three stages' indexes: for few slots, for many, and for all that there can be.
+const FEW_HEADS: usize = 512;
+
+const MANY_HEADS: usize = 8192;
+
+const MOST_HEADS: usize = Formula::MAX_SLOTS as usize;
+
+// What a search comes to, and the point that it processed last.
+pub struct Answer {
+    pub conclusion: Conclusion,
+    pub point: Point,
+}
+
+// Explores from a position on with an index of at most `heads` points, made here of those filled: one look-up each. The
 // stages see to what it requires.
 fn explore_with(
     g: Frame,
@@ -26,24 +47,40 @@ fn explore_with(
     depths: &mut [Depth],
     links: &mut [u32],
     heads: usize,
-    at: usize,
-    filled: usize,
-) -> Stage
-    requires { ⌜ Searchable g (now images) (now positive) (now negative)
-        × Lends (g .room) (memory (now points) (now falsified) (now depths))
-        × Midway (framed g (now images) (now positive) (now negative)) (g .room) at filled
-        (memory (now points) (now falsified) (now depths)) × Links heads (now links) ⌝ }
-    ensures { λ r. ⌜ Explores (framed g (now (images .entry)) (now (positive .entry)) (now (negative .entry))) (g .room)
-        heads at filled
-        (memory (now (points .entry)) (now (falsified .entry)) (now (depths .entry))) r
-        (memory (now (points .exit)) (now (falsified .exit)) (now (depths .exit))) ⌝ }
+    from: Position,
+) -> Explored
+    requires { ⌜ Searchable g (now images) (clauseSlices (now positive) (now negative))
+        × Lends (g .room) (slotSlices (now points) (now falsified) (now depths))
+        × Midway (framed g (now images) (clauseSlices (now positive) (now negative))) (g .room)
+        (slotSlices (now points) (now falsified) (now depths)) from × Links heads (now links) ⌝ }
+    ensures { λ r. ⌜ Explores (headedBy heads g) (now (images .entry))
+        (clauseSlices (now (positive .entry)) (now (negative .entry)))
+        (slotSlices (now (points .entry)) (now (falsified .entry)) (now (depths .entry))) from (r .stage) (r .point)
+        (slotSlices (now (points .exit)) (now (falsified .exit)) (now (depths .exit))) ⌝ }
 {
+    let filled = from.filled;
     if heads < filled {
-        return Stage::Paused { at, filled };
+        let stage = Stage::Paused(from);
+        return Explored {
+            stage,
+            point: points::EMPTY,
+        };
     }
-    index_points(links, heads, points, g.variables, filled);
+    let variables = g.lookup.variables;
+    let permutations = g.lookup.permutations;
+    index_points(variables, points, links, heads, filled);
+    let lookup = Lookup {
+        variables,
+        permutations,
+        heads,
+    };
+    let headed = Frame {
+        lookup,
+        room: g.room,
+        target: g.target,
+    };
     explore(
-        g,
+        headed,
         images,
         positive,
         negative,
@@ -51,9 +88,7 @@ fn explore_with(
         falsified,
         depths,
         links,
-        heads,
-        at,
-        filled,
+        from,
     )
 }
 
@@ -67,20 +102,19 @@ fn finish(
     points: &mut [u64],
     falsified: &mut [u32],
     depths: &mut [Depth],
-    at: usize,
-    filled: usize,
-) -> Conclusion
-    requires { ⌜ Searchable g (now images) (now positive) (now negative)
-        × Lends (g .room) (memory (now points) (now falsified) (now depths))
-        × Midway (framed g (now images) (now positive) (now negative)) (g .room) at filled
-        (memory (now points) (now falsified) (now depths)) ⌝ }
-    ensures { λ r. ⌜ Concludes (framed g (now (images .entry)) (now (positive .entry)) (now (negative .entry)))
-        (g .room) at filled
-        (memory (now (points .entry)) (now (falsified .entry)) (now (depths .entry))) (replyOfConclusion r)
-        (memory (now (points .exit)) (now (falsified .exit)) (now (depths .exit))) ⌝ }
+    from: Position,
+) -> Answer
+    requires { ⌜ Searchable g (now images) (clauseSlices (now positive) (now negative))
+        × Lends (g .room) (slotSlices (now points) (now falsified) (now depths))
+        × Midway (framed g (now images) (clauseSlices (now positive) (now negative))) (g .room)
+        (slotSlices (now points) (now falsified) (now depths)) from ⌝ }
+    ensures { λ r. ⌜ Concludes
+        (framed g (now (images .entry)) (clauseSlices (now (positive .entry)) (now (negative .entry)))) (g .room)
+        (slotSlices (now (points .entry)) (now (falsified .entry)) (now (depths .entry))) from (replyOfAnswer r)
+        (slotSlices (now (points .exit)) (now (falsified .exit)) (now (depths .exit))) ⌝ }
 {
-    let mut links = [0u32; 196608];
-    let stage = explore_with(
+    let mut links = [0u32; 3 * MOST_HEADS];
+    let explored = explore_with(
         g,
         images,
         positive,
@@ -89,15 +123,19 @@ fn finish(
         falsified,
         depths,
         &mut links,
-        65536,
-        at,
-        filled,
+        MOST_HEADS,
+        from,
     );
+    let stage = explored.stage;
+    let point = explored.point;
     match stage {
-        Stage::Concluded(answer) => answer,
-        Stage::Paused { at, filled } => Conclusion::Unknown {
-            bound: 0,
-            filled: 0,
+        Stage::Concluded(conclusion) => Answer { conclusion, point },
+        Stage::Paused(at) => Answer {
+            conclusion: Conclusion::Unknown {
+                bound: 0,
+                filled: 0,
+            },
+            point,
         },
     }
 }
@@ -111,20 +149,19 @@ fn resume(
     points: &mut [u64],
     falsified: &mut [u32],
     depths: &mut [Depth],
-    at: usize,
-    filled: usize,
-) -> Conclusion
-    requires { ⌜ Searchable g (now images) (now positive) (now negative)
-        × Lends (g .room) (memory (now points) (now falsified) (now depths))
-        × Midway (framed g (now images) (now positive) (now negative)) (g .room) at filled
-        (memory (now points) (now falsified) (now depths)) ⌝ }
-    ensures { λ r. ⌜ Concludes (framed g (now (images .entry)) (now (positive .entry)) (now (negative .entry)))
-        (g .room) at filled
-        (memory (now (points .entry)) (now (falsified .entry)) (now (depths .entry))) (replyOfConclusion r)
-        (memory (now (points .exit)) (now (falsified .exit)) (now (depths .exit))) ⌝ }
+    from: Position,
+) -> Answer
+    requires { ⌜ Searchable g (now images) (clauseSlices (now positive) (now negative))
+        × Lends (g .room) (slotSlices (now points) (now falsified) (now depths))
+        × Midway (framed g (now images) (clauseSlices (now positive) (now negative))) (g .room)
+        (slotSlices (now points) (now falsified) (now depths)) from ⌝ }
+    ensures { λ r. ⌜ Concludes
+        (framed g (now (images .entry)) (clauseSlices (now (positive .entry)) (now (negative .entry)))) (g .room)
+        (slotSlices (now (points .entry)) (now (falsified .entry)) (now (depths .entry))) from (replyOfAnswer r)
+        (slotSlices (now (points .exit)) (now (falsified .exit)) (now (depths .exit))) ⌝ }
 {
-    let mut links = [0u32; 24576];
-    let stage = explore_with(
+    let mut links = [0u32; 3 * MANY_HEADS];
+    let explored = explore_with(
         g,
         images,
         positive,
@@ -133,23 +170,14 @@ fn resume(
         falsified,
         depths,
         &mut links,
-        8192,
-        at,
-        filled,
+        MANY_HEADS,
+        from,
     );
+    let stage = explored.stage;
+    let point = explored.point;
     match stage {
-        Stage::Concluded(answer) => answer,
-        Stage::Paused { at, filled } => finish(
-            g,
-            images,
-            positive,
-            negative,
-            points,
-            falsified,
-            depths,
-            at,
-            filled,
-        ),
+        Stage::Concluded(conclusion) => Answer { conclusion, point },
+        Stage::Paused(at) => finish(g, images, positive, negative, points, falsified, depths, at),
     }
 }
 
@@ -163,17 +191,23 @@ pub fn start(
     points: &mut [u64],
     falsified: &mut [u32],
     depths: &mut [Depth],
-) -> Conclusion
-    requires { ⌜ Searchable g (now images) (now positive) (now negative)
-        × Lends (g .room) (memory (now points) (now falsified) (now depths)) ⌝ }
-    ensures { λ r. ⌜ Ended (framed g (now (images .entry)) (now (positive .entry)) (now (negative .entry))) (g .room)
-        (memory (now (points .entry)) (now (falsified .entry)) (now (depths .entry))) [] (slot (g .target) 0 0 ∷ [])
-        (replyOfConclusion r)
-        (memory (now (points .exit)) (now (falsified .exit)) (now (depths .exit))) ⌝ }
+) -> Answer
+    requires { ⌜ Searchable g (now images) (clauseSlices (now positive) (now negative))
+        × Lends (g .room) (slotSlices (now points) (now falsified) (now depths)) ⌝ }
+    ensures { λ r. ⌜ Ended
+        (framed g (now (images .entry)) (clauseSlices (now (positive .entry)) (now (negative .entry)))) (g .room)
+        (slotSlices (now (points .entry)) (now (falsified .entry)) (now (depths .entry))) []
+        (slot (g .target) 0 0 ∷ []) (replyOfAnswer r)
+        (slotSlices (now (points .exit)) (now (falsified .exit)) (now (depths .exit))) ⌝ }
 {
-    fill(points, falsified, depths, 0, g.target, 0);
-    let mut links = [0u32; 1536];
-    let stage = explore_with(
+    let first = Visit {
+        point: g.target,
+        depth: 0,
+    };
+    fill(points, falsified, depths, 0, first);
+    let from = Position { at: 0, filled: 1 };
+    let mut links = [0u32; 3 * FEW_HEADS];
+    let explored = explore_with(
         g,
         images,
         positive,
@@ -182,22 +216,13 @@ pub fn start(
         falsified,
         depths,
         &mut links,
-        512,
-        0,
-        1,
+        FEW_HEADS,
+        from,
     );
+    let stage = explored.stage;
+    let point = explored.point;
     match stage {
-        Stage::Concluded(answer) => answer,
-        Stage::Paused { at, filled } => resume(
-            g,
-            images,
-            positive,
-            negative,
-            points,
-            falsified,
-            depths,
-            at,
-            filled,
-        ),
+        Stage::Concluded(conclusion) => Answer { conclusion, point },
+        Stage::Paused(at) => resume(g, images, positive, negative, points, falsified, depths, at),
     }
 }

@@ -1,3 +1,4 @@
 -- The search: its definition as a sentence and computed, and its theory.
 pub mod Walk
+pub mod Slots
 pub mod Laws

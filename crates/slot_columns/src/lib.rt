@@ -1,6 +1,7 @@
 // The slots as one slice of structs (01: 'Walk') and as three slices: a slot is read and stored, slots are copied
 // from one form to the other. Each function takes a slice of structs, so it is proved by hand, step by step of the
 // compiled code.
+use points::Depth;
 use points::Point;
 ghost use mathlib.Core.Path.{_≡_};
 ghost use Prim.Native.Nat.{_<_};
@@ -13,7 +14,7 @@ ghost use Rattle.slot_columns.specs.Laws.Copies.{slotOr, joined, Within,
 pub struct Slot {
     pub point: Point,
     pub falsified: u32,
-    pub depth: u32,
+    pub depth: Depth,
 }
 
 // How many slots are lent. This and the next two are for callers in Rattle that keep slots as structs (F9); nothing
@@ -46,7 +47,7 @@ pub fn copy_out(
     k: usize,
     points: &mut [u64],
     falsified: &mut [u32],
-    depths: &mut [u32],
+    depths: &mut [Depth],
 )
     requires { ⌜ Within k (length (now slots)) (length (now points)) (length (now falsified)) (length (now depths)) ⌝ }
     ensures { λ _. ⌜ (now (points .exit) ≡ front k (pointsIn (now (slots .entry))) (now (points .entry)))
@@ -64,7 +65,7 @@ pub fn copy_out(
 }
 
 // Copies back: the first k places of three slices become the first k slots.
-pub fn copy_back(slots: &mut [Slot], k: usize, points: &[u64], falsified: &[u32], depths: &[u32])
+pub fn copy_back(slots: &mut [Slot], k: usize, points: &[u64], falsified: &[u32], depths: &[Depth])
     requires { ⌜ Within k (length (now slots)) (length (now points)) (length (now falsified)) (length (now depths)) ⌝ }
     ensures { λ _. ⌜ now (slots .exit) ≡ front k (joined (now (points .entry)) (now (falsified .entry))
         (now (depths .entry))) (now (slots .entry)) ⌝ }

@@ -19,18 +19,19 @@ use types.Kit.{Goal, Soaks, Given, Item, ‵, raw, _⊛_, Seq, Step, step, _$_, 
 use types.Kit.{feqL}
 use denote.Laws.{Is, shows}
 use denote.Builtin.{u64}
-use denote.Enum.Laws as EL
+use denote.Struct.Laws as LL
 use denote.Slice.{sliceVal, MutSlice, ShrSlice, finally}
 use denote.Steps.{nothing, heard, peeks}
 use denote.Triple.Statement.{Contract}
 use Rattle.formula.specs.declared.Formula.{Formula}
 use Rattle.formula.proofs.Formula as F
-use Rattle.search.specs.declared.Outcome.{Outcome}
+use Rattle.search.specs.declared.Found.{Found}
 use Rattle.search.specs.Contract.{Searched}
-use Rattle.search.proofs.Outcome as O
-use Rattle.search.proofs.Outcome.Laws as O′
+use Rattle.search.proofs.Found as O
+use Rattle.search.proofs.Found.Laws as O′
 use Rattle.slot_columns.specs.declared.Slot.{Slot}
-use Rattle.slot_columns.specs.Slots.{pointsIn, falsifiedIn, depthsIn}
+use Rattle.point_slices.specs.Slices.{clauseSlices}
+use Rattle.slot_columns.specs.Slots.{slotsIn}
 use Rattle.slot_columns.proofs.Row.{R}
 use Rattle.slot_search.proofs.search_slots as search-slots
 use Rattle.slot_proofs.proofs.Lent.{at-list}
@@ -41,8 +42,8 @@ SearchSlots 𝓤 H A mem run = Does 𝓤 H A search-slots.ended (search-slots.cl
 
 -- the arguments
 module _ (f : Formula) (wf : Val) (κ₁ κ₂ κ₃ : Lft) (q₁ q₂ q₃ : Share) (c₁ d₁ c₂ d₂ b o : ℕ) (δ₁ δ₂ γ : GName) (us vs : List ℕ) (ys : List Slot) where
-  abbrev pub Searches : Outcome → List Slot → Type 0
-  Searches r zs = Searched f us vs (pointsIn ys) (falsifiedIn ys) (depthsIn ys) r (pointsIn zs) (falsifiedIn zs) (depthsIn zs)
+  abbrev pub Searches : Found → List Slot → Type 0
+  Searches r zs = Searched f (clauseSlices us vs) (slotsIn ys) r (slotsIn zs)
 
   abbrev tokens : {M : Type 1} (𝓤 : URA M) → Item 𝓤
   tokens 𝓤 = ‵ (flft κ₁ q₁) ⊛ (‵ (flft κ₂ q₂) ⊛ (‵ (flft κ₃ q₃) ⊛ ‵ ftrue))
@@ -57,11 +58,11 @@ module _ (f : Formula) (wf : Val) (κ₁ κ₂ κ₃ : Lft) (q₁ q₂ q₃ : Sh
       asks t = step (λ s. nothing t $ move t (4 ∷ 0 ∷ []) $ fjoin t $ move t (3 ∷ 0 ∷ []) $ fjoin t $ move t (2 ∷ 0 ∷ []) $ fjoin t $ move t (1 ∷ 0 ∷ []) $ fjoin t $
           nothing t $ move t (4 ∷ 0 ∷ []) $ join t $ move t (3 ∷ 0 ∷ []) $ join t $ move t (2 ∷ 0 ∷ []) $ join t $ asked search-slots.ended (search-slots.clauses 𝓤 H A mem run) bound (tokens 𝓤) t (id⊢ 𝓤 _) (id⊢ 𝓤 _) $ s)
 
-      pub has : K → Soaks G → (w : Val) → ((r : Outcome) (zs : List Slot) → T (hasTy O′.mir w) × WT w → length zs ≡ length ys → Searches r zs
+      pub has : K → Soaks G → (w : Val) → ((r : Found) (zs : List Slot) → T (hasTy O′.mir w) × WT w → length zs ≡ length ys → Searches r zs
           → Seq K W (‵ (O.the-row .own r (w ∷ [])) ∷ ‵ (finally R γ zs) ∷ ‵ (flft κ₁ q₁) ∷ ‵ (flft κ₂ q₂) ∷ ‵ (flft κ₃ q₃) ∷ Γ) G) → Seq K W (raw (SearchSlots 𝓤 H A mem run .post bound w) ∷ Γ) G
       has t a w goes-on = answered search-slots.ended (search-slots.clauses 𝓤 H A mem run) bound (tokens 𝓤) t a w (id⊢ 𝓤 _) (λ r zs.
           -- [the tokens; the answer; the last lists; what it is]
           move t (3 ∷ []) $ heard t (Searches r (zs .1 .1 .1 .0)) (λ returned. split t $ move t (1 ∷ []) $ split t $ move t (1 ∷ []) $ split t $ move t (1 ∷ []) $ drop t $
           -- [slots' token; negative's; positive's; the answer; the last lists]
           move t (4 ∷ []) $ fsplit t $ drop t $ fsplit t $ drop t $ fsplit t $ drop t $ fsplit t $ move t (1 ∷ []) $ drop t $ fsplit t $ move t (1 ∷ []) $ feqL t (λ same. move t (4 ∷ 0 ∷ 3 ∷ 2 ∷ 1 ∷ []) $
-          peeks t O.the-row (Is O.the-row) (shows 𝓤 H A O.the-row) r (w ∷ []) (λ is. goes-on r (zs .1 .1 .1 .0) (EL.lawful O.the-type O′.the-laws 𝓤 H A W tt .typed r (w ∷ []) is .0) same returned))))
+          peeks t O.the-row (Is O.the-row) (shows 𝓤 H A O.the-row) r (w ∷ []) (λ is. goes-on r (zs .1 .1 .1 .0) (LL.lawful O.the-type O′.the-laws 𝓤 H A W .typed r (w ∷ []) is .0) same returned))))

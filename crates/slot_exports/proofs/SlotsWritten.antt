@@ -31,7 +31,8 @@ use Rattle.certificate_writer.specs.Contract.{Wrote}
 use Rattle.certificate_writer.proofs.Written as O
 use Rattle.certificate_writer.proofs.Written.Laws as O′
 use Rattle.slot_columns.specs.declared.Slot.{Slot}
-use Rattle.slot_columns.specs.Slots.{pointsIn, falsifiedIn, depthsIn}
+use Rattle.point_slices.specs.Slices.{clauseSlices}
+use Rattle.slot_columns.specs.Slots.{slotsIn}
 use Rattle.slot_columns.proofs.Row.{R}
 use Rattle.slot_writer.proofs.write_slots as write-slots
 use Rattle.slot_proofs.proofs.Lent.{at-list}
@@ -43,7 +44,7 @@ WriteSlots 𝓤 H A mem run = Does 𝓤 H A write-slots.ended (write-slots.claus
 -- the arguments
 module _ (f : Formula) (wf : Val) (κ₁ κ₂ κ₃ κ₄ : Lft) (q₁ q₂ q₃ q₄ : Share) (c₁ d₁ c₂ d₂ b o b₄ o₄ : ℕ) (δ₁ δ₂ γ δ₄ : GName) (us vs : List ℕ) (ys : List Slot) (filled : ℕ) (os : List ℕ) where
   abbrev pub Writes : Written → List ℕ → Type 0
-  Writes r zs = Wrote f us vs (pointsIn ys) (falsifiedIn ys) (depthsIn ys) filled os r zs
+  Writes r zs = Wrote f (clauseSlices us vs) (slotsIn ys) filled os r zs
 
   abbrev tokens : {M : Type 1} (𝓤 : URA M) → Item 𝓤
   tokens 𝓤 = ‵ (flft κ₁ q₁) ⊛ (‵ (flft κ₂ q₂) ⊛ (‵ (flft κ₃ q₃) ⊛ (‵ (flft κ₄ q₄) ⊛ ‵ ftrue)))

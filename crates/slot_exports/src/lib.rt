@@ -1,12 +1,13 @@
 // The search and the writer over a slice of slots for programs in other languages.
 use export_words::WORDS;
 use export_words::formula_from;
-use export_words::put_outcome;
+use export_words::put_found;
 use export_words::put_written;
 use slot_columns::Slot;
 use slot_search::search_slots;
 use slot_writer::write_slots;
-ghost use Rattle.slot_columns.specs.Slots.{pointsIn, falsifiedIn, depthsIn};
+ghost use Rattle.point_slices.specs.Slices.{clauseSlices};
+ghost use Rattle.slot_columns.specs.Slots.{slotsIn};
 ghost use Rattle.exports.specs.Searching.{SearchReturns};
 ghost use Rattle.exports.specs.Writing.{WriteReturns};
 ghost use Rattle.export_words.specs.Words.{formulaFrom};
@@ -26,17 +27,15 @@ pub extern "C" fn jugbowo_search_slots(
     reply: &mut [u64],
 ) -> u32
     ensures { λ r. ⌜ SearchReturns (formulaFrom variables clauses target permutations (now (images .entry)))
-        (now (positive .entry)) (now (negative .entry)) (pointsIn (now (slots .entry)))
-        (falsifiedIn (now (slots .entry))) (depthsIn (now (slots .entry))) (now (reply .entry)) r
-        (pointsIn (now (slots .exit))) (falsifiedIn (now (slots .exit))) (depthsIn (now (slots .exit)))
-        (now (reply .exit)) ⌝ }
+        (clauseSlices (now (positive .entry)) (now (negative .entry))) (slotsIn (now (slots .entry)))
+        (now (reply .entry)) r (slotsIn (now (slots .exit))) (now (reply .exit)) ⌝ }
 {
     if reply.len() < WORDS {
         return 0;
     }
     let f = formula_from(variables, clauses, target, permutations, images);
     let r = search_slots(f, positive, negative, slots);
-    put_outcome(reply, r);
+    put_found(reply, r);
     1
 }
 
@@ -57,10 +56,8 @@ pub extern "C" fn jugbowo_write_slots(
     reply: &mut [u64],
 ) -> u32
     ensures { λ r. ⌜ WriteReturns (formulaFrom variables clauses target permutations (now (images .entry)))
-        (now (positive .entry)) (now (negative .entry)) (pointsIn (now (slots .entry)))
-        (falsifiedIn (now (slots .entry))) (depthsIn (now (slots .entry))) filled (now (out .entry))
-        (now (reply .entry)) r
-        (now (out .exit)) (now (reply .exit)) ⌝ }
+        (clauseSlices (now (positive .entry)) (now (negative .entry))) (slotsIn (now (slots .entry))) filled
+        (now (out .entry)) (now (reply .entry)) r (now (out .exit)) (now (reply .exit)) ⌝ }
 {
     if reply.len() < WORDS {
         return 0;

@@ -40,12 +40,13 @@ use denote.RattleType.{RattleType}
 use denote.Ref.{RefT}
 use denote.Slice.{Room, sliceVal, MutSlice, ShrSlice, finally}
 use denote.Steps.{owned, facts}
+use Rattle.formula.specs.Limits.{maxSlots}
 
 -- arrays of 65,536 elements have room
-pub room64 : (xs : List ℕ) → length xs ≡ 65536 → Room u64 (length xs)
+pub room64 : (xs : List ℕ) → length xs ≡ maxSlots → Room u64 (length xs)
 room64 xs e = subst (Room u64) (sym e) (lit< tt, lit< tt)
 
-pub room32 : (xs : List ℕ) → length xs ≡ 65536 → Room u32 (length xs)
+pub room32 : (xs : List ℕ) → length xs ≡ maxSlots → Room u32 (length xs)
 room32 xs e = subst (Room u32) (sym e) (lit< tt, lit< tt)
 
 -- a slice reference: where it points, its ghost name and its list

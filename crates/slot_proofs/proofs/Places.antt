@@ -7,6 +7,7 @@ use native.Mathlib.Omega.{arith}
 use mathlib.Core.List.{List}
 use lib.Dec.{lit<}
 use lib.ListN.{length}
+use Rattle.formula.specs.Limits.{maxSlots}
 use Rattle.slot_columns.specs.declared.Slot.{Slot}
 use Rattle.slot_columns.specs.Slots.{pointsIn, falsifiedIn, depthsIn}
 use Rattle.slot_columns.specs.Laws.Copies.{front, Within}
@@ -15,10 +16,10 @@ use Rattle.slot_columns.specs.Laws.SlotLaws.{front-length, column-long}
 module _ (ys : List Slot) where
   -- the slots that are used
   abbrev pub k : ℕ
-  k = min 65536 (length ys)
+  k = min maxSlots (length ys)
 
   pub gk : k < 2 ^ 64
-  gk = lt-of-le-of-lt (let z : k ≤ 65536 = omega arith in z) (lit< tt)
+  gk = lt-of-le-of-lt (let z : k ≤ maxSlots = omega arith in z) (lit< tt)
 
   pub used : k ≤ length ys
   used = omega arith
@@ -33,21 +34,21 @@ module _ (ys : List Slot) where
   abbrev pub D : List ℕ → List ℕ
   D ds = front k (depthsIn ys) ds
 
-  pub many : (xs : List ℕ) → length xs ≡ 65536 → k ≤ length xs
+  pub many : (xs : List ℕ) → length xs ≡ maxSlots → k ≤ length xs
   many xs e = omega (arith, e)
 
-  pub long₁ : (ps : List ℕ) → length ps ≡ 65536 → length (P ps) ≡ 65536
+  pub long₁ : (ps : List ℕ) → length ps ≡ maxSlots → length (P ps) ≡ maxSlots
   long₁ ps e = front-length k (pointsIn ys) ps (column-long (λ (s : Slot). s .point) k ys used) (many ps e) ∙ e
 
-  pub long₂ : (fs : List ℕ) → length fs ≡ 65536 → length (N fs) ≡ 65536
+  pub long₂ : (fs : List ℕ) → length fs ≡ maxSlots → length (N fs) ≡ maxSlots
   long₂ fs e = front-length k (falsifiedIn ys) fs (column-long (λ (s : Slot). s .falsified) k ys used) (many fs e) ∙ e
 
-  pub long₃ : (ds : List ℕ) → length ds ≡ 65536 → length (D ds) ≡ 65536
+  pub long₃ : (ds : List ℕ) → length ds ≡ maxSlots → length (D ds) ≡ maxSlots
   long₃ ds e = front-length k (depthsIn ys) ds (column-long (λ (s : Slot). s .depth) k ys used) (many ds e) ∙ e
 
   -- what the calls require
-  pub fits-in : (ps fs ds : List ℕ) → length ps ≡ 65536 → length fs ≡ 65536 → length ds ≡ 65536 → Within k (length ys) (length ps) (length fs) (length ds)
+  pub fits-in : (ps fs ds : List ℕ) → length ps ≡ maxSlots → length fs ≡ maxSlots → length ds ≡ maxSlots → Within k (length ys) (length ps) (length fs) (length ds)
   fits-in ps fs ds e₁ e₂ e₃ = record { inSlots = used; inPoints = many ps e₁; inFalsified = many fs e₂; inDepths = many ds e₃ }
 
-  pub fronts-in : (ps fs ds : List ℕ) → length ps ≡ 65536 → length fs ≡ 65536 → length ds ≡ 65536 → Within k k (length ps) (length fs) (length ds)
+  pub fronts-in : (ps fs ds : List ℕ) → length ps ≡ maxSlots → length fs ≡ maxSlots → length ds ≡ maxSlots → Within k k (length ps) (length fs) (length ds)
   fronts-in ps fs ds e₁ e₂ e₃ = record { inSlots = le-refl k; inPoints = many ps e₁; inFalsified = many fs e₂; inDepths = many ds e₃ }

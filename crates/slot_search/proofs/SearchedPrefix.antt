@@ -23,17 +23,17 @@ use denote.Plain.{uint-makes}
 use denote.Builtin.{usize, u32, u64}
 use denote.Ref.{RefT}
 use denote.Slice.{sliceVal, MutSlice, ShrSlice, finally}
-use denote.Enum.Laws as EL
 use denote.Struct.Laws as LL
 use denote.Steps.{owned, nothing, heard}
 use denote.Triple.Statement.{Contract}
 use Rattle.formula.specs.declared.Formula.{Formula}
 use Rattle.formula.proofs.Formula as F
 use Rattle.formula.proofs.Formula.Laws as F′
-use Rattle.search.specs.declared.Outcome.{Outcome}
+use Rattle.point_slices.specs.Slices.{clauseSlices, slotSlices}
+use Rattle.search.specs.declared.Found.{Found}
 use Rattle.search.specs.Contract.{Searched}
-use Rattle.search.proofs.Outcome as O
-use Rattle.search.proofs.Outcome.Laws as O′
+use Rattle.search.proofs.Found as O
+use Rattle.search.proofs.Found.Laws as O′
 use Rattle.slot_columns.specs.Laws.Copies.{Within}
 use Rattle.slot_proofs.proofs.Called.{Does, asked, answered}
 use Rattle.slot_proofs.proofs.Spelled.{formula-val}
@@ -43,8 +43,8 @@ abbrev pub SearchFront : {M : Type 1} (𝓤 : URA M) (H : Heap 𝓤) (A : Atoms 
 SearchFront 𝓤 H A mem run = Does 𝓤 H A search-prefix.ended (search-prefix.clauses 𝓤 H A mem run)
 
 module _ {M : Type 1} (𝓤 : URA M) (H : Heap 𝓤) (A : Atoms 𝓤) (W : Given 𝓤 H A) where
-  pub outcome-typed : (r : Outcome) (w : Val) → Is O.the-row r (w ∷ []) → T (hasTy O′.mir w) × WT w
-  outcome-typed r w g = EL.lawful O.the-type O′.the-laws 𝓤 H A W tt .typed r (w ∷ []) g .0
+  pub found-typed : (r : Found) (w : Val) → Is O.the-row r (w ∷ []) → T (hasTy O′.mir w) × WT w
+  found-typed r w g = LL.lawful O.the-type O′.the-laws 𝓤 H A W .typed r (w ∷ []) g .0
 
 -- the arguments
 module _ (f : Formula) (us vs : List ℕ) (κ₀ κ₁ : Lft) (q₀ q₁ : Share) (c₀ d₀ c₁ d₁ : ℕ) (δ₀ δ₁ : GName) (b₁ o₁ b₂ o₂ b₃ o₃ : ℕ) (γ₁ γ₂ γ₃ : GName) (ps fs ds : List ℕ) (k n : ℕ) (ν₁ ν₂ ν₃ : ℕ) where
@@ -57,8 +57,8 @@ module _ (f : Formula) (us vs : List ℕ) (κ₀ κ₁ : Lft) (q₀ q₁ : Share
   abbrev at : List Val × (List Val × (List Val × (List Val × (List Val × (List Val × (List Val × Unit {0}))))))
   at = (formula-val f ∷ [], (sliceVal (c₀, d₀) (length us) ∷ [], (sliceVal (c₁, d₁) (length vs) ∷ [], (sliceVal (b₁, o₁) n ∷ [], (sliceVal (b₂, o₂) n ∷ [], (sliceVal (b₃, o₃) n ∷ [], (vint w64 k ∷ [], tt)))))))
 
-  abbrev pub Searches : Outcome → List ℕ → List ℕ → List ℕ → Type 0
-  Searches r ps′ fs′ ds′ = Searched f us vs (take k ps) (take k fs) (take k ds) r (take k ps′) (take k fs′) (take k ds′)
+  abbrev pub Searches : Found → List ℕ → List ℕ → List ℕ → Type 0
+  Searches r ps′ fs′ ds′ = Searched f (clauseSlices us vs) (slotSlices (take k ps) (take k fs) (take k ds)) r (slotSlices (take k ps′) (take k fs′) (take k ds′))
 
   abbrev tokens : {M : Type 1} (𝓤 : URA M) → Item 𝓤
   tokens 𝓤 = ‵ (flft κ₀ q₀) ⊛ (‵ (flft κ₁ q₁) ⊛ (‵ (flft (ν₁ ∷ []) fullShare) ⊛ (‵ (flft (ν₂ ∷ []) fullShare) ⊛ (‵ (flft (ν₃ ∷ []) fullShare) ⊛ ‵ ftrue))))
@@ -80,7 +80,7 @@ module _ (f : Formula) (us vs : List ℕ) (κ₀ κ₁ : Lft) (q₀ q₁ : Share
           owned t F.the-row (Is F.the-row) (LL.makes F.the-type F′.the-plain 𝓤 H A) f (formula-val f ∷ []) gf $ fjoin t $ move t (1 ∷ 0 ∷ []) $
           asked search-prefix.ended (search-prefix.clauses 𝓤 H A mem run) bound (tokens 𝓤) t (id⊢ 𝓤 _) (factI 𝓤 (Within k k (length ps) (length fs) (length ds)) (emp 𝓤) within) $ s)
 
-      pub has : K → Soaks G → (w : Val) → ((r : Outcome) (ps′ fs′ ds′ : List ℕ) → length ps′ ≡ length ps → length fs′ ≡ length fs → length ds′ ≡ length ds → Searches r ps′ fs′ ds′
+      pub has : K → Soaks G → (w : Val) → ((r : Found) (ps′ fs′ ds′ : List ℕ) → length ps′ ≡ length ps → length fs′ ≡ length fs → length ds′ ≡ length ds → Searches r ps′ fs′ ds′
           → Seq K W (‵ (flft κ₀ q₀) ∷ ‵ (flft κ₁ q₁) ∷ ‵ (flft (ν₁ ∷ []) fullShare) ∷ ‵ (flft (ν₂ ∷ []) fullShare) ∷ ‵ (flft (ν₃ ∷ []) fullShare)
           ∷ ‵ (finally u64 γ₁ ps′) ∷ ‵ (finally u32 γ₂ fs′) ∷ ‵ (finally u32 γ₃ ds′) ∷ ‵ (O.the-row .own r (w ∷ [])) ∷ Γ) G) → Seq K W (raw (SearchFront 𝓤 H A mem run .post bound w) ∷ Γ) G
       has t a w goes-on = answered search-prefix.ended (search-prefix.clauses 𝓤 H A mem run) bound (tokens 𝓤) t a w (id⊢ 𝓤 _) (λ r zs.

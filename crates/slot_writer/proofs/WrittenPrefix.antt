@@ -30,6 +30,7 @@ use denote.Triple.Statement.{Contract}
 use Rattle.formula.specs.declared.Formula.{Formula}
 use Rattle.formula.proofs.Formula as F
 use Rattle.formula.proofs.Formula.Laws as F′
+use Rattle.point_slices.specs.Slices.{clauseSlices, slotSlices}
 use Rattle.certificate_writer.specs.declared.Written.{Written}
 use Rattle.certificate_writer.specs.Contract.{Wrote}
 use Rattle.certificate_writer.proofs.Written as O
@@ -58,7 +59,7 @@ module _ (f : Formula) (us vs : List ℕ) (κ₀ κ₁ : Lft) (q₀ q₁ : Share
   at = (formula-val f ∷ [], (sliceVal (c₀, d₀) (length us) ∷ [], (sliceVal (c₁, d₁) (length vs) ∷ [], (sliceVal (b₁, o₁) n ∷ [], (sliceVal (b₂, o₂) n ∷ [], (sliceVal (b₃, o₃) n ∷ [], (vint w64 k ∷ [], (vint w32 filled ∷ [], (sliceVal (b₄, o₄) (length os) ∷ [], tt)))))))))
 
   abbrev pub Writes : Written → List ℕ → Type 0
-  Writes r os′ = Wrote f us vs (take k ps) (take k fs) (take k ds) filled os r os′
+  Writes r os′ = Wrote f (clauseSlices us vs) (slotSlices (take k ps) (take k fs) (take k ds)) filled os r os′
 
   abbrev tokens : {M : Type 1} (𝓤 : URA M) → Item 𝓤
   tokens 𝓤 = ‵ (flft κ₀ q₀) ⊛ (‵ (flft κ₁ q₁) ⊛ (‵ (flft (ν₁ ∷ []) fullShare) ⊛ (‵ (flft (ν₂ ∷ []) fullShare) ⊛ (‵ (flft (ν₃ ∷ []) fullShare) ⊛ (‵ (flft (ν₄ ∷ []) fullShare) ⊛ ‵ ftrue)))))

@@ -4,27 +4,23 @@ use mathlib.Core.List.{List}
 use mathlib.Core.Option.{Option, some, none}
 use Prim.Native.Nat.{ℕ}
 use lib.ListN.{replicate}
+use Rattle.point_slices.specs.Slices.{ClauseSlices, SlotSlices, wholeClauses}
+use Rattle.formula.specs.Limits.{maxClauses, capacity}
 use Rattle.formula.specs.Reply.{Reply, refused, satisfiable, unsatisfiable, unknown, parsed, written, opened, accepted}
 use Rattle.dimacs_format.specs.Reader.{readReply}
-use Rattle.search_theory.specs.Walk.{Slot}
-use Rattle.search.specs.Search.{searchReply, searchSlice}
-use Rattle.claims.specs.Claim.{Sheet, from-text, by-value, formulaIn, positiveIn, negativeIn, Slots, lent, writerReply}
-use Rattle.claims.specs.Claim.{writerOutput}
-
--- three lent slices as slots
-abbrev pub slotsOf : List ℕ → List ℕ → List ℕ → Slots
-slotsOf points falsified depths = record { points = points; falsified = falsified; depths = depths }
+use Rattle.search.specs.Search.{searchReply, searchSlices}
+use Rattle.claims.specs.Claim.{Sheet, from-text, by-value, formulaIn, clausesIn, writerReply, writerOutput}
 
 -- the clause slices that the solver lends to the reader: the most clauses, 0 throughout
-unfoldable pub blank : List ℕ
-blank = replicate 4096 0
+unfoldable pub blank : ClauseSlices
+blank = wholeClauses (replicate maxClauses 0) (replicate maxClauses 0)
 
 -- ---- the reader, then the search
 
 -- the reader's reply to a sheet; one by value is not read
 abbrev pub readingOf : Sheet → Reply
-readingOf (from-text text p q) = readReply text p q
-readingOf (by-value f p q) = parsed
+readingOf (from-text text clauses) = readReply text clauses
+readingOf (by-value f clauses) = parsed
 
 -- a refusal of the reader stands; else what comes after it does
 module _ {A : Type 0} where
@@ -40,13 +36,12 @@ module _ {A : Type 0} where
 
 unfoldable pub sheetReply : Sheet → ℕ → Reply
 unfolding afterReading
-sheetReply s slots = afterReading (readingOf s) (readingOf s)
-    (searchReply (formulaIn s) (positiveIn s) (negativeIn s) slots)
+sheetReply s lent = afterReading (readingOf s) (readingOf s)
+    (searchReply (formulaIn s) (clausesIn s) lent)
 
-unfoldable pub sheetSlice : (Slot → ℕ) → Sheet → ℕ → List ℕ → List ℕ
+unfoldable pub sheetSlices : Sheet → SlotSlices → SlotSlices
 unfolding afterReading
-sheetSlice part s slots old = afterReading (readingOf s) old
-    (searchSlice part (formulaIn s) (positiveIn s) (negativeIn s) slots old)
+sheetSlices s slots = afterReading (readingOf s) slots (searchSlices (formulaIn s) (clausesIn s) slots)
 
 -- ---- then, for 'cannot be met', the writer
 
@@ -62,10 +57,12 @@ module _ {A : Type 0} where
   onRefutation opened kept new = kept
   onRefutation accepted kept new = kept
 
-unfoldable pub certificateReply : Sheet → Slots → List ℕ → Option Reply
+unfoldable pub certificateReply : Sheet → SlotSlices → List ℕ → Option Reply
 unfolding onRefutation
-certificateReply s l out = onRefutation (sheetReply s (lent l)) none (λ filled. some (writerReply s l filled out))
+certificateReply s slots out = onRefutation (sheetReply s (capacity slots)) none
+    (λ filled. some (writerReply s slots filled out))
 
-unfoldable pub certificateOutput : Sheet → Slots → List ℕ → List ℕ
+unfoldable pub certificateOutput : Sheet → SlotSlices → List ℕ → List ℕ
 unfolding onRefutation
-certificateOutput s l out = onRefutation (sheetReply s (lent l)) out (λ filled. writerOutput s l filled out)
+certificateOutput s slots out = onRefutation (sheetReply s (capacity slots)) out
+    (λ filled. writerOutput s slots filled out)

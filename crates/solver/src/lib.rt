@@ -1,44 +1,38 @@
 // Reader, search, writer and checker in one call. Its contract has demand 3's sentences about what it returns.
 use certificate_writer::Written;
 use checker::Verdict;
+use dimacs_lines::FEW_CLAUSES;
 use dimacs_lines::Parse;
 use formula::Formula;
+use point_slices::first_points;
+use points::Depth;
 use points::Point;
 use search::Outcome;
 ghost use mathlib.Core.Path.{_≡_};
 ghost use Prim.Native.Nat.{_≤_};
 ghost use lib.ListN.{length, take};
+ghost use Rattle.point_slices.specs.Slices.{clauseSlices, slotSlices, clauseRoom, firstClauses};
 ghost use Rattle.formula.specs.Reply.{accepted};
 ghost use Rattle.checker.specs.Checker.{checkReply};
 ghost use Rattle.claims.specs.Claim.{from-text, by-value};
-ghost use Rattle.solver.specs.Solver.{slotsOf, blank};
+ghost use Rattle.solver.specs.Solver.{blank};
 ghost use Rattle.solver.specs.Contract.{Solved};
-ghost use Rattle.solver.specs.Laws.Steps.{Refuted, Certifies, unsatisfiableWith};
+ghost use Rattle.solver.specs.Laws.Steps.{Refuted, Certifies, unsatisfiableWith, refusedWith};
 
 // What the solver answers. A certificate is `size` bytes at the front of the output, written and checked; where the
 // output has no room for the bytes needed, nothing is put there.
 pub enum Solution {
-    Satisfiable {
-        point: Point,
-        distance: u32,
-        filled: u32,
-    },
-    Unsatisfiable {
-        filled: u32,
-        size: usize,
-    },
-    Uncertified {
-        filled: u32,
-        needed: usize,
-    },
-    Unknown {
-        bound: u32,
-        filled: u32,
-    },
-    Refused {
-        code: u32,
-        place: usize,
-    },
+    Satisfiable { distance: u32, filled: u32 },
+    Unsatisfiable { filled: u32, size: usize },
+    Uncertified { filled: u32, needed: usize },
+    Unknown { bound: Depth, filled: u32 },
+    Refused { code: u32, place: usize },
+}
+
+// The answer, and the point handed back, 0 where there is none.
+pub struct Settled {
+    pub answer: Solution,
+    pub point: Point,
 }
 
 // Has the certificate in the first `size` bytes checked. `certify` sees to what it requires: the checker accepts it.
@@ -50,8 +44,8 @@ fn confirm(
     size: usize,
     filled: u32,
 ) -> Solution
-    requires { ⌜ (size ≤ length (now file)) × (checkReply f (now positive) (now negative) (take size (now file))
-        ≡ accepted) ⌝ }
+    requires { ⌜ (size ≤ length (now file))
+        × (checkReply f (clauseSlices (now positive) (now negative)) (take size (now file)) ≡ accepted) ⌝ }
     ensures { λ r. ⌜ r ≡ unsatisfiableWith filled size ⌝ }
 {
     let verdict = checker::check(f, positive, negative, &file[0..size]);
@@ -69,13 +63,15 @@ fn certify(
     negative: &[u64],
     points: &[u64],
     falsified: &[u32],
-    depths: &[u32],
+    depths: &[Depth],
     filled: u32,
     out: &mut [u8],
 ) -> Solution
-    requires { ⌜ Refuted f (now positive) (now negative) (now points) (now falsified) (now depths) filled ⌝ }
-    ensures { λ r. ⌜ Certifies f (now (positive .entry)) (now (negative .entry)) (now (points .entry))
-        (now (falsified .entry)) (now (depths .entry)) filled (now (out .entry)) r (now (out .exit)) ⌝ }
+    requires { ⌜ Refuted f (clauseSlices (now positive) (now negative))
+        (slotSlices (now points) (now falsified) (now depths)) filled ⌝ }
+    ensures { λ r. ⌜ Certifies f (clauseSlices (now (positive .entry)) (now (negative .entry)))
+        (slotSlices (now (points .entry)) (now (falsified .entry)) (now (depths .entry))) filled (now (out .entry)) r
+        (now (out .exit)) ⌝ }
 {
     let written = certificate_writer::write(
         f,
@@ -103,26 +99,23 @@ pub fn solve_formula(
     negative: &[u64],
     points: &mut [u64],
     falsified: &mut [u32],
-    depths: &mut [u32],
+    depths: &mut [Depth],
     out: &mut [u8],
-) -> Solution
-    ensures { λ r. ⌜ Solved (by-value f (now (positive .entry)) (now (negative .entry)))
-        (slotsOf (now (points .entry)) (now (falsified .entry)) (now (depths .entry))) (now (out .entry)) r
-        (now (points .exit)) (now (falsified .exit)) (now (depths .exit)) (now (out .exit)) ⌝ }
+) -> Settled
+    ensures { λ r. ⌜ Solved (by-value f (clauseSlices (now (positive .entry)) (now (negative .entry))))
+        (slotSlices (now (points .entry)) (now (falsified .entry)) (now (depths .entry))) (now (out .entry)) r
+        (slotSlices (now (points .exit)) (now (falsified .exit)) (now (depths .exit))) (now (out .exit)) ⌝ }
 {
-    let outcome = search::search(f, positive, negative, points, falsified, depths);
+    let found = search::search(f, positive, negative, points, falsified, depths);
+    let point = found.point;
+    let outcome = found.answer;
     match outcome {
-        Outcome::Satisfiable {
-            point,
-            distance,
-            filled,
-        } => Solution::Satisfiable {
-            point,
-            distance,
-            filled,
-        },
+        Outcome::Satisfiable { distance, filled } => {
+            let answer = Solution::Satisfiable { distance, filled };
+            Settled { answer, point }
+        }
         Outcome::Unsatisfiable { filled } => {
-            certify(
+            let answer = certify(
                 f,
                 positive,
                 negative,
@@ -131,55 +124,107 @@ pub fn solve_formula(
                 depths,
                 filled,
                 out,
-            )
+            );
+            Settled {
+                answer,
+                point: points::EMPTY,
+            }
         }
-        Outcome::Unknown { bound, filled } => Solution::Unknown { bound, filled },
-        Outcome::Refused { code, place } => Solution::Refused { code, place },
+        Outcome::Unknown { bound, filled } => {
+            let answer = Solution::Unknown { bound, filled };
+            Settled { answer, point }
+        }
+        Outcome::Refused { code, place } => {
+            let answer = Solution::Refused { code, place };
+            Settled { answer, point }
+        }
     }
 }
 
-// The same with the clauses at the front of two slices, as the reader leaves them. `solve` sees to what it requires.
+// The solver for a formula whose clauses stand at the front of two slices, as the reader leaves them. Its callers see
+// to what it requires.
 fn solve_read(
     f: Formula,
     positive: &[u64],
     negative: &[u64],
     points: &mut [u64],
     falsified: &mut [u32],
-    depths: &mut [u32],
+    depths: &mut [Depth],
     out: &mut [u8],
-) -> Solution
-    requires { ⌜ (f .clauses ≤ length (now positive)) × (f .clauses ≤ length (now negative)) ⌝ }
-    ensures { λ r. ⌜ Solved (by-value f (take (f .clauses) (now (positive .entry)))
-        (take (f .clauses) (now (negative .entry)))) (slotsOf (now (points .entry)) (now (falsified .entry))
-        (now (depths .entry))) (now (out .entry)) r
-        (now (points .exit)) (now (falsified .exit)) (now (depths .exit)) (now (out .exit)) ⌝ }
+) -> Settled
+    requires { ⌜ f .clauses ≤ clauseRoom (clauseSlices (now positive) (now negative)) ⌝ }
+    ensures { λ r. ⌜ Solved (by-value f (firstClauses (f .clauses)
+        (clauseSlices (now (positive .entry)) (now (negative .entry)))))
+        (slotSlices (now (points .entry)) (now (falsified .entry)) (now (depths .entry))) (now (out .entry)) r
+        (slotSlices (now (points .exit)) (now (falsified .exit)) (now (depths .exit))) (now (out .exit)) ⌝ }
 {
     let total = f.clauses as usize;
-    let wanted = &positive[0..total];
-    let unwanted = &negative[0..total];
+    let wanted = first_points(positive, total);
+    let unwanted = first_points(negative, total);
     solve_formula(f, wanted, unwanted, points, falsified, depths, out)
 }
 
-// K3, the product's main promise: reads a text, searches, and writes and checks the certificate of one that cannot be
-// met. The clauses stay in local arrays, 64 KiB, so that after a refusal nothing that was lent has changed.
-pub fn solve(
+// A refusal of the reader, which has no point.
+fn refused(code: u32, place: usize) -> Settled
+    ensures { λ r. ⌜ r ≡ refusedWith code place ⌝ }
+{
+    let answer = Solution::Refused { code, place };
+    Settled {
+        answer,
+        point: points::EMPTY,
+    }
+}
+
+// The solver with arrays for the most clauses: 64 KiB of the stack.
+fn solve_many(
     text: &[u8],
     points: &mut [u64],
     falsified: &mut [u32],
-    depths: &mut [u32],
+    depths: &mut [Depth],
     out: &mut [u8],
-) -> Solution
-    ensures { λ r. ⌜ Solved (from-text (now (text .entry)) blank blank)
-        (slotsOf (now (points .entry)) (now (falsified .entry)) (now (depths .entry))) (now (out .entry)) r
-        (now (points .exit)) (now (falsified .exit)) (now (depths .exit)) (now (out .exit)) ⌝ }
+) -> Settled
+    ensures { λ r. ⌜ Solved (from-text (now (text .entry)) blank)
+        (slotSlices (now (points .entry)) (now (falsified .entry)) (now (depths .entry))) (now (out .entry)) r
+        (slotSlices (now (points .exit)) (now (falsified .exit)) (now (depths .exit))) (now (out .exit)) ⌝ }
 {
-    let mut positive = [0u64; 4096];
-    let mut negative = [0u64; 4096];
+    let mut positive = [0u64; Formula::MAX_CLAUSES as usize];
+    let mut negative = [0u64; Formula::MAX_CLAUSES as usize];
     let parsed = dimacs::read(text, &mut positive, &mut negative);
     let f = parsed.formula;
     let answer = parsed.answer;
     match answer {
         Parse::Accepted => solve_read(f, &positive, &negative, points, falsified, depths, out),
-        Parse::Refused { code, place } => Solution::Refused { code, place },
+        Parse::Refused { code, place } => refused(code, place),
+    }
+}
+
+// K3, the product's main promise: reads a text, searches, and writes and checks the certificate of one that cannot be
+// met. The clauses stay in local arrays, so that after a refusal nothing that was lent has changed: 4 KiB first, since
+// each is made 0, and large ones where the reader finds these too short (refusal 4), which it tells from the problem
+// line.
+pub fn solve(
+    text: &[u8],
+    points: &mut [u64],
+    falsified: &mut [u32],
+    depths: &mut [Depth],
+    out: &mut [u8],
+) -> Settled
+    ensures { λ r. ⌜ Solved (from-text (now (text .entry)) blank)
+        (slotSlices (now (points .entry)) (now (falsified .entry)) (now (depths .entry))) (now (out .entry)) r
+        (slotSlices (now (points .exit)) (now (falsified .exit)) (now (depths .exit))) (now (out .exit)) ⌝ }
+{
+    let mut positive = [0u64; FEW_CLAUSES];
+    let mut negative = [0u64; FEW_CLAUSES];
+    let parsed = dimacs::read(text, &mut positive, &mut negative);
+    let f = parsed.formula;
+    let answer = parsed.answer;
+    match answer {
+        Parse::Accepted => solve_read(f, &positive, &negative, points, falsified, depths, out),
+        Parse::Refused { code, place } => {
+            if code == 4 {
+                return solve_many(text, points, falsified, depths, out);
+            }
+            refused(code, place)
+        }
     }
 }

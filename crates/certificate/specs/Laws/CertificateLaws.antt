@@ -12,10 +12,12 @@ use Rattle.math.specs.Laws.ListLaws.{and-split, and-join, not-true-false}
 use Rattle.math.specs.Lists.{_∈_}
 use Rattle.math.specs.Laws.PartLaws.{each-nil, each-cons, part-middle, part-last}
 use Rattle.permutation_theory.specs.Permutations.{Permutation, permutationsIn}
-use Rattle.certificate.specs.Bytes.{bytesOf, numberFrom, joined, numbersIn, fieldWidth, permutationWidth}
+use Rattle.math.specs.Numerals.{joined}
+use Rattle.certificate.specs.Bytes.{bytesOf, numberFrom, numbersIn, fieldWidth, permutationWidth}
 use Rattle.certificate.specs.Bytes.{pointWidth, numberWidth}
-use Rattle.certificate.specs.Laws.BytesLaws.{length-bytesOf, numberFrom-bytesOf, length-joined, entries-joined}
-use Rattle.certificate.specs.Laws.BytesLaws.{entries-all, permutations-entries}
+use Rattle.math.specs.Laws.NumeralLaws.{length-digits, value-digits, length-joined, entries-joined}
+use Rattle.math.specs.Laws.NumeralLaws.{entries-all}
+use Rattle.certificate.specs.Laws.BytesLaws.{permutations-entries}
 use Rattle.certificate.specs.Certificate.{FileContents, contentsLength, fieldsOf, fromFields, layout}
 use Rattle.certificate.specs.Certificate.{certificateLength, encode, Encodable, contentsOf, WellFormed, fitting}
 use Rattle.certificate.specs.Certificate.{wellFormed, filePermutations, filePoints, fileNumbers}
@@ -100,7 +102,7 @@ long-file file h = ap (λ (b : Bool). b && fitting (contentsOf file) (length fil
 -- C2: "Contents, 32 bytes"
 pub length-contents : (c : FileContents) → length (joined (bytesOf fieldWidth) (fieldsOf c)) ≡ contentsLength
 unfolding fieldsOf
-length-contents c = length-joined (bytesOf fieldWidth) fieldWidth (fieldsOf c) (λ x _. length-bytesOf fieldWidth x)
+length-contents c = length-joined (bytesOf fieldWidth) fieldWidth (fieldsOf c) (λ x _. length-digits 8 fieldWidth x)
 
 module _ (n m : ℕ) (es : List Permutation) (ps ns : List ℕ) where
   -- the four parts of a certificate
@@ -120,10 +122,10 @@ module _ (n m : ℕ) (es : List Permutation) (ps ns : List ℕ) where
   length-contentsPart = length-contents (layout n m (length es) (length ps) (length ns))
 
   length-pointsPart : length pointsPart ≡ length ps * pointWidth
-  length-pointsPart = length-joined (bytesOf pointWidth) pointWidth ps (λ x _. length-bytesOf pointWidth x)
+  length-pointsPart = length-joined (bytesOf pointWidth) pointWidth ps (λ x _. length-digits 8 pointWidth x)
 
   length-numbersPart : length numbersPart ≡ length ns * numberWidth
-  length-numbersPart = length-joined (bytesOf numberWidth) numberWidth ns (λ x _. length-bytesOf numberWidth x)
+  length-numbersPart = length-joined (bytesOf numberWidth) numberWidth ns (λ x _. length-digits 8 numberWidth x)
 
   module _ (fit : Encodable n m es ps ns) where
     length-permutationsPart : length permutationsPart ≡ length es * permutationWidth n
@@ -148,7 +150,7 @@ module _ (n m : ℕ) (es : List Permutation) (ps ns : List ℕ) where
         → numberFrom (bytesOf fieldWidth x) ≡ x
     unfolding fieldsOf layout
     fields-back =
-        let back = numberFrom-bytesOf fieldWidth in
+        let back = value-digits 8 fieldWidth in
         let P : ℕ → Type 0 = λ x. numberFrom (bytesOf fieldWidth x) ≡ x in
         let last : contentsLength + length es * permutationWidth n + length ps * pointWidth
         < 256 ^ fieldWidth = fit .offsetsFit in
@@ -173,7 +175,7 @@ module _ (n m : ℕ) (es : List Permutation) (ps ns : List ℕ) where
         ∙ ap fromFields
         (entries-joined (bytesOf fieldWidth) fieldWidth numberFrom
         (fieldsOf (layout n m (length es) (length ps) (length ns)))
-        (permutationsPart ++ (pointsPart ++ numbersPart)) (λ x _. length-bytesOf fieldWidth x) fields-back)
+        (permutationsPart ++ (pointsPart ++ numbersPart)) (λ x _. length-digits 8 fieldWidth x) fields-back)
 
     -- D2.4: what is put out is well formed
     pub encode-wellFormed : WellFormed (encode n m es ps ns)
@@ -216,8 +218,8 @@ module _ (n m : ℕ) (es : List Permutation) (ps ns : List ℕ) where
         ∙ ap (numbersIn pointWidth (length ps))
         (part-middle (contentsPart ++ permutationsPart) pointsPart numbersPart
         (contentsLength + length es * permutationWidth n) (length ps * pointWidth) begins-points length-pointsPart)
-        ∙ entries-all (bytesOf pointWidth) pointWidth numberFrom ps (λ x _. length-bytesOf pointWidth x)
-        (λ x h. numberFrom-bytesOf pointWidth x (fit .pointsFit x h))
+        ∙ entries-all (bytesOf pointWidth) pointWidth numberFrom ps (λ x _. length-digits 8 pointWidth x)
+        (λ x h. value-digits 8 pointWidth x (fit .pointsFit x h))
 
     pub encode-numbers : fileNumbers (encode n m es ps ns) ≡ ns
     unfolding fileNumbers layout encode
@@ -228,5 +230,5 @@ module _ (n m : ℕ) (es : List Permutation) (ps ns : List ℕ) where
         (part-last (contentsPart ++ permutationsPart ++ pointsPart) numbersPart
         (contentsLength + length es * permutationWidth n + length ps * pointWidth) (length ns * numberWidth)
         begins-numbers length-numbersPart)
-        ∙ entries-all (bytesOf numberWidth) numberWidth numberFrom ns (λ x _. length-bytesOf numberWidth x)
-        (λ x h. numberFrom-bytesOf numberWidth x (fit .numbersFit x h))
+        ∙ entries-all (bytesOf numberWidth) numberWidth numberFrom ns (λ x _. length-digits 8 numberWidth x)
+        (λ x h. value-digits 8 numberWidth x (fit .numbersFit x h))

@@ -7,7 +7,7 @@ use mathlib.Core.Path.{_≡_, ap, ap₂}
 use Prim.Native.Nat.{ℕ, _^_}
 use lib.Dec.{ltb}
 use lib.ListN.{length, drop}
-use Rattle.point_slices.specs.Slices.{pointsOf}
+use Rattle.point_slices.specs.Slices.{ClauseSlices, SlotSlices}
 use Rattle.formula.specs.declared.Formula.{Formula}
 use Rattle.formula.specs.Laws.Alike.{Alike}
 use Rattle.formula.specs.Laws.AlikeLaws.{same-problem}
@@ -18,32 +18,33 @@ use Rattle.formula.specs.Reply.{written, no-fault, fault, first, unless, unless
 use Rattle.certificate.specs.Rows.{pointsFault, numbersFault, roomFault}
 use Rattle.certificate.specs.Writer.{lengthNeeded, certificateOf, writeFault, writeReply, writeOutput}
 
-module _ (f g : Formula) (a : Alike f g) (positive negative points falsified depths : List ℕ) (filled : ℕ)
+module _ (f g : Formula) (a : Alike f g) (clauses : ClauseSlices) (slots : SlotSlices) (filled : ℕ)
     (out : List ℕ) where
-  same : problemOf f positive negative ≡ problemOf g positive negative
-  same = same-problem f g positive negative a
+  same : problemOf f clauses ≡ problemOf g clauses
+  same = same-problem f g clauses a
 
-  same-fault : writeFault f positive negative points falsified depths filled out
-      ≡ writeFault g positive negative points falsified depths filled out
+  same-fault : writeFault f clauses slots filled out
+      ≡ writeFault g clauses slots filled out
   unfolding writeFault
   same-fault =
-      ap (λ (pb : Problem). first (cond (fits (pb .variables) (pb .total) positive negative
+      ap (λ (pb : Problem). first (cond (fits (pb .variables) (pb .total) clauses
       && ltb (pb .target) (2 ^ pb .variables)) no-fault (fault 10 0)
       ∷ permutationFault (pb .variables) (pb .permutations) ∷ symmetryFault (pb .clauses) (pb .permutations)
-      ∷ pointsFault (capacity (length (pointsOf points)) (length falsified) (length depths)) (pb .variables) filled
-      (pointsOf points)
-      ∷ numbersFault (pb .clauses) filled (pointsOf points) falsified ∷ roomFault (lengthNeeded pb filled) (length out)
+      ∷ pointsFault (capacity slots) (pb .variables) filled
+      (slots .points)
+      ∷ numbersFault (pb .clauses) filled (slots .points) (slots .falsified) ∷ roomFault (lengthNeeded pb filled)
+      (length out)
       ∷ []))
       same
 
-  pub write-same-reply : writeReply f positive negative points falsified depths filled out
-      ≡ writeReply g positive negative points falsified depths filled out
+  pub write-same-reply : writeReply f clauses slots filled out
+      ≡ writeReply g clauses slots filled out
   unfolding writeReply
   write-same-reply = ap₂ (λ t (pb : Problem). unless t (written (lengthNeeded pb filled))) same-fault same
 
-  pub write-same-output : writeOutput f positive negative points falsified depths filled out
-      ≡ writeOutput g positive negative points falsified depths filled out
+  pub write-same-output : writeOutput f clauses slots filled out
+      ≡ writeOutput g clauses slots filled out
   unfolding writeOutput
   write-same-output =
-      ap₂ (λ t (pb : Problem). unlessKept t (certificateOf pb points falsified filled
+      ap₂ (λ t (pb : Problem). unlessKept t (certificateOf pb slots filled
       ++ drop (lengthNeeded pb filled) out) out) same-fault same

@@ -1,8 +1,8 @@
 -- Laws of the readers: where an entry lies, what is answered to a file, and that the entries of a well-formed file's
 -- bodies are its reading. Assumes nothing.
-use mathlib.Core.Bool.{Bool, true, false, cond}
+use mathlib.Core.Bool.{Bool, true, false, cond, true≢false}
 use mathlib.Core.List.{List}
-use mathlib.Core.Option.{some, none}
+use mathlib.Core.Option.{Option, some, none}
 use mathlib.Core.Path.{_≡_, sym, ap, _∙_}
 use Prim.Native.Nat.{ℕ, _+_, _-_, _*_, _/_, _≤_, _<_}
 use native.Mathlib.Nat.{mul-div-cancel, zero-lt-suc}
@@ -13,14 +13,25 @@ use Rattle.math.specs.Laws.PartLaws.{index-some, index-none}
 use Rattle.permutation_theory.specs.Permutations.{Permutation}
 use Rattle.formula.specs.Reply.{no-fault, fault, opened, unless}
 use Rattle.certificate.specs.Bytes.{numberFrom, numbersIn, permutationWidth, pointWidth, numberWidth}
-use Rattle.certificate.specs.Laws.BytesLaws.{entries-at, entries-outside, permutations-entries}
+use Rattle.math.specs.Laws.NumeralLaws.{entries-at, entries-outside}
+use Rattle.certificate.specs.Laws.BytesLaws.{permutations-entries}
 use Rattle.certificate.specs.Certificate.{contentsOf, WellFormed, wellFormed, permutationsBody, pointsBody}
 use Rattle.certificate.specs.Certificate.{numbersBody, filePermutations, filePoints, fileNumbers, numberAt}
 use Rattle.certificate.specs.Certificate.{imageAt}
 use Rattle.certificate.specs.Reader.{openedReply, openedContents}
-use Rattle.certificate.specs.Contract.{replyOfOpened, contentsIn, handedOut, OpenedAs}
+use Rattle.certificate.specs.Contract.{replyOfOpened, contentsIn, handedOut, OpenedAs, entryOf, noEntry, EntryIs}
+use Rattle.certificate.specs.declared.Entry.{Entry}
 use Rattle.certificate.specs.declared.Contents.{Contents}
 use Rattle.certificate.specs.declared.Opened.the-variants.{File, Refused}
+
+-- ---- an entry, or none
+
+pub holds-some : {entry : Option ℕ} (x : ℕ) → entry ≡ some x → EntryIs entry (record { inside = true; value = x })
+holds-some x e = record { held = sym e; none-is-zero = λ h. absurd (true≢false h) }
+
+pub holds-none : {entry : Option ℕ} {r : Entry} → r ≡ noEntry → entry ≡ none → EntryIs entry r
+holds-none e h =
+    record { held = ap entryOf e ∙ sym h; none-is-zero = λ _. ap (λ (r : Entry). r .value) e }
 
 -- ---- where a number of a body lies
 

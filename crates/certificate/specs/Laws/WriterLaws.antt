@@ -14,13 +14,13 @@ use borrow.Author.Tests.{leb-true, eqb-true}
 use Rattle.math.specs.Laws.ListLaws.{and-split, in-getD}
 use Rattle.math.specs.Lists.{_∈_, Distinct}
 use Rattle.point_slices.specs.Laws.SliceLaws.{clauses-le}
-use Rattle.point_slices.specs.Slices.{pointsOf, clausesOf}
+use Rattle.point_slices.specs.Slices.{ClauseSlices, SlotSlices, clausesOf}
 use Rattle.permutation_theory.specs.Permutations.{Permutation, isPermutation}
 use Rattle.formula.specs.declared.Formula.{Formula}
 use Rattle.formula.specs.Limits.{maxVariables, maxClauses, maxPermutations, maxSlots, capacity}
 use Rattle.formula.specs.Problem.{Problem, problemOf}
 use Rattle.formula.specs.Refusals.{Fits, formulaFault, permutationFault, symmetryFault}
-use Rattle.formula.specs.Laws.RefusalLaws.{formula-passes}
+use Rattle.formula.specs.Laws.RefusalLaws.{digits-suffice, formula-passes}
 use Rattle.formula.specs.Reply.{unlessKept, no-fault, first, written}
 use Rattle.certificate.specs.Certificate.{FileContents, layout, certificateLength, Encodable}
 use Rattle.certificate.specs.Laws.CertificateLaws.{length-encode, contents-encode, encode-wellFormed}
@@ -34,32 +34,33 @@ use Rattle.certificate.specs.Writer.{lengthNeeded, writeFault, writeRepl
 
 -- ---- the writer's rows
 
-module _ (f : Formula) (positive negative points falsified depths : List ℕ) (filled : ℕ) (out : List ℕ) where
+module _ (f : Formula) (clauses : ClauseSlices) (slots : SlotSlices) (filled : ℕ) (out : List ℕ) where
   abbrev pb : Problem
-  pb = problemOf f positive negative
+  pb = problemOf f clauses
 
   abbrev lent : ℕ
-  lent = capacity (length (pointsOf points)) (length falsified) (length depths)
+  lent = capacity slots
 
   pub record WriterPassed : Type 0 where
-    pub row10 : formulaFault f positive negative ≡ no-fault
+    pub row10 : formulaFault f clauses ≡ no-fault
     pub row11 : permutationFault (pb .variables) (pb .permutations) ≡ no-fault
     pub row12 : symmetryFault (pb .clauses) (pb .permutations) ≡ no-fault
-    pub row16 : pointsFault lent (pb .variables) filled (pointsOf points) ≡ no-fault
-    pub row17 : numbersFault (pb .clauses) filled (pointsOf points) falsified ≡ no-fault
+    pub row16 : pointsFault lent (pb .variables) filled (slots .points) ≡ no-fault
+    pub row17 : numbersFault (pb .clauses) filled (slots .points) (slots .falsified) ≡ no-fault
     pub row19 : roomFault (lengthNeeded pb filled) (length out) ≡ no-fault
 
   -- the writer's rows, in their order
-  pub write-rows : writeFault f positive negative points falsified depths filled out
-      ≡ first (formulaFault f positive negative ∷ permutationFault (pb .variables) (pb .permutations)
+  pub write-rows : writeFault f clauses slots filled out
+      ≡ first (formulaFault f clauses ∷ permutationFault (pb .variables) (pb .permutations)
       ∷ symmetryFault (pb .clauses) (pb .permutations)
-      ∷ pointsFault lent (pb .variables) filled (pointsOf points)
-      ∷ numbersFault (pb .clauses) filled (pointsOf points) falsified ∷ roomFault (lengthNeeded pb filled) (length out)
+      ∷ pointsFault lent (pb .variables) filled (slots .points)
+      ∷ numbersFault (pb .clauses) filled (slots .points) (slots .falsified) ∷ roomFault (lengthNeeded pb filled)
+      (length out)
       ∷ [])
   unfolding writeFault
   write-rows = refl
 
-  pub writer-passed : writeFault f positive negative points falsified depths filled out ≡ no-fault → WriterPassed
+  pub writer-passed : writeFault f clauses slots filled out ≡ no-fault → WriterPassed
   writer-passed h =
       let a = first-split _ _ (sym write-rows ∙ h) in
       let b = first-split _ _ (a .1) in
@@ -69,7 +70,7 @@ module _ (f : Formula) (positive negative points falsified depths : List ℕ) (f
       let g = first-split _ _ (e .1) in
       record { row10 = a .0; row11 = b .0; row12 = c .0; row16 = d .0; row17 = e .0; row19 = g .0 }
 
-  pub passed-writer : WriterPassed → writeFault f positive negative points falsified depths filled out ≡ no-fault
+  pub passed-writer : WriterPassed → writeFault f clauses slots filled out ≡ no-fault
   passed-writer w =
       write-rows
       ∙ first-join _ _ (w .row10) (first-join _ _ (w .row11)
@@ -78,31 +79,31 @@ module _ (f : Formula) (positive negative points falsified depths : List ℕ) (f
 
   -- the points and the clause numbers of the slots given
   abbrev xs : List ℕ
-  xs = take filled (pointsOf points)
+  xs = take filled (slots .points)
 
   abbrev ks : List ℕ
-  ks = take filled falsified
+  ks = take filled (slots .falsified)
 
   -- row 16: the slots given are among those lent
-  pub few-slots : pointsFault lent (pb .variables) filled (pointsOf points) ≡ no-fault
-      → (filled ≤ maxSlots) × (filled ≤ length points) × (filled ≤ length falsified)
+  pub few-slots : pointsFault lent (pb .variables) filled (slots .points) ≡ no-fault
+      → (filled ≤ maxSlots) × (filled ≤ length (slots .points)) × (filled ≤ length (slots .falsified))
   unfolding capacity
   few-slots h =
-      let w = points-counted lent (pb .variables) filled (pointsOf points) h .1 in
+      let w = points-counted lent (pb .variables) filled (slots .points) h .1 in
       (omega arith, omega arith, omega arith)
 
   module _ (passed : WriterPassed) where
-    limited : Fits (f .variables) (f .clauses) positive negative
-    limited = formula-passes f positive negative (passed .row10) .0
+    limited : Fits (f .variables) (f .clauses) clauses
+    limited = formula-passes f clauses (passed .row10) .0
 
-    few : (filled ≤ maxSlots) × (filled ≤ length points) × (filled ≤ length falsified)
+    few : (filled ≤ maxSlots) × (filled ≤ length (slots .points)) × (filled ≤ length (slots .falsified))
     few = few-slots (passed .row16)
 
     length-xs : length xs ≡ filled
-    length-xs = length-take-le filled points (few .1)
+    length-xs = length-take-le filled (slots .points) (few .1)
 
     length-ks : length ks ≡ filled
-    length-ks = length-take-le filled falsified (few .2)
+    length-ks = length-take-le filled (slots .falsified) (few .2)
 
     -- row 11
     permutations-fit : (length (pb .permutations) ≤ maxPermutations)
@@ -121,8 +122,8 @@ module _ (f : Formula) (positive negative points falsified depths : List ℕ) (f
     slots-passed =
         let t = tested (leb 1 filled && leb filled lent) _ 16 0 (passed .row16) in
         points-passed (f .variables) xs (λ i lt. let h : i < filled = subst (λ (k : ℕ). i < k) length-xs lt in
-        point-passes-take (f .variables) points filled i h
-        ∙ below-passed 16 (pointPasses (f .variables) points) filled (t .1) i h)
+        point-passes-take (f .variables) (slots .points) filled i h
+        ∙ below-passed 16 (pointPasses (f .variables) (slots .points)) filled (t .1) i h)
 
     -- row 17
     numbers-fit : (k : ℕ) → k ∈ ks → k ≤ maxClauses
@@ -130,14 +131,17 @@ module _ (f : Formula) (positive negative points falsified depths : List ℕ) (f
     numbers-fit k m =
         let w = in-getD 0 m in
         let lt : w .0 < filled = subst (λ (j : ℕ). w .0 < j) length-ks (w .1) in
-        let found = number-passed (pb .clauses) points falsified (w .0)
-        (below-passed 17 (numberPasses (pb .clauses) points falsified) filled (passed .row17) (w .0) lt) in
-        let r = clause-found (pb .clauses) (getD falsified (w .0) 0) (found .0) (found .1) in
-        let named : r .0 .number ≡ getD falsified (w .0) 0 = r .2 in
-        let here : getD ks (w .0) 0 ≡ getD falsified (w .0) 0 = getD-take filled falsified (w .0) 0 lt in
+        let found = number-passed (pb .clauses) (slots .points) (slots .falsified) (w .0)
+        (below-passed 17 (numberPasses (pb .clauses) (slots .points) (slots .falsified)) filled (passed .row17) (w .0)
+        lt) in
+        let r = clause-found (pb .clauses) (getD (slots .falsified) (w .0) 0) (found .0) (found .1) in
+        let named : r .0 .number ≡ getD (slots .falsified) (w .0) 0 = r .2 in
+        let here : getD ks (w .0) 0 ≡ getD (slots .falsified) (w .0) 0 = getD-take filled (slots .falsified) (w .0)
+        0 lt in
         let same : getD ks (w .0) 0 ≡ k = w .2 in
-        let within = numbered-range 1 (clausesOf positive negative) (r .0) (r .1) in
-        let size : length (clausesOf positive negative) ≤ length positive = clauses-le positive negative in
+        let within = numbered-range 1 (clausesOf clauses) (r .0) (r .1) in
+        let size : length (clausesOf clauses) ≤ length (clauses .positive) = clauses-le (clauses .positive)
+        (clauses .negative) in
         let l = limited in
         omega arith
 
@@ -159,7 +163,7 @@ module _ (f : Formula) (positive negative points falsified depths : List ℕ) (f
           clausesFit = omega arith;
           countFits = omega arith;
           imagesFit = e .1;
-          pointsFit = λ x m. lt-of-lt-of-le (slots-passed .0 x m) (pow-mono {j = 64} few-variables);
+          pointsFit = λ x m. lt-of-lt-of-le (slots-passed .0 x m) (pow-mono (digits-suffice few-variables));
           numbersFit = λ k m. let small : k ≤ maxClauses = numbers-fit k m in omega arith;
           paired = length-xs ∙ sym length-ks;
           offsetsFit = omega arith;
@@ -170,13 +174,13 @@ module _ (f : Formula) (positive negative points falsified depths : List ℕ) (f
     room = leb-true (lengthNeeded pb filled) (length out)
         (tested (leb (lengthNeeded pb filled) (length out)) no-fault 19 (lengthNeeded pb filled) (passed .row19) .0)
 
-    pub certificate-length : length (certificateOf pb points falsified filled) ≡ lengthNeeded pb filled
+    pub certificate-length : length (certificateOf pb slots filled) ≡ lengthNeeded pb filled
     unfolding certificateOf lengthNeeded
     certificate-length =
         length-encode (pb .variables) (pb .total) (pb .permutations) xs ks writer-encodable
         ∙ ap (certificateLength (pb .variables) (length (pb .permutations))) length-xs
 
-    certificate-reads : ReadsAs pb xs ks (certificateOf pb points falsified filled)
+    certificate-reads : ReadsAs pb xs ks (certificateOf pb slots filled)
     unfolding certificateOf layout
     certificate-reads =
         let n = pb .variables in
@@ -194,48 +198,48 @@ module _ (f : Formula) (positive negative points falsified depths : List ℕ) (f
         }
 
   -- the writer puts out exactly where its tests find nothing
-  pub output-written : writeFault f positive negative points falsified depths filled out ≡ no-fault
-      → writeOutput f positive negative points falsified depths filled out
-      ≡ certificateOf pb points falsified filled ++ drop (lengthNeeded pb filled) out
+  pub output-written : writeFault f clauses slots filled out ≡ no-fault
+      → writeOutput f clauses slots filled out
+      ≡ certificateOf pb slots filled ++ drop (lengthNeeded pb filled) out
   unfolding writeOutput
-  output-written h = ap (λ t. unlessKept t (certificateOf pb points falsified filled
+  output-written h = ap (λ t. unlessKept t (certificateOf pb slots filled
       ++ drop (lengthNeeded pb filled) out) out) h
 
-  pub reply-written : writeFault f positive negative points falsified depths filled out ≡ no-fault
-      → writeReply f positive negative points falsified depths filled out ≡ written (lengthNeeded pb filled)
+  pub reply-written : writeFault f clauses slots filled out ≡ no-fault
+      → writeReply f clauses slots filled out ≡ written (lengthNeeded pb filled)
   unfolding writeReply
-  reply-written h = unless-none (writeFault f positive negative points falsified depths filled out) h
+  reply-written h = unless-none (writeFault f clauses slots filled out) h
       (written (lengthNeeded pb filled))
 
-  pub written-sound : (size : ℕ) → writeReply f positive negative points falsified depths filled out ≡ written size
-      → (writeFault f positive negative points falsified depths filled out ≡ no-fault) × (size ≡ lengthNeeded pb filled)
+  pub written-sound : (size : ℕ) → writeReply f clauses slots filled out ≡ written size
+      → (writeFault f clauses slots filled out ≡ no-fault) × (size ≡ lengthNeeded pb filled)
   unfolding writeReply
   written-sound size h =
-      let s = not-refused (writeFault f positive negative points falsified depths filled out)
+      let s = not-refused (writeFault f clauses slots filled out)
       (written (lengthNeeded pb filled)) (written size) h (written-not-refused size) in
       let r = reply-written s in
       (s, cc)
 
   -- D2.4: "a written certificate reads back to the same points and rules"
-  pub reads-back : (size : ℕ) → writeReply f positive negative points falsified depths filled out ≡ written size
-      → ReadsAs pb xs ks (take size (writeOutput f positive negative points falsified depths filled out))
+  pub reads-back : (size : ℕ) → writeReply f clauses slots filled out ≡ written size
+      → ReadsAs pb xs ks (take size (writeOutput f clauses slots filled out))
   reads-back size h =
       let w = written-sound size h in
       let passed = writer-passed (w .0) in
-      let front : take size (writeOutput f positive negative points falsified depths filled out)
-      ≡ certificateOf pb points falsified filled =
+      let front : take size (writeOutput f clauses slots filled out)
+      ≡ certificateOf pb slots filled =
       ap (take size) (output-written (w .0))
-      ∙ take-at (certificateOf pb points falsified filled) (drop (lengthNeeded pb filled) out) size
+      ∙ take-at (certificateOf pb slots filled) (drop (lengthNeeded pb filled) out) size
       (certificate-length passed ∙ sym (w .1)) in
       rw front (certificate-reads passed)
 
   -- C6: "Output past the certificate is unchanged."
-  pub past-unchanged : (size : ℕ) → writeReply f positive negative points falsified depths filled out ≡ written size
-      → drop size (writeOutput f positive negative points falsified depths filled out) ≡ drop size out
+  pub past-unchanged : (size : ℕ) → writeReply f clauses slots filled out ≡ written size
+      → drop size (writeOutput f clauses slots filled out) ≡ drop size out
   past-unchanged size h =
       let w = written-sound size h in
       let passed = writer-passed (w .0) in
       ap (drop size) (output-written (w .0))
-      ∙ drop-at (certificateOf pb points falsified filled) (drop (lengthNeeded pb filled) out) size
+      ∙ drop-at (certificateOf pb slots filled) (drop (lengthNeeded pb filled) out) size
       (certificate-length passed ∙ sym (w .1))
       ∙ ap (λ (k : ℕ). drop k out) (sym (w .1))

@@ -9,7 +9,7 @@ use borrow.Author.Needs.{needs}
 use Rattle.math.specs.Lists.{spliced}
 use Rattle.math.specs.Laws.SpliceLaws.{spliced-none, spliced-take-next}
 use Rattle.certificate.specs.Bytes.{bytesOf}
-use Rattle.certificate.specs.Laws.BytesLaws.{length-bytesOf, getD-bytesOf}
+use Rattle.math.specs.Laws.NumeralLaws.{length-digits, digit-at}
 use Rattle.certificate_output.proofs.put_number.Statement.{statement}
 use Rattle.certificate_output.proofs.put_number.Tie as tie
 
@@ -34,16 +34,16 @@ loop-again c =
     let a = c .before .before .before .before .args in (
       omega arith,
       length-set (l .out) (a .at + l .i) (c .byte-of .result) ∙ l .inv .1,
-      ap₂ (λ xs (b : ℕ). set xs (a .at + l .i) b) (l .inv .2) (c .byte-of .ensures ∙ sym (getD-bytesOf (a .width) (a .x) (l .i) (c .before .loop-test .taken)))
+      ap₂ (λ xs (b : ℕ). set xs (a .at + l .i) b) (l .inv .2) (c .byte-of .ensures ∙ sym (digit-at 8 (a .width) (a .x) (l .i) (c .before .loop-test .taken)))
           ∙ spliced-take-next (a .at) (l .i) (bytesOf (a .width) (a .x)) (a .out .now) 0
-          (lt-of-lt-of-le (c .before .loop-test .taken) (le-of-eq (sym (length-bytesOf (a .width) (a .x))))) (omega arith),
+          (lt-of-lt-of-le (c .before .loop-test .taken) (le-of-eq (sym (length-digits 8 (a .width) (a .x))))) (omega arith),
     )
 
 returns : tie.Need-returns Inv-loop μ-loop
 returns c =
     let a = c .before .before .before .args in
     c .before .loop .inv .2
-    ∙ ap (λ l. spliced (a .at) l (a .out .now)) (take-all _ (bytesOf (a .width) (a .x)) (let z : length (bytesOf (a .width) (a .x)) ≤ c .before .loop .i = omega (arith, length-bytesOf (a .width) (a .x)) in z))
+    ∙ ap (λ l. spliced (a .at) l (a .out .now)) (take-all _ (bytesOf (a .width) (a .x)) (let z : length (bytesOf (a .width) (a .x)) ≤ c .before .loop .i = omega (arith, length-digits 8 (a .width) (a .x)) in z))
 
 pub put-number-spec : {M : Type 1} → statement M
 put-number-spec =

@@ -1,13 +1,14 @@
 -- `certificate_output::put_points` meets its contract: before point i the first i are stored. Assumes nothing.
 use Prim.Native.Nat.{_-_}
 use borrow.Author.Needs.{needs}
+use Rattle.point_slices.specs.Slices.{pointsOf}
 use Rattle.certificate.specs.Bytes.{pointWidth}
 use Rattle.certificate_output.specs.Laws.OutputLaws.{Storing, storing-begins, storing-goes-on, storing-ends}
 use Rattle.certificate_output.proofs.put_points.Statement.{statement}
 use Rattle.certificate_output.proofs.put_points.Tie as tie
 
 abbrev Inv-loop : tie.InvT-loop
-Inv-loop out₀ at points count i₀ out i = Storing pointWidth at count points out₀ i out
+Inv-loop out₀ at points count i₀ out i = Storing pointWidth at count (pointsOf points) out₀ i out
 
 abbrev μ-loop : tie.MeasureT-loop
 μ-loop out₀ at points count i₀ out i = count - i

@@ -10,8 +10,9 @@ use lib.ListN.{length, getD, take}
 use lib.Seq.{length-take-le, take-suc}
 use Rattle.math.specs.Lists.{spliced}
 use Rattle.math.specs.Laws.SpliceLaws.{spliced-none, spliced-next}
-use Rattle.certificate.specs.Bytes.{bytesOf, joined, fieldWidth, pointWidth}
-use Rattle.certificate.specs.Laws.BytesLaws.{length-bytesOf, length-joined, joined-append, joined-snoc}
+use Rattle.math.specs.Numerals.{joined}
+use Rattle.certificate.specs.Bytes.{bytesOf, fieldWidth, pointWidth}
+use Rattle.math.specs.Laws.NumeralLaws.{length-digits, length-joined, joined-append, joined-snoc}
 use Rattle.certificate.specs.Certificate.{fieldsOf, layout, contentsLength}
 
 -- behind one part, another
@@ -32,7 +33,7 @@ module _ (w at : ℕ) (old : List ℕ) (room : at ≤ length old) where
       → after ≡ spliced at (joined (bytesOf w) (xs ++ x ∷ [])) old
   one-stored xs x place before after here e f =
       part-stored at place (joined (bytesOf w) xs) (bytesOf w x) old before after room
-      (here ∙ ap (λ (k : ℕ). at + k) (sym (length-joined (bytesOf w) w xs (λ y _. length-bytesOf w y)))) e f
+      (here ∙ ap (λ (k : ℕ). at + k) (sym (length-joined (bytesOf w) w xs (λ y _. length-digits 8 w y)))) e f
       ∙ ap (λ l. spliced at l old) (sym (joined-snoc (bytesOf w) xs x))
 
 -- the loop that stores `count` numbers, w bytes each, from place `at` on: the first i are there
@@ -96,7 +97,7 @@ contents-stored n m a k points numbers old half whole p q e f =
     let back : List ℕ = k ∷ points ∷ k ∷ numbers ∷ [] in
     part-stored 0 16 (joined (bytesOf fieldWidth) front) (joined (bytesOf fieldWidth) back) old half whole zero-le
     (sym (zero-add (length (joined (bytesOf fieldWidth) front))
-    ∙ length-joined (bytesOf fieldWidth) fieldWidth front (λ y _. length-bytesOf fieldWidth y))) e f
+    ∙ length-joined (bytesOf fieldWidth) fieldWidth front (λ y _. length-digits 8 fieldWidth y))) e f
     ∙ ap (λ l. spliced 0 l old) (sym (joined-append (bytesOf fieldWidth) front back))
     ∙ ap₂ (λ (u v : ℕ). spliced 0 (joined (bytesOf fieldWidth) (n ∷ m ∷ a ∷ contentsLength ∷ k ∷ u ∷ k ∷ v ∷ [])) old) p
     q

@@ -4,12 +4,13 @@ use Prim.Native.Nat.{_*_, _≤_}
 use native.Mathlib.Nat.{mul-le-mul}
 use native.Mathlib.Omega.{arith}
 use borrow.Author.Needs.{needs}
+use Rattle.formula.specs.Limits.{maxVariables, maxPermutations}
 use Rattle.certificate.specs.Certificate.{certificateLength}
 use Rattle.certificate_writer.proofs.length_needed.Statement.{statement}
 use Rattle.certificate_writer.proofs.length_needed.Tie as tie
 
 -- the bytes of the permutations
-area : (c : tie.Start) → c .args .permutations * c .args .n ≤ 16 * 64
+area : (c : tie.Start) → c .args .permutations * c .args .n ≤ maxPermutations * maxVariables
 area c = mul-le-mul (c .pre .1) (c .pre .0)
 
 mul-area : tie.Need-mul-area

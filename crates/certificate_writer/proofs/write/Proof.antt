@@ -2,6 +2,8 @@
 use mathlib.Core.Path.{_≡_, sym}
 use lib.ListN.{length}
 use borrow.Author.Needs.{needs}
+use Rattle.point_slices.specs.Slices.{clauseSlices, slotSlices}
+use Rattle.formula.specs.Limits.{maxImages}
 use Rattle.certificate_writer.specs.Laws.WriteLaws.{slots-counted, wrote-faulty, within-limits, wrote-too-short}
 use Rattle.certificate_writer.specs.Laws.WriteLaws.{storable-of, wrote-all}
 use Rattle.certificate_writer.proofs.write.Statement.{statement}
@@ -14,29 +16,29 @@ room-requires : tie.Need-room-requires
 room-requires c κs = tt
 
 slots-refusal-requires : tie.Need-slots-refusal-requires
-slots-refusal-requires c κs = slots-counted _ _ _ _ (c .before .problem-refusal .ensures) _ _ _ _ (c .room .ensures)
+slots-refusal-requires c κs = slots-counted _ _ _ (c .before .problem-refusal .ensures) _ _ (c .room .ensures)
 
 returns : tie.Need-returns
 returns c =
     let slots = c .before .before .before in
-    wrote-faulty _ _ _ _ _ _ _ _ _ (slots .before .before .problem-refusal .ensures) _ (slots .before .room .ensures) _ (slots .slots-refusal .ensures) _ _ (c .before .refusal .given .1)
+    wrote-faulty _ _ _ _ _ _ (slots .before .before .problem-refusal .ensures) _ (slots .before .room .ensures) _ (slots .slots-refusal .ensures) _ _ (c .before .refusal .given .1)
 
 length-needed-requires : tie.Need-length-needed-requires
 length-needed-requires c κs =
     let slots = c .before .before in
     let a = slots .before .before .before .before .before .before .before .before .before .args in
-    within-limits (a .f) (a .positive .now) (a .negative .now) (a .points .now) (a .falsified .now) (a .depths .now) (a .filled) (a .out .now)
+    within-limits (a .f) (clauseSlices (a .positive .now) (a .negative .now)) (slotSlices (a .points .now) (a .falsified .now) (a .depths .now)) (a .filled) (a .out .now)
     _ (slots .before .before .problem-refusal .ensures) _ (slots .before .room .ensures) _ (slots .slots-refusal .ensures) (c .enum-told .given .1)
 
 returns-2 : tie.Need-returns-2
 returns-2 c =
     let fine = c .before .before in
     let slots = fine .before .before in
-    wrote-too-short _ _ _ _ _ _ _ _ _ (slots .before .before .problem-refusal .ensures) _ (slots .before .room .ensures) _ (slots .slots-refusal .ensures) (fine .enum-told .given .1)
+    wrote-too-short _ _ _ _ _ _ (slots .before .before .problem-refusal .ensures) _ (slots .before .room .ensures) _ (slots .slots-refusal .ensures) (fine .enum-told .given .1)
     _ (c .before .length-needed .ensures) (c .if1 .taken)
 
 -- the array of the images is as long as its type says
-whole : (c : tie.Start) → length (c .args .f .images) ≡ 1024
+whole : (c : tie.Start) → length (c .args .f .images) ≡ maxImages
 whole c = search needs
 
 slice-aggregate-put-certificate : tie.Need-slice-aggregate-put-certificate
@@ -51,7 +53,7 @@ put-certificate-requires c κs =
     let slots = fine .before .before in
     let start = slots .before .before .before .before .before .before .before .before .before in
     let a = start .args in
-    storable-of (a .f) (a .positive .now) (a .negative .now) (a .points .now) (a .falsified .now) (a .depths .now) (a .filled) (a .out .now)
+    storable-of (a .f) (clauseSlices (a .positive .now) (a .negative .now)) (slotSlices (a .points .now) (a .falsified .now) (a .depths .now)) (a .filled) (a .out .now)
     _ (slots .before .before .problem-refusal .ensures) _ (slots .before .room .ensures) _ (slots .slots-refusal .ensures) (fine .enum-told .given .1)
     _ (enough-room .before .length-needed .ensures) (enough-room .if1 .left) (whole start)
 
@@ -64,7 +66,7 @@ returns-3 c =
     let enough-room = stored .before .before .before .before in
     let fine = enough-room .before .before in
     let slots = fine .before .before in
-    wrote-all _ _ _ _ _ _ _ _ _ (slots .before .before .problem-refusal .ensures) _ (slots .before .room .ensures) _ (slots .slots-refusal .ensures) (fine .enum-told .given .1)
+    wrote-all _ _ _ _ _ _ (slots .before .before .problem-refusal .ensures) _ (slots .before .room .ensures) _ (slots .slots-refusal .ensures) (fine .enum-told .given .1)
     _ (enough-room .before .length-needed .ensures) (enough-room .if1 .left) _ (stored .put-certificate .ensures)
 
 pub write-spec : {M : Type 1} → statement M

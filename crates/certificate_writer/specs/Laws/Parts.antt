@@ -3,9 +3,9 @@ use mathlib.Core.List.{List, [], _∷_, _++_}
 use Prim.Native.Nat.{ℕ, _*_, _≤_}
 use lib.ListN.{length, take}
 use Rattle.points.specs.Points.{Numbered}
-use Rattle.point_slices.specs.Slices.{pointsOf}
 use Rattle.formula.specs.Reply.{Fault, first}
-use Rattle.certificate.specs.Bytes.{bytesOf, joined, fieldWidth, pointWidth, numberWidth}
+use Rattle.math.specs.Numerals.{joined}
+use Rattle.certificate.specs.Bytes.{bytesOf, fieldWidth, pointWidth, numberWidth}
 use Rattle.certificate.specs.Certificate.{fieldsOf, layout, certificateLength}
 use Rattle.certificate.specs.Rows.{pointsFault, numbersFault}
 
@@ -20,12 +20,12 @@ slotsFault earlier limit n clauses filled points falsified =
 abbrev pub parts : ℕ → ℕ → ℕ → List ℕ → List ℕ → List ℕ → ℕ → List ℕ
 parts n m permutations images points falsified filled =
     joined (bytesOf fieldWidth) (fieldsOf (layout n m permutations filled filled)) ++ take (permutations * n) images
-    ++ joined (bytesOf pointWidth) (take filled (pointsOf points))
+    ++ joined (bytesOf pointWidth) (take filled points)
     ++ joined (bytesOf numberWidth) (take filled falsified)
 
 -- what is to be stored is there, and the output has room for it
 pub record Storable (n permutations : ℕ) (images points falsified : List ℕ) (filled : ℕ) (out : List ℕ) : Type 0 where
   pub imagesHeld : permutations * n ≤ length images
-  pub pointsHeld : filled ≤ length (pointsOf points)
+  pub pointsHeld : filled ≤ length points
   pub numbersHeld : filled ≤ length falsified
   pub room : certificateLength n permutations filled ≤ length out

@@ -8,13 +8,14 @@ use lib.Seq.{length-take-le}
 use Rattle.math.specs.Lists.{over, spliced}
 use Rattle.math.specs.Laws.SpliceLaws.{spliced-front}
 use Rattle.points.specs.Points.{Numbered}
-use Rattle.point_slices.specs.Slices.{pointsOf}
 use Rattle.permutation_theory.specs.Permutations.{Permutation, permutationsIn}
 use Rattle.permutation_images.specs.Laws.LoopLaws.{length-permutations}
 use Rattle.formula.specs.Reply.{Fault, no-fault}
 use Rattle.formula.specs.Laws.ReplyLaws.{IsFault, answers-first, answers-rest, first-last}
-use Rattle.certificate.specs.Bytes.{bytesOf, joined, fieldWidth, pointWidth, numberWidth}
-use Rattle.certificate.specs.Laws.BytesLaws.{length-bytesOf, length-joined, joined-permutations}
+use Rattle.math.specs.Numerals.{joined}
+use Rattle.certificate.specs.Bytes.{bytesOf, fieldWidth, pointWidth, numberWidth}
+use Rattle.math.specs.Laws.NumeralLaws.{length-digits, length-joined}
+use Rattle.certificate.specs.Laws.BytesLaws.{joined-permutations}
 use Rattle.certificate.specs.Certificate.{FileContents, contentsLength, fieldsOf, layout, encode}
 use Rattle.certificate.specs.Laws.CertificateLaws.{length-contents}
 use Rattle.certificate.specs.Rows.{pointsFault, numbersFault}
@@ -57,7 +58,7 @@ module _ (n m a : ℕ) (images points falsified : List ℕ) (filled : ℕ) (out 
   contentsPart = joined (bytesOf fieldWidth) (fieldsOf (layout n m a filled filled))
 
   abbrev pointsPart : List ℕ
-  pointsPart = joined (bytesOf pointWidth) (take filled (pointsOf points))
+  pointsPart = joined (bytesOf pointWidth) (take filled points)
 
   -- where the bodies begin
   begins-images : length contentsPart ≡ contentsLength
@@ -72,7 +73,7 @@ module _ (n m a : ℕ) (images points falsified : List ℕ) (filled : ℕ) (out 
   begins-numbers =
       length-append (contentsPart ++ take (a * n) images) pointsPart
       ∙ ap₂ _+_ begins-points (length-joined (bytesOf pointWidth) pointWidth (take filled points)
-      (λ x _. length-bytesOf pointWidth x)
+      (λ x _. length-digits 8 pointWidth x)
       ∙ ap (λ (k : ℕ). k * pointWidth) (length-take-le filled points (storable .pointsHeld)))
 
   -- behind the parts stored so far, the next
@@ -97,11 +98,11 @@ module _ (n m a : ℕ) (images points falsified : List ℕ) (filled : ℕ) (out 
 pub parts-encode : (n m a : ℕ) (images points falsified : List ℕ) (filled : ℕ) → filled ≤ length points
     → filled ≤ length falsified
     → parts n m a images points falsified filled
-    ≡ encode n m (permutationsIn n a images) (take filled (pointsOf points)) (take filled falsified)
+    ≡ encode n m (permutationsIn n a images) (take filled points) (take filled falsified)
 unfolding encode
 parts-encode n m a images points falsified filled enough-points enough-numbers =
     let es : List Permutation = permutationsIn n a images in
-    let xs : List ℕ = take filled (pointsOf points) in
+    let xs : List ℕ = take filled points in
     let ks : List ℕ = take filled falsified in
     let whole : FileContents → List ℕ → List ℕ =
     λ c body. joined (bytesOf fieldWidth) (fieldsOf c) ++ body ++ joined (bytesOf pointWidth) xs

@@ -1,5 +1,7 @@
 -- `check_distinct::few_refusal` meets its contract: an array of zeros is what the test is to be lent. Assumes nothing.
 use mathlib.Core.Path.{refl}
+use Prim.Native.Nat.{_*_}
+use Rattle.check_distinct.specs.Laws.Indexing.{fewPoints}
 use Rattle.check_distinct.specs.Laws.IndexingLaws.{zeros-links, links-indexable}
 use Rattle.check_distinct.proofs.few_refusal.Statement.{statement}
 use Rattle.check_distinct.proofs.few_refusal.Tie as tie
@@ -8,7 +10,7 @@ slice-aggregate-points-refusal : tie.Need-slice-aggregate-points-refusal
 slice-aggregate-points-refusal c = refl
 
 points-refusal-requires : tie.Need-points-refusal-requires
-points-refusal-requires c κs = links-indexable (zeros-links 1024 3072 refl) (c .before .before .pre)
+points-refusal-requires c κs = links-indexable (zeros-links fewPoints (3 * fewPoints) refl) (c .before .before .pre)
 
 returns : tie.Need-returns
 returns c = c .before .points-refusal .ensures .tells

@@ -5,6 +5,7 @@ use native.Mathlib.Omega.{arith}
 use lib.ListN.{length}
 use borrow.Author.Needs.{needs}
 use borrow.Author.Tests.{not-true, not-false}
+use Rattle.point_slices.specs.Slices.{pointsOf}
 use Rattle.check_distinct.specs.Laws.Indexing.{Sifting}
 use Rattle.check_distinct.specs.Laws.IndexingLaws.{sifting-begins, sifting-growable, sifting-stops}
 use Rattle.check_distinct.specs.Laws.IndexingLaws.{sifting-goes-on, sifting-ends}
@@ -12,10 +13,10 @@ use Rattle.check_distinct.proofs.index_points.Statement.{statement}
 use Rattle.check_distinct.proofs.index_points.Tie as tie
 
 abbrev Inv-loop : tie.InvT-loop
-Inv-loop links₀ heads points n count i₀ links i = (length links ≡ length links₀) × Sifting heads n count points links i
+Inv-loop n points links₀ heads count i₀ links i = (length links ≡ length links₀) × Sifting heads n count (pointsOf points) links i
 
 abbrev μ-loop : tie.MeasureT-loop
-μ-loop links₀ heads points n count i₀ links i = count - i
+μ-loop n points links₀ heads count i₀ links i = count - i
 
 loop-holds : tie.Need-loop-holds Inv-loop μ-loop
 loop-holds c = (refl, sifting-begins (c .before .before .pre))
@@ -24,7 +25,7 @@ point-enters-requires : tie.Need-point-enters-requires Inv-loop μ-loop
 point-enters-requires c κs = sifting-growable (c .before .before .before .before .before .pre) (c .before .before .loop .inv .1) (c .before .loop-test .taken)
 
 same-length : tie.Need-same-length Inv-loop μ-loop
-same-length c = c .before .before .before .point-enters .kept .0 ∙ c .before .before .before .before .before .before .loop .inv .0
+same-length c = c .before .before .before .point-enters .kept .1 .1 .0 ∙ c .before .before .before .before .before .before .loop .inv .0
 
 returns : tie.Need-returns Inv-loop μ-loop
 returns c =
@@ -35,7 +36,7 @@ loop-less c = omega (arith, c .before .before .before .before .before .loop-test
 
 loop-again : tie.Need-loop-again Inv-loop μ-loop
 loop-again c =
-    let kept = c .before .before .before .point-enters .kept .0 in (
+    let kept = c .before .before .before .point-enters .kept .1 .1 .0 in (
       kept ∙ c .before .before .before .before .before .before .loop .inv .0,
       sifting-goes-on (c .before .before .before .before .before .before .before .before .before .pre) (c .before .before .before .before .before .before .loop .inv .1) (c .before .before .before .before .before .loop-test .taken) _ _ (c .before .before .before .point-enters .ensures) (not-false _ (c .if1 .left)) kept,
     )

@@ -53,6 +53,10 @@ pub record Refuses (heads n count limit : ℕ) (points : List ℕ) (r : Fault) (
   pub tells : r ≡ pointsFault limit n count points
   pub full : r ≡ no-fault → Indexed heads n (take count points) links′
 
+-- how many points small arrays are for
+abbrev pub fewPoints : ℕ
+fewPoints = 1024
+
 -- there are `count` points, of few variables, and no more than an array has room for
 pub record Counted (room n count : ℕ) (points : List ℕ) : Type 0 where
   pub few : n ≤ maxVariables

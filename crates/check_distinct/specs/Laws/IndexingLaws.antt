@@ -11,6 +11,7 @@ use lib.Dec.{leb, ltb, eqb}
 use lib.ListN.{length, getD, take, replicate, length-replicate}
 use lib.Seq.{take-suc, length-take-le}
 use borrow.Author.Tests.{leb-true, ltb-true, eqb-true, not-true}
+use Rattle.formula.specs.Laws.RefusalLaws.{digits-suffice}
 use Rattle.math.specs.Laws.ListLaws.{and-split}
 use Rattle.math.specs.Lists.{_∈_, below, Distinct}
 use Rattle.math.specs.Laws.PartLaws.{all-passing-below}
@@ -35,7 +36,12 @@ module _ {heads n i : ℕ} {points links : List ℕ} (g : Growable heads n i poi
   grow-addable inside =
       let lt = g .enough in
       record {
-        askable = record { few = g .few; indexed = g .indexed; narrow = ltb-true x (2 ^ n) (sym test ∙ inside) };
+        askable = record {
+          few = digits-suffice (g .few);
+          indexed = g .indexed;
+          narrow = ltb-true x (2 ^ n) (sym test
+              ∙ inside);
+        };
         enough = omega arith;
         small = g .small;
         room = g .room;

@@ -2,8 +2,9 @@
 -- nothing.
 use mathlib.Core.Path.{ap₂, _∙_}
 use borrow.Author.Needs.{needs}
+use Rattle.point_slices.specs.Laws.SliceLaws.{same-count}
 use Rattle.points.specs.Points.{numbered}
-use Rattle.point_slices.specs.Slices.{clausesOf}
+use Rattle.point_slices.specs.Slices.{clausesOf, clauseSlices}
 use Rattle.permutation_theory.specs.Permutations.{permutationsIn}
 use Rattle.certificate.specs.Bytes.{pointWidth, numberWidth}
 use Rattle.check_entries.specs.Laws.EntryLaws.{copied, lent-ready}
@@ -18,13 +19,13 @@ numbers-into-requires : tie.Need-numbers-into-requires
 numbers-into-requires c κs = search needs
 
 lists-refusal-requires : tie.Need-lists-refusal-requires
-lists-refusal-requires c κs = let pre = c .before .before .before .before .before .before .before .before .before .before .before .before .before .before .before .before .before .before .before .pre in lent-ready (pre .0) (pre .1) _ (c .before .before .before .before .before .before .before .before .before .points-into .kept .0)
+lists-refusal-requires c κs = let pre = c .before .before .before .before .before .before .before .before .before .before .before .before .before .before .before .before .before .before .before .pre in lent-ready (pre .0) (pre .1) _ (same-count _ _ (c .before .before .before .before .before .before .before .before .before .points-into .kept .0))
 
 returns : tie.Need-returns
 returns c =
     let a = c .before .before .before .before .before .before .before .before .before .before .before .before .before .before .before .before .before .before .before .before .before .before .args in
     c .before .before .lists-refusal .ensures
-    ∙ ap₂ (listsFault (a .n) (numbered (clausesOf (a .positive .now) (a .negative .now))) (permutationsIn (a .n) (a .permutations) (a .images .now)))
+    ∙ ap₂ (listsFault (a .g .variables) (numbered (clausesOf (clauseSlices (a .positive .now) (a .negative .now)))) (permutationsIn (a .g .variables) (a .g .permutations) (a .images .now)))
     (copied pointWidth (a .count) (a .points .now) _ _ (c .before .before .before .before .before .before .before .before .before .before .before .before .points-into .ensures)) (copied numberWidth (a .count) (a .falsified .now) _ _ (c .before .before .before .before .before .before .before .before .numbers-into .ensures))
 
 pub copied-refusal-spec : {M : Type 1} → statement M

@@ -1,5 +1,7 @@
 -- `check_entries::few_refusal` meets its contract: arrays of zeros are what the test is to be lent. Assumes nothing.
 use mathlib.Core.Path.{refl}
+use Prim.Native.Nat.{_*_}
+use Rattle.check_distinct.specs.Laws.Indexing.{fewPoints}
 use Rattle.check_entries.specs.Laws.EntryLaws.{zeros-lent}
 use Rattle.check_entries.proofs.few_refusal.Statement.{statement}
 use Rattle.check_entries.proofs.few_refusal.Tie as tie
@@ -14,7 +16,7 @@ slice-aggregate-copied-refusal-3 : tie.Need-slice-aggregate-copied-refusal-3
 slice-aggregate-copied-refusal-3 c = refl
 
 copied-refusal-requires : tie.Need-copied-refusal-requires
-copied-refusal-requires c κs = (c .before .before .before .before .before .before .before .before .pre, zeros-lent 1024 3072 refl)
+copied-refusal-requires c κs = (c .before .before .before .before .before .before .before .before .pre, zeros-lent fewPoints (3 * fewPoints) refl)
 
 returns : tie.Need-returns
 returns c = c .before .before .before .copied-refusal .ensures

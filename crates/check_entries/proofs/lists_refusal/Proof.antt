@@ -2,7 +2,7 @@
 use mathlib.Core.Path.{_≡_, sym, ap, _∙_, subst}
 use borrow.Author.Needs.{needs}
 use Rattle.points.specs.Points.{numbered}
-use Rattle.point_slices.specs.Slices.{clausesOf}
+use Rattle.point_slices.specs.Slices.{clausesOf, clauseSlices, pointsOf}
 use Rattle.formula.specs.Limits.{maxSlots}
 use Rattle.formula.specs.Refusals.{faultOf}
 use Rattle.formula.specs.Reply.{no-fault}
@@ -27,7 +27,7 @@ numbers-refusal-requires c κs = search needs
 passed : (c : tie.After-enum-told) → faultOf (c .before .before .before .before .points-refusal .result) ≡ no-fault
 passed c = ap faultOf (c .enum-told .given .1)
 
-sixteen : (c : tie.After-enum-told) → pointsFault maxSlots (c .before .before .before .before .before .before .before .before .before .before .before .before .args .n) (c .before .before .before .before .before .before .before .before .before .before .before .before .args .count) (c .before .before .before .before .before .before .before .before .before .before .before .before .args .points .now) ≡ no-fault
+sixteen : (c : tie.After-enum-told) → pointsFault maxSlots (c .before .before .before .before .before .before .before .before .before .before .before .before .args .g .variables) (c .before .before .before .before .before .before .before .before .before .before .before .before .args .count) (pointsOf (c .before .before .before .before .before .before .before .before .before .before .before .before .args .points .now)) ≡ no-fault
 sixteen c = sym (c .before .before .before .before .points-refusal .ensures .tells) ∙ passed c
 
 returns-2 : tie.Need-returns-2
@@ -40,7 +40,7 @@ flips-refusal-requires c κs = ready-testable (c .before .before .before .before
 
 -- and the third where refusal 17 did not either
 seventeen : (c : tie.After-enum-told3)
-    → numbersFault (numbered (clausesOf (c .before .before .before .before .before .before .before .before .before .before .before .before .before .before .before .args .positive .now) (c .before .before .before .before .before .before .before .before .before .before .before .before .before .before .before .args .negative .now))) (c .before .before .before .before .before .before .before .before .before .before .before .before .before .before .before .args .count) (c .before .before .before .before .before .before .before .before .before .before .before .before .before .before .before .args .points .now) (c .before .before .before .before .before .before .before .before .before .before .before .before .before .before .before .args .falsified .now) ≡ no-fault
+    → numbersFault (numbered (clausesOf (clauseSlices (c .before .before .before .before .before .before .before .before .before .before .before .before .before .before .before .args .positive .now) (c .before .before .before .before .before .before .before .before .before .before .before .before .before .before .before .args .negative .now)))) (c .before .before .before .before .before .before .before .before .before .before .before .before .before .before .before .args .count) (pointsOf (c .before .before .before .before .before .before .before .before .before .before .before .before .before .before .before .args .points .now)) (c .before .before .before .before .before .before .before .before .before .before .before .before .before .before .before .args .falsified .now) ≡ no-fault
 seventeen c = sym (c .before .before .numbers-refusal .ensures) ∙ ap faultOf (c .enum-told3 .given .1)
 
 returns-3 : tie.Need-returns-3
@@ -51,7 +51,6 @@ pub lists-refusal-spec : {M : Type 1} → statement M
 lists-refusal-spec =
     tie.close
     (tie.spec
-    (λ c. search needs)
     points-refusal-requires
     (λ c. search needs)
     (λ c. search needs)

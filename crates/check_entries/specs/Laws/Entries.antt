@@ -3,12 +3,13 @@ use mathlib.Core.List.{List, [], _∷_}
 use Prim.Native.Nat.{ℕ, _*_, _≤_}
 use lib.ListN.{length}
 use Rattle.points.specs.Points.{Numbered, numbered}
-use Rattle.point_slices.specs.Slices.{clausesOf}
+use Rattle.point_slices.specs.Slices.{ClauseSlices, clausesOf}
 use Rattle.permutation_theory.specs.Permutations.{Permutation, permutationsIn}
 use Rattle.formula.specs.Limits.{maxSlots}
 use Rattle.formula.specs.Reply.{Fault, first}
 use Rattle.certificate.specs.Bytes.{numbersIn, pointWidth, numberWidth}
 use Rattle.certificate.specs.Rows.{pointsFault, numbersFault}
+use Rattle.permutation_coverage.specs.declared.Lookup.{Lookup}
 use Rattle.check_distinct.specs.Laws.Indexing.{Indexable, Links}
 use Rattle.check_flips.specs.Flips.{flipsFault}
 use Rattle.check_flips.specs.Laws.Loops.{Proper}
@@ -19,21 +20,21 @@ listsFault n cs es ps ns = first (pointsFault maxSlots n (length ps) ps ∷ numb
     ∷ flipsFault n cs es ps ns ∷ [])
 
 -- the same, of `count` entries in two bodies, with permutations and clauses as they lie in their slices
-abbrev pub entriesFault : ℕ → ℕ → List ℕ → List ℕ → List ℕ → ℕ → List ℕ → List ℕ → Fault
-entriesFault n permutations images positive negative count points falsified =
-    listsFault n (numbered (clausesOf positive negative)) (permutationsIn n permutations images)
+abbrev pub entriesFault : ℕ → ℕ → List ℕ → ClauseSlices → List ℕ → List ℕ → ℕ → Fault
+entriesFault n permutations images clauses points falsified count =
+    listsFault n (numbered (clausesOf clauses)) (permutationsIn n permutations images)
     (numbersIn pointWidth count points) (numbersIn numberWidth count falsified)
 
 -- there are `count` points, and links that are all 0 with room for them
-pub record Ready (n permutations : ℕ) (images positive negative : List ℕ) (count : ℕ) (points : List ℕ) (heads : ℕ)
-    (links : List ℕ) : Type 0 where
-  pub given : Proper n permutations images positive negative
-  pub indexable : Indexable heads n count points links
+pub record Ready (g : Lookup) (images : List ℕ) (clauses : ClauseSlices) (points links : List ℕ) (count : ℕ) : Type 0
+  where
+    pub given : Proper (g .variables) (g .permutations) images clauses
+    pub indexable : Indexable (g .heads) (g .variables) count points links
 
 -- the bodies hold `count` entries, and no more than fit the arrays
-pub record Decodable (n permutations : ℕ) (images positive negative : List ℕ) (count limit : ℕ)
-    (points falsified : List ℕ) : Type 0 where
-  pub given : Proper n permutations images positive negative
+pub record Decodable (n permutations : ℕ) (images : List ℕ) (clauses : ClauseSlices) (points falsified : List ℕ)
+    (count limit : ℕ) : Type 0 where
+  pub given : Proper n permutations images clauses
   pub most : count ≤ limit
   pub points-long : count * pointWidth ≤ length points
   pub numbers-long : count * numberWidth ≤ length falsified

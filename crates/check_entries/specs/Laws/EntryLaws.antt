@@ -4,10 +4,13 @@ use mathlib.Core.Bool.{true}
 use mathlib.Core.List.{List}
 use mathlib.Core.Path.{_≡_, sym, ap, _∙_}
 use Prim.Native.Nat.{ℕ, _≤_}
-use native.Mathlib.Nat.{le-of-eq}
+use native.Mathlib.Nat.{le-of-eq, le-trans}
 use native.Mathlib.Omega.{arith}
 use lib.ListN.{length, take, replicate, length-replicate}
 use lib.Seq.{length-take-le}
+use Rattle.point_slices.specs.Laws.SliceLaws.{points-blank}
+use Rattle.permutation_coverage.specs.declared.Lookup.{Lookup}
+use Rattle.point_slices.specs.Slices.{ClauseSlices, pointsOf}
 use Rattle.math.specs.Lists.{over}
 use Rattle.math.specs.Laws.PartLaws.{over-front}
 use Rattle.points.specs.Points.{Numbered}
@@ -16,7 +19,7 @@ use Rattle.formula.specs.Limits.{maxSlots}
 use Rattle.formula.specs.Reply.{Fault, no-fault}
 use Rattle.formula.specs.Laws.ReplyLaws.{IsFault, answers-first, answers-rest, first-last}
 use Rattle.certificate.specs.Bytes.{numberFrom, numbersIn}
-use Rattle.certificate.specs.Laws.BytesLaws.{length-entries}
+use Rattle.math.specs.Laws.NumeralLaws.{length-entries}
 use Rattle.certificate.specs.Laws.RowLaws.{points-fault-take, numbers-fault-take}
 use Rattle.certificate.specs.Rows.{pointsFault, numbersFault}
 use Rattle.check_flips.specs.Laws.FlipLaws.{flips-fault-take}
@@ -74,11 +77,10 @@ copied w count body old new e = ap (take count) e
 -- ---- what rows 16 and 18 are handed
 
 -- the first entries, copied to a slice as long as the one lent, can be indexed
-pub lent-ready : {n permutations : ℕ} {images positive negative : List ℕ} {count limit : ℕ}
-    {points falsified held named links : List ℕ}
-    → Decodable n permutations images positive negative count limit points falsified → Lent limit held named links
-    → (filled : List ℕ) → length filled ≡ length held
-    → Ready n permutations images positive negative count filled limit links
+pub lent-ready : {g : Lookup} {images : List ℕ} {clauses : ClauseSlices} {points falsified held named links : List ℕ}
+    {count : ℕ} → Decodable (g .variables) (g .permutations) images clauses points falsified count (g .heads)
+    → Lent (g .heads) held named links → (filled : List ℕ) → length filled ≡ length held
+    → Ready g images clauses filled links count
 lent-ready d l filled same =
     let under = d .most in
     let long = l .held-long in
@@ -89,18 +91,22 @@ lent-ready d l filled same =
     }
 
 -- where row 16 finds nothing it has left an index of the points
-pub ready-testable : {n permutations : ℕ} {images positive negative : List ℕ} {count : ℕ} {points : List ℕ} {heads : ℕ}
-    {links : List ℕ}
-    → Ready n permutations images positive negative count points heads links → {f : Fault} {links′ : List ℕ}
-    → Refuses heads n count maxSlots points f links′ → f ≡ no-fault
-    → Testable n permutations images positive negative count points heads links′
+pub ready-testable : {g : Lookup} {images : List ℕ} {clauses : ClauseSlices} {points links : List ℕ} {count : ℕ}
+    → Ready g images clauses points links count → {f : Fault} {links′ : List ℕ}
+    → Refuses (g .heads) (g .variables) count maxSlots points f links′ → f ≡ no-fault
+    → Testable g images clauses points links′ count
 ready-testable r w e =
     record { given = r .given; enough = r .indexable .enough; indexed = w .full e }
 
 -- ---- arrays of zeros
 
 pub zeros-lent : (limit k : ℕ) → suits limit k ≡ true
-    → Lent limit (replicate limit 0) (replicate limit 0) (replicate k 0)
+    → Lent limit (pointsOf (replicate limit 0)) (replicate limit 0) (replicate k 0)
 zeros-lent limit k h =
     let long : limit ≤ length (replicate {A = ℕ} limit 0) = le-of-eq (sym (length-replicate {A = ℕ} limit 0)) in
-    record { held-long = long; named-long = long; linked = zeros-links limit k h }
+    record {
+      held-long = le-trans long (le-of-eq (sym (ap length
+          (points-blank limit))));
+      named-long = long;
+      linked = zeros-links limit k h;
+    }

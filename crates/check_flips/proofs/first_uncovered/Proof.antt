@@ -4,10 +4,12 @@ use mathlib.Core.Path.{_≡_, sym, _∙_, subst}
 use Prim.Native.Nat.{ℕ, _-_, _^_, _<_}
 use lib.ListN.{length, take, drop, length-replicate}
 use borrow.Author.Tests.{not-true, not-false}
+use Rattle.formula.specs.Limits.{maxPermutations}
+use Rattle.point_slices.specs.Laws.SliceLaws.{points-blank}
 use Rattle.math.specs.Lists.{firstFailing, below}
 use Rattle.math.specs.Laws.ScanLaws.{onFrom, failing-begins, below-ends, below-stops, below-goes-on}
 use Rattle.points.specs.Points.{numbered}
-use Rattle.point_slices.specs.Slices.{clausesOf}
+use Rattle.point_slices.specs.Slices.{clausesOf, clauseSlices, pointsOf}
 use Rattle.permutation_theory.specs.Permutations.{permutationsIn}
 use Rattle.permutation_coverage.specs.Laws.Coverage.{Imaged}
 use Rattle.permutation_coverage.specs.Laws.CoverageLaws.{imaged-none}
@@ -18,16 +20,16 @@ use Rattle.check_flips.proofs.first_uncovered.Statement.{statement}
 use Rattle.check_flips.proofs.first_uncovered.Tie as tie
 
 abbrev Inv-loop : tie.InvT-loop
-Inv-loop positive negative points falsified count links heads images n permutations moved₀ seen₀ i₀ moved seen i =
-    (firstFailing (flipsPass n (numbered (clausesOf positive negative)) (permutationsIn n permutations images) (take count points) falsified) (below count)
-    ≡ onFrom i (firstFailing (flipsPass n (numbered (clausesOf positive negative)) (permutationsIn n permutations images) (take count points) falsified) (drop i (below count))))
-    × (length moved ≡ 16) × Imaged n permutations images seen moved
+Inv-loop g images positive negative points falsified links count moved₀ seen₀ i₀ moved seen i =
+    (firstFailing (flipsPass (g .variables) (numbered (clausesOf (clauseSlices positive negative))) (permutationsIn (g .variables) (g .permutations) images) (take count (pointsOf points)) falsified) (below count)
+    ≡ onFrom i (firstFailing (flipsPass (g .variables) (numbered (clausesOf (clauseSlices positive negative))) (permutationsIn (g .variables) (g .permutations) images) (take count (pointsOf points)) falsified) (drop i (below count))))
+    × (length moved ≡ maxPermutations) × Imaged (g .variables) (g .permutations) images seen (pointsOf moved)
 
 abbrev μ-loop : tie.MeasureT-loop
-μ-loop positive negative points falsified count links heads images n permutations moved₀ seen₀ i₀ moved seen i = count - i
+μ-loop g images positive negative points falsified links count moved₀ seen₀ i₀ moved seen i = count - i
 
 loop-holds : tie.Need-loop-holds Inv-loop μ-loop
-loop-holds c = (failing-begins _ _ 0, length-replicate {A = ℕ} 16 0, imaged-none _ _ 16 _ (c .before .before .before .before .before .before .pre .given .few-permutations))
+loop-holds c = (failing-begins _ _ 0, length-replicate {A = ℕ} maxPermutations 0, subst (Imaged _ _ _ 0) (sym (points-blank maxPermutations)) (imaged-none _ _ maxPermutations _ (c .before .before .before .before .before .before .pre .given .few-permutations)))
 
 point-at-requires : tie.Need-point-at-requires Inv-loop μ-loop
 point-at-requires c κs = search needs
@@ -38,15 +40,15 @@ slice-aggregate-move-images c = sym (c .before .before .before .loop .inv .1)
 move-images-requires : tie.Need-move-images-requires Inv-loop μ-loop
 move-images-requires c κs =
     let a = c .before .before .before .before .before .before .before .before .before .before .args in
-    (tested-permuting (c .before .before .before .before .before .before .before .before .before .before .pre), c .before .before .before .loop .inv .2, subst (λ (y : ℕ). y < 2 ^ a .n) (sym (c .before .point-at .ensures)) (tested-narrow (c .before .before .before .before .before .before .before .before .before .before .pre) _ (c .before .before .loop-test .taken)))
+    (tested-permuting (c .before .before .before .before .before .before .before .before .before .before .pre), c .before .before .before .loop .inv .2, subst (λ (y : ℕ). y < 2 ^ a .g .variables) (sym (c .before .point-at .ensures)) (tested-narrow (c .before .before .before .before .before .before .before .before .before .before .pre) _ (c .before .before .loop-test .taken)))
 
 slice-aggregate-flips-pass : tie.Need-slice-aggregate-flips-pass Inv-loop μ-loop
-slice-aggregate-flips-pass c = sym (c .before .before .move-images .kept .0 ∙ c .before .before .before .before .before .before .loop .inv .1)
+slice-aggregate-flips-pass c = sym (c .before .before .move-images .kept .1 .1 .1 .0 ∙ c .before .before .before .before .before .before .loop .inv .1)
 
 flips-pass-requires : tie.Need-flips-pass-requires Inv-loop μ-loop
 flips-pass-requires c κs =
     let a = c .before .before .before .before .before .before .before .before .before .before .before .before .before .args in
-    (c .before .before .before .before .before .before .before .before .before .before .before .before .before .pre, c .before .before .before .before .before .loop-test .taken, subst (λ (y : ℕ). Imaged (a .n) (a .permutations) (a .images .now) y (c .before .before .move-images .last .0)) (c .before .before .before .before .point-at .ensures) (c .before .before .move-images .ensures))
+    (c .before .before .before .before .before .before .before .before .before .before .before .before .before .pre, c .before .before .before .before .before .loop-test .taken, subst (λ (y : ℕ). Imaged (a .g .variables) (a .g .permutations) (a .images .now) y (pointsOf (c .before .before .move-images .last .1 .1 .1 .0))) (c .before .before .before .before .point-at .ensures) (c .before .before .move-images .ensures))
 
 returns : tie.Need-returns Inv-loop μ-loop
 returns c =
@@ -57,7 +59,7 @@ loop-again : tie.Need-loop-again Inv-loop μ-loop
 loop-again c =
     let l = c .before .before .before .before .before .before .before .before .loop in (
       l .inv .0 ∙ below-goes-on _ _ (l .i) (c .before .before .before .before .before .before .before .loop-test .taken) (sym (c .before .flips-pass .ensures) ∙ not-false _ (c .if1 .left)),
-      c .before .before .before .before .move-images .kept .0 ∙ l .inv .1,
+      c .before .before .before .before .move-images .kept .1 .1 .1 .0 ∙ l .inv .1,
       c .before .before .before .before .move-images .ensures,
     )
 

@@ -4,6 +4,7 @@ use native.Mathlib.Nat.{lt-of-lt-of-le}
 use lib.ListN.{length, take}
 use borrow.Author.Needs.{needs}
 use borrow.Author.Tests.{not-true, not-false}
+use Rattle.point_slices.specs.Slices.{pointsOf}
 use Rattle.math.specs.Bits.{members}
 use Rattle.permutation_theory.specs.Permutations.{covered, permutationsIn}
 use Rattle.check_flips.specs.Laws.FlipLaws.{flipping-begins, flipping-less, flipping-stops, flipping-goes-on}
@@ -13,11 +14,11 @@ use Rattle.check_flips.proofs.flips_covered.Statement.{statement}
 use Rattle.check_flips.proofs.flips_covered.Tie as tie
 
 abbrev Inv-loop : tie.InvT-loop
-Inv-loop links heads points count images n permutations moved x listed left₀ v₀ left v =
-    Flipping (covered (permutationsIn n permutations images) (take count points)) n x listed left v
+Inv-loop g images points links moved count x listed n left₀ v₀ left v =
+    Flipping (covered (permutationsIn (g .variables) (g .permutations) images) (take count (pointsOf points))) (g .variables) x listed left v
 
 abbrev μ-loop : tie.MeasureT-loop
-μ-loop links heads points count images n permutations moved x listed left₀ v₀ left v = length (members n left)
+μ-loop g images points links moved count x listed n left₀ v₀ left v = length (members (g .variables) left)
 
 next-variable-requires : tie.Need-next-variable-requires Inv-loop μ-loop
 next-variable-requires c κs = search needs

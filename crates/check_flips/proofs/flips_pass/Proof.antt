@@ -3,7 +3,7 @@
 use mathlib.Core.Path.{sym, ap, _∙_, subst}
 use Prim.Native.Nat.{ℕ, _<_, _^_}
 use Rattle.points.specs.Points.{numbered}
-use Rattle.point_slices.specs.Slices.{clausesOf}
+use Rattle.point_slices.specs.Slices.{clausesOf, clauseSlices, pointsOf}
 use Rattle.certificate.specs.Rows.{clauseNumbered}
 use Rattle.check_flips.specs.Laws.FlipLaws.{tested-coverable, listed-within, flips-passed}
 use Rattle.check_flips.specs.Laws.Loops.{listedBy}
@@ -25,15 +25,15 @@ flips-covered-requires c κs =
     let t = c .before .before .before .before .before .before .before .before .before .before .pre .0 in
     let a = c .before .before .before .before .before .before .before .before .before .before .args in (
       tested-coverable t (a .i) _ (c .before .point-at .ensures) _ (c .before .before .before .before .before .before .before .before .before .before .pre .2),
-      subst (λ (s : ℕ). s < 2 ^ a .n) (sym (c .variables-of .ensures)) (listed-within _ _ (t .given .below) _),
+      subst (λ (s : ℕ). s < 2 ^ a .g .variables) (sym (c .variables-of .ensures)) (listed-within _ _ (t .given .below) _),
     )
 
 returns : tie.Need-returns
 returns c =
     let a = c .before .before .before .before .before .before .before .before .before .before .before .args in
     c .flips-covered .ensures
-    ∙ flips-passed _ _ _ (a .points .now) (a .falsified .now) (a .count) (a .i) _ _ (c .before .before .before .before .before .before .before .before .before .before .before .pre .1) (c .before .before .point-at .ensures)
-    (c .before .variables-of .ensures ∙ ap (λ (k : ℕ). listedBy (clauseNumbered (numbered (clausesOf (a .positive .now) (a .negative .now))) k)) (c .before .before .before .number-at .ensures))
+    ∙ flips-passed _ _ _ (pointsOf (a .points .now)) (a .falsified .now) (a .count) (a .i) _ _ (c .before .before .before .before .before .before .before .before .before .before .before .pre .1) (c .before .before .point-at .ensures)
+    (c .before .variables-of .ensures ∙ ap (λ (k : ℕ). listedBy (clauseNumbered (numbered (clausesOf (clauseSlices (a .positive .now) (a .negative .now)))) k)) (c .before .before .before .number-at .ensures))
 
 pub flips-pass-spec : {M : Type 1} → statement M
 flips-pass-spec =

@@ -4,7 +4,7 @@ use lib.ListN.{take}
 use lib.Seq.{length-take-le}
 use borrow.Author.Needs.{needs}
 use Rattle.points.specs.Points.{numbered}
-use Rattle.point_slices.specs.Slices.{clausesOf}
+use Rattle.point_slices.specs.Slices.{clausesOf, clauseSlices, pointsOf}
 use Rattle.permutation_theory.specs.Permutations.{permutationsIn}
 use Rattle.formula.specs.Reply.{faultAt}
 use Rattle.formula.specs.Laws.ReplyLaws.{fault-zero, fault-pos}
@@ -19,12 +19,12 @@ first-uncovered-requires c κs = search needs
 -- the row is the fault of the number found
 row : (c : tie.After-first-uncovered)
     → faultAt 18 (c .first-uncovered .result)
-    ≡ flipsFault (c .before .before .before .before .before .before .before .args .n) (numbered (clausesOf (c .before .before .before .before .before .before .before .args .positive .now) (c .before .before .before .before .before .before .before .args .negative .now)))
-    (permutationsIn (c .before .before .before .before .before .before .before .args .n) (c .before .before .before .before .before .before .before .args .permutations) (c .before .before .before .before .before .before .before .args .images .now)) (take (c .before .before .before .before .before .before .before .args .count) (c .before .before .before .before .before .before .before .args .points .now)) (c .before .before .before .before .before .before .before .args .falsified .now)
+    ≡ flipsFault (c .before .before .before .before .before .before .before .args .g .variables) (numbered (clausesOf (clauseSlices (c .before .before .before .before .before .before .before .args .positive .now) (c .before .before .before .before .before .before .before .args .negative .now))))
+    (permutationsIn (c .before .before .before .before .before .before .before .args .g .variables) (c .before .before .before .before .before .before .before .args .g .permutations) (c .before .before .before .before .before .before .before .args .images .now)) (take (c .before .before .before .before .before .before .before .args .count) (pointsOf (c .before .before .before .before .before .before .before .args .points .now))) (c .before .before .before .before .before .before .before .args .falsified .now)
 row c =
     let start = c .before .before .before .before .before .before .before in
     let a = start .args in
-    ap (faultAt 18) (c .first-uncovered .ensures) ∙ flips-row _ _ _ _ _ (a .count) (length-take-le (a .count) (a .points .now) (start .pre .enough))
+    ap (faultAt 18) (c .first-uncovered .ensures) ∙ flips-row _ _ _ _ _ (a .count) (length-take-le (a .count) (pointsOf (a .points .now)) (start .pre .enough))
 
 returns : tie.Need-returns
 returns c = fault-zero 18 _ (c .if1 .taken) ∙ row (c .before)

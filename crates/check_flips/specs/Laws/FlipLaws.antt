@@ -10,6 +10,8 @@ use lib.Bits.{or-lt}
 use lib.ListN.{length, getD, take}
 use lib.Pow.{pow-pos}
 use lib.Seq.{getD-take, length-take-le}
+use Rattle.formula.specs.Laws.RefusalLaws.{digits-suffice}
+use Rattle.permutation_coverage.specs.declared.Lookup.{Lookup}
 use Rattle.math.specs.Laws.BitLaws.{flip-lt}
 use Rattle.math.specs.Bits.{flip, members}
 use Rattle.math.specs.Lists.{all, firstFailing, below}
@@ -17,8 +19,8 @@ use Rattle.math.specs.Laws.PartLaws.{index-some, index-none, same-failing-below
 use Rattle.math.specs.Laws.SetLaws.{members-next, members-none}
 use Rattle.points.specs.Laws.Contracts.{NextVariable}
 use Rattle.points.specs.Laws.NextLaws.{next-lowest, next-none}
-use Rattle.points.specs.Points.{Clause, Numbered, listed, variables, numbered}
-use Rattle.point_slices.specs.Slices.{noLiterals}
+use Rattle.points.specs.Points.{pointDigits, Clause, Numbered, listed, variables, numbered}
+use Rattle.point_slices.specs.Slices.{noLiterals, ClauseSlices}
 use Rattle.point_theory.specs.Laws.Notions.{ClausesBelow}
 use Rattle.permutation_theory.specs.Permutations.{Permutation, covered}
 use Rattle.permutation_coverage.specs.Laws.Coverage.{Permuting, Imaged, Coverable}
@@ -69,7 +71,7 @@ flips-listed t n (some c) x = refl
 
 -- ---- the loop over the variables of a set
 
-module _ (t : ℕ → Bool) (n x s : ℕ) (few : n ≤ 64) where
+module _ (t : ℕ → Bool) (n x s : ℕ) (few : n ≤ pointDigits) where
   pub flipping-begins : (v : ℕ) → s < 2 ^ n → NextVariable s v → Flipping t n x s s v
   flipping-begins v lt next = record { within = lt; next = next; decides = refl }
 
@@ -105,26 +107,30 @@ module _ (t : ℕ → Bool) (n x s : ℕ) (few : n ≤ 64) where
 
 -- ---- what can be looked up
 
-module _ {n permutations : ℕ} {images positive negative : List ℕ} {count : ℕ} {points : List ℕ} {heads : ℕ}
-    {links : List ℕ}
-    (t : Testable n permutations images positive negative count points heads links) where
-  pub tested-permuting : Permuting n permutations images
-  tested-permuting = record { few = t .given .few; listed = t .given .listed; proper = t .given .proper }
+module _ {g : Lookup} {images : List ℕ} {clauses : ClauseSlices} {points links : List ℕ} {count : ℕ}
+    (t : Testable g images clauses points links count) where
+  pub tested-permuting : Permuting (g .variables) (g .permutations) images
+  tested-permuting = record {
+    few = digits-suffice
+        (t .given .few);
+    listed = t .given .listed;
+    proper = t .given .proper;
+  }
 
   -- an indexed point has n digits
-  pub tested-narrow : (i : ℕ) → i < count → getD points i 0 < 2 ^ n
+  pub tested-narrow : (i : ℕ) → i < count → getD points i 0 < 2 ^ g .variables
   tested-narrow i lt =
-      subst (λ (y : ℕ). y < 2 ^ n) (getD-take count points i 0 lt)
+      subst (λ (y : ℕ). y < 2 ^ g .variables) (getD-take count points i 0 lt)
       (t .indexed .indexes .narrow i (subst (λ (m : ℕ). i < m) (sym (length-take-le count points (t .enough))) lt))
 
   -- the flips of a point that is indexed, where its images are known
   pub tested-coverable : (i x : ℕ) → x ≡ getD points i 0 → (moved : List ℕ)
-      → Imaged n permutations images (getD points i 0) moved
-      → Coverable heads n count points links permutations images moved x
+      → Imaged (g .variables) (g .permutations) images (getD points i 0) moved
+      → Coverable (g .heads) (g .variables) count points links (g .permutations) images moved x
   tested-coverable i x at moved known =
-      let own = subst (λ (y : ℕ). Imaged n permutations images y moved) (sym at) known in
+      let own = subst (λ (y : ℕ). Imaged (g .variables) (g .permutations) images y moved) (sym at) known in
       record {
-        askable = record { few = t .given .few; indexed = t .indexed; narrow = own .narrow };
+        askable = record { few = digits-suffice (t .given .few); indexed = t .indexed; narrow = own .narrow };
         permuting = tested-permuting;
         imaged = own .imaged;
       }

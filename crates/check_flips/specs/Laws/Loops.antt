@@ -9,11 +9,12 @@ use Rattle.math.specs.Bits.{flip, members}
 use Rattle.math.specs.Lists.{_∈_, all}
 use Rattle.points.specs.Laws.Contracts.{NextVariable}
 use Rattle.points.specs.Points.{Clause, listed, numbered}
-use Rattle.point_slices.specs.Slices.{pointsOf, clausesOf}
+use Rattle.point_slices.specs.Slices.{ClauseSlices, clausesOf}
 use Rattle.point_theory.specs.Laws.Notions.{ClausesBelow}
 use Rattle.permutation_theory.specs.Permutations.{Permutation, IsPermutation, permutationsIn}
 use Rattle.permutation_images.specs.Laws.Contracts.{Listed}
 use Rattle.point_index.specs.Laws.Index.{Indexed}
+use Rattle.permutation_coverage.specs.declared.Lookup.{Lookup}
 use Rattle.formula.specs.Limits.{maxVariables, maxPermutations}
 
 -- the variables that a clause lists, as a set; none without a clause
@@ -27,19 +28,20 @@ allFlips t n x s = all t (map (flip x) (members n s))
 
 -- what row 18 looks at besides points and numbers: `count` permutations of n variables, and clauses that list no other
 -- variable
-pub record Proper (n count : ℕ) (images positive negative : List ℕ) : Type 0 where
+pub record Proper (n count : ℕ) (images : List ℕ) (clauses : ClauseSlices) : Type 0 where
   pub few : n ≤ maxVariables
   pub few-permutations : count ≤ maxPermutations
   pub listed : Listed n count images
   pub proper : (e : Permutation) → e ∈ permutationsIn n count images → IsPermutation n e
-  pub below : ClausesBelow n (numbered (clausesOf positive negative))
+  pub below : ClausesBelow n (numbered (clausesOf clauses))
 
 -- what lets flips be looked up: there are as many points as are to be tested, and the links are an index of them
-pub record Testable (n count : ℕ) (images positive negative : List ℕ) (tested : ℕ) (points : List ℕ) (heads : ℕ)
-    (links : List ℕ) : Type 0 where
-  pub given : Proper n count images positive negative
-  pub enough : tested ≤ length (pointsOf points)
-  pub indexed : Indexed heads n (take tested (pointsOf points)) links
+pub record Testable (g : Lookup) (images : List ℕ) (clauses : ClauseSlices) (points links : List ℕ) (tested : ℕ)
+    : Type 0
+  where
+    pub given : Proper (g .variables) (g .permutations) images clauses
+    pub enough : tested ≤ length points
+    pub indexed : Indexed (g .heads) (g .variables) (take tested points) links
 
 -- the loop over the variables of the set s: those of `left` are still to be tested, v the lowest of them, and they
 -- decide

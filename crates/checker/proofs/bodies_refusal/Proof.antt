@@ -5,7 +5,7 @@ use native.Mathlib.Omega.{arith}
 use lib.ListN.{take, drop}
 use borrow.Author.Needs.{needs}
 use Rattle.points.specs.Points.{numbered}
-use Rattle.point_slices.specs.Slices.{clausesOf}
+use Rattle.point_slices.specs.Slices.{clausesOf, clauseSlices}
 use Rattle.permutation_theory.specs.Permutations.{permutationsIn}
 use Rattle.formula.specs.Refusals.{permutationFault, symmetryFault, faultOf}
 use Rattle.formula.specs.Reply.{no-fault}
@@ -16,8 +16,8 @@ use Rattle.checker.proofs.bodies_refusal.Statement.{statement}
 use Rattle.checker.proofs.bodies_refusal.Tie as tie
 
 -- where the parts lie
-lies : (s : tie.Start) → Laid (s .args .c) (s .args .positive .now) (s .args .negative .now) (s .args .file .now) (s .pre)
-lies s = laid (s .args .c) (s .args .positive .now) (s .args .negative .now) (s .args .file .now) (s .pre)
+lies : (s : tie.Start) → Laid (s .args .c) (clauseSlices (s .args .positive .now) (s .args .negative .now)) (s .args .file .now) (s .pre)
+lies s = laid (s .args .c) (clauseSlices (s .args .positive .now) (s .args .negative .now)) (s .args .file .now) (s .pre)
 
 sub-images : tie.Need-sub-images
 sub-images c = lies (c .before .before .before .before .before .before) .first-second
@@ -34,7 +34,7 @@ permutations-refusal-requires c κs = (c .before .before .before .before .before
 returns : tie.Need-returns
 returns c =
     let s = c .before .before .before .before .before .before .before .before .before .before in
-    stops-11 (s .args .c) (s .args .positive .now) (s .args .negative .now) (s .args .file .now) (s .pre) (faultOf (c .before .before .permutations-refusal .result)) (c .before .before .permutations-refusal .ensures)
+    stops-11 (s .args .c) (clauseSlices (s .args .positive .now) (s .args .negative .now)) (s .args .file .now) (s .pre) (faultOf (c .before .before .permutations-refusal .result)) (c .before .before .permutations-refusal .ensures)
     (subst IsFault (sym (ap faultOf (c .enum-told2 .given .1))) tt)
 
 -- what follows is reached where refusal 11 found nothing
@@ -44,23 +44,23 @@ eleven c = sym (c .before .before .permutations-refusal .ensures) ∙ ap faultOf
 symmetry-refusal-requires : tie.Need-symmetry-refusal-requires
 symmetry-refusal-requires c κs =
     let s = c .before .before .before .before .before .before .before .before .before .before in
-    images-listed (s .args .c) (s .args .positive .now) (s .args .negative .now) (s .args .file .now) (s .pre) (eleven c)
+    images-listed (s .args .c) (clauseSlices (s .args .positive .now) (s .args .negative .now)) (s .args .file .now) (s .pre) (eleven c)
 
 returns-2 : tie.Need-returns-2
 returns-2 c =
     let s = c .before .before .before .before .before .before .before .before .before .before .before .before .before in
-    stops-12 (s .args .c) (s .args .positive .now) (s .args .negative .now) (s .args .file .now) (s .pre) (eleven (c .before .before .before)) (faultOf (c .before .before .symmetry-refusal .result)) (c .before .before .symmetry-refusal .ensures)
+    stops-12 (s .args .c) (clauseSlices (s .args .positive .now) (s .args .negative .now)) (s .args .file .now) (s .pre) (eleven (c .before .before .before)) (faultOf (c .before .before .symmetry-refusal .result)) (c .before .before .symmetry-refusal .ensures)
     (subst IsFault (sym (ap faultOf (c .enum-told4 .given .1))) tt)
 
 -- and what follows here where refusal 12 did not either
 twelve : (c : tie.After-enum-told3)
-    → symmetryFault (numbered (clausesOf (c .before .before .before .before .before .before .before .before .before .before .before .before .before .args .positive .now) (c .before .before .before .before .before .before .before .before .before .before .before .before .before .args .negative .now))) (permutationsIn (c .before .before .before .before .before .before .before .before .before .before .before .before .before .args .c .variables) (c .before .before .before .before .before .before .before .before .before .before .before .before .before .args .c .permutations) (take (c .before .before .before .before .before .before .before .before .before .before .before .before .before .args .c .«points_at» - c .before .before .before .before .before .before .before .before .before .before .before .before .before .args .c .«permutations_at») (drop (c .before .before .before .before .before .before .before .before .before .before .before .before .before .args .c .«permutations_at») (c .before .before .before .before .before .before .before .before .before .before .before .before .before .args .file .now)))) ≡ no-fault
+    → symmetryFault (numbered (clausesOf (clauseSlices (c .before .before .before .before .before .before .before .before .before .before .before .before .before .args .positive .now) (c .before .before .before .before .before .before .before .before .before .before .before .before .before .args .negative .now)))) (permutationsIn (c .before .before .before .before .before .before .before .before .before .before .before .before .before .args .c .variables) (c .before .before .before .before .before .before .before .before .before .before .before .before .before .args .c .permutations) (take (c .before .before .before .before .before .before .before .before .before .before .before .before .before .args .c .«points_at» - c .before .before .before .before .before .before .before .before .before .before .before .before .before .args .c .«permutations_at») (drop (c .before .before .before .before .before .before .before .before .before .before .before .before .before .args .c .«permutations_at») (c .before .before .before .before .before .before .before .before .before .before .before .before .before .args .file .now)))) ≡ no-fault
 twelve c = sym (c .before .before .symmetry-refusal .ensures) ∙ ap faultOf (c .enum-told3 .given .1)
 
 returns-3 : tie.Need-returns-3
 returns-3 c =
     let s = c .before .before .before .before .before .before .before .before .before .before .before .before .before .before .before in
-    too-many-points (s .args .c) (s .args .positive .now) (s .args .negative .now) (s .args .file .now) (s .pre) (eleven (c .before .before .before .before .before)) (twelve (c .before .before)) (c .if1 .taken)
+    too-many-points (s .args .c) (clauseSlices (s .args .positive .now) (s .args .negative .now)) (s .args .file .now) (s .pre) (eleven (c .before .before .before .before .before)) (twelve (c .before .before)) (c .if1 .taken)
 
 sub-points : tie.Need-sub-points
 sub-points c = lies (c .before .before .before .before .before .before .before .before .before .before .before .before .before .before .before .before) .second-third
@@ -82,7 +82,7 @@ decoded-refusal-requires c κs =
     let s = c .before .before .before .before .before .before .before .before .before .before .before .before .before .before .before .before .before .before in
     let l = lies s in
     record {
-      given = images-proper (s .args .c) (s .args .positive .now) (s .args .negative .now) (s .args .file .now) (s .pre) (eleven (c .before .before .before .before .before .before .before .before));
+      given = images-proper (s .args .c) (clauseSlices (s .args .positive .now) (s .args .negative .now)) (s .args .file .now) (s .pre) (eleven (c .before .before .before .before .before .before .before .before));
       most = c .before .before .before .if1 .left;
       points-long = l .points-long;
       numbers-long = l .numbers-long;
@@ -91,7 +91,7 @@ decoded-refusal-requires c κs =
 returns-4 : tie.Need-returns-4
 returns-4 c =
     let s = c .before .before .before .before .before .before .before .before .before .before .before .before .before .before .before .before .before .before .before in
-    ends-decoded (s .args .c) (s .args .positive .now) (s .args .negative .now) (s .args .file .now) (s .pre) (eleven (c .before .before .before .before .before .before .before .before .before)) (twelve (c .before .before .before .before .before .before)) (faultOf (c .decoded-refusal .result)) (c .decoded-refusal .ensures)
+    ends-decoded (s .args .c) (clauseSlices (s .args .positive .now) (s .args .negative .now)) (s .args .file .now) (s .pre) (eleven (c .before .before .before .before .before .before .before .before .before)) (twelve (c .before .before .before .before .before .before)) (faultOf (c .decoded-refusal .result)) (c .decoded-refusal .ensures)
 
 pub bodies-refusal-spec : {M : Type 1} → statement M
 bodies-refusal-spec =

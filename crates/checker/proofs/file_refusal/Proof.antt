@@ -2,6 +2,7 @@
 use mathlib.Core.Bool.{true}
 use mathlib.Core.Path.{_≡_, sym, ap, _∙_}
 use borrow.Author.Needs.{needs}
+use Rattle.point_slices.specs.Slices.{ClauseSlices, clauseSlices}
 use Rattle.formula.specs.Refusals.{faultOf}
 use Rattle.certificate.specs.Certificate.{contentsOf, wellFormed}
 use Rattle.certificate.specs.Contract.{replyOfOpened, contentsIn, handedOut}
@@ -19,29 +20,35 @@ read-file : (c : tie.After-opened2)
 unfolding handedOut
 read-file c = opened-file _ _ (ap handedOut (sym (c .opened2 .given .1)) ∙ c .before .before .read .ensures .contents)
 
+-- the clauses lent
+abbrev lent : (c : tie.After-opened2) → ClauseSlices
+lent c = let a = c .before .before .before .before .before .before .args in clauseSlices (a .positive .now) (a .negative .now)
+
 returns : tie.Need-returns
 returns c =
     let w = read-file (c .before .before .before) in
-    other-variables _ _ _ _ _ _ (w .0) (w .1) (c .if1 .taken)
+    other-variables _ _ (lent (c .before .before .before)) _ _ (w .0) (w .1) (c .if1 .taken)
 
 returns-2 : tie.Need-returns-2
 returns-2 c =
     let w = read-file (c .before .before .before .before .before) in
-    other-clauses _ _ _ _ _ _ (w .0) (w .1) (c .before .before .if1 .left) (c .if2 .taken)
+    other-clauses _ _ (lent (c .before .before .before .before .before)) _ _ (w .0) (w .1) (c .before .before .if1 .left) (c .if2 .taken)
 
 bodies-refusal-requires : tie.Need-bodies-refusal-requires
 bodies-refusal-requires c κs =
     let w = read-file (c .before .before .before .before .before) in
-    readable _ _ _ _ _ _ (w .0) (w .1) (c .before .before .if1 .left) (c .if2 .left) (c .before .before .before .before .before .before .before .before .before .before .before .pre)
+    readable _ _ _ _ _ (w .0) (w .1) (c .before .before .if1 .left) (c .if2 .left) (c .before .before .before .before .before .before .before .before .before .before .before .pre)
 
 returns-3 : tie.Need-returns-3
 unfolding replyOfOpened
-returns-3 c = stops-14 _ _ _ _ _ _ _ (ap replyOfOpened (sym (c .before .opened .given .1)) ∙ c .before .before .before .read .ensures .reply)
+returns-3 c =
+    let a = c .before .before .before .before .before .before .before .args in
+    stops-14 _ _ (clauseSlices (a .positive .now) (a .negative .now)) _ _ _ (ap replyOfOpened (sym (c .before .opened .given .1)) ∙ c .before .before .before .read .ensures .reply)
 
 returns-4 : tie.Need-returns-4
 returns-4 c =
     let w = read-file (c .before .before .before .before .before .before) in
-    ends-bodies _ _ _ _ _ _ (w .0) (w .1) (c .before .before .before .if1 .left) (c .before .if2 .left) (faultOf (c .bodies-refusal .result)) (c .bodies-refusal .ensures)
+    ends-bodies _ _ (lent (c .before .before .before .before .before .before)) _ _ (w .0) (w .1) (c .before .before .before .if1 .left) (c .before .if2 .left) (faultOf (c .bodies-refusal .result)) (c .bodies-refusal .ensures)
 
 pub file-refusal-spec : {M : Type 1} → statement M
 file-refusal-spec =

@@ -12,7 +12,7 @@ use Rattle.math.specs.Laws.ListLaws.{and-split, and-join, all-at, all-of, map-i
 use Rattle.math.specs.Lists.{all, firstFailing, below}
 use Rattle.points.specs.Laws.PointLaws.{satisfies-sound, satisfies-complete}
 use Rattle.points.specs.Points.{satisfies, Numbered, variables}
-use Rattle.point_slices.specs.Slices.{clausesOf}
+use Rattle.point_slices.specs.Slices.{clausesOf, ClauseSlices}
 use Rattle.permutation_theory.specs.Laws.PermutationLaws.{isPermutation-sound, isPermutation-complete, keeps-sound}
 use Rattle.permutation_theory.specs.Laws.PermutationLaws.{keeps-complete, covered-sound, covered-complete}
 use Rattle.permutation_theory.specs.Permutations.{Permutation, isPermutation, keeps, Covered, covered}
@@ -22,7 +22,7 @@ use Rattle.formula.specs.Problem.{Problem, problemOf}
 use Rattle.formula.specs.Refusals.{clausesFault, permutationFault, symmetryFault}
 use Rattle.formula.specs.Reply.{accepted, no-fault, first, faultAt}
 use Rattle.certificate.specs.Bytes.{numberFrom, pointWidth, numberWidth}
-use Rattle.certificate.specs.Laws.BytesLaws.{length-entries}
+use Rattle.math.specs.Laws.NumeralLaws.{length-entries}
 use Rattle.certificate.specs.Certificate.{contentsOf, WellFormed, wellFormed, pointsBody, numbersBody, filePermutations}
 use Rattle.certificate.specs.Certificate.{filePoints, fileNumbers}
 use Rattle.certificate.specs.Laws.CertificateLaws.{wellFormed-sound, wellFormed-complete}
@@ -55,22 +55,22 @@ same-lengths file w =
     length-entries numberFrom numberWidth (contentsOf file .numbers) (numbersBody file) ∙ sym (w .countsAgree)
     ∙ sym (length-entries numberFrom pointWidth (contentsOf file .points) (pointsBody file))
 
-module _ (f : Formula) (positive negative file : List ℕ) where
+module _ (f : Formula) (clauses : ClauseSlices) (file : List ℕ) where
   abbrev pb : Problem
-  pb = problemOf f positive negative
+  pb = problemOf f clauses
 
   abbrev Lists : Type 0
   Lists = ListsPassed (pb .variables) (pb .clauses) (filePermutations file) (filePoints file) (fileNumbers file)
 
   pub record CheckerPassed : Type 0 where
-    pub row10 : clausesFault f positive negative ≡ no-fault
+    pub row10 : clausesFault f clauses ≡ no-fault
     pub row14 : fileFault file ≡ no-fault
     pub row15 : sizesFault (pb .variables) (pb .total) file ≡ no-fault
     pub rows : Lists
 
   -- the checker's rows, in their order
-  pub check-rows : checkFault f positive negative file
-      ≡ first (clausesFault f positive negative ∷ fileFault file ∷ sizesFault (pb .variables) (pb .total) file
+  pub check-rows : checkFault f clauses file
+      ≡ first (clausesFault f clauses ∷ fileFault file ∷ sizesFault (pb .variables) (pb .total) file
       ∷ permutationFault (pb .variables) (filePermutations file)
       ∷ symmetryFault (pb .clauses) (filePermutations file)
       ∷ pointsFault maxSlots (pb .variables) (length (filePoints file)) (filePoints file)
@@ -79,7 +79,7 @@ module _ (f : Formula) (positive negative file : List ℕ) where
   unfolding checkFault
   check-rows = refl
 
-  pub checker-passed : checkFault f positive negative file ≡ no-fault → CheckerPassed
+  pub checker-passed : checkFault f clauses file ≡ no-fault → CheckerPassed
   checker-passed h =
       let a = first-split _ _ (sym check-rows ∙ h) in
       let b = first-split _ _ (a .1) in
@@ -97,7 +97,7 @@ module _ (f : Formula) (positive negative file : List ℕ) where
             record { row11 = d .0; row12 = e .0; row16 = g .0; row17 = k .0; row18 = l .0 };
       }
 
-  pub passed-checker : CheckerPassed → checkFault f positive negative file ≡ no-fault
+  pub passed-checker : CheckerPassed → checkFault f clauses file ≡ no-fault
   passed-checker p =
       let r = p .rows in
       check-rows
@@ -107,7 +107,7 @@ module _ (f : Formula) (positive negative file : List ℕ) where
 
   own-numbers : OwnNumbers (pb .clauses)
   unfolding problemOf
-  own-numbers = numbered-own 1 (clausesOf positive negative)
+  own-numbers = numbered-own 1 (clausesOf clauses)
 
 -- ---- the rows that look at lists alone say that the set is stable, and back
 
@@ -193,15 +193,15 @@ module _ (n : ℕ) (cs : List Numbered) (es : List Permutation) (ps ns : List �
           row18 = passes-below 18 (flipsPass n cs es ps ns) (length ps) flips-of-stable;
         }
 
-module _ (f : Formula) (positive negative file : List ℕ) where
+module _ (f : Formula) (clauses : ClauseSlices) (file : List ℕ) where
   abbrev problem : Problem
-  problem = problemOf f positive negative
+  problem = problemOf f clauses
 
   -- D2.3: "The checker accepts exactly the stable sets of the published definition in 01's form"
-  pub accepts-sound : checkReply f positive negative file ≡ accepted → Accepts f positive negative file
+  pub accepts-sound : checkReply f clauses file ≡ accepted → Accepts f clauses file
   unfolding checkReply fileFault sizesFault sameSizes
   accepts-sound h =
-      let p = checker-passed f positive negative file (not-refused (checkFault f positive negative file) accepted
+      let p = checker-passed f clauses file (not-refused (checkFault f clauses file) accepted
       accepted h accepted-not-refused) in
       let w = wellFormed-sound file (tested (wellFormed file) no-fault 14 (length file) (p .row14) .0) in
       let sizes = and-split _ _ (tested (sameSizes (problem .variables) (problem .total) file) no-fault 15 0
@@ -215,16 +215,16 @@ module _ (f : Formula) (positive negative file : List ℕ) where
             (fileNumbers file) (same-lengths file w) (p .rows);
       }
 
-  pub accepts-complete : Accepts f positive negative file → checkReply f positive negative file ≡ accepted
+  pub accepts-complete : Accepts f clauses file → checkReply f clauses file ≡ accepted
   unfolding checkReply fileFault sizesFault sameSizes
   accepts-complete a =
-      unless-none (checkFault f positive negative file)
-      (passed-checker f positive negative file
+      unless-none (checkFault f clauses file)
+      (passed-checker f clauses file
       (record {
         row10 = a .clausesPass;
         row14 = test-passed (wellFormed file) no-fault 14 (length file) (wellFormed-complete file (a .inOrder)) refl;
         row15 = test-passed (sameSizes (problem .variables) (problem .total) file) no-fault 15 0
             (and-join _ _ (eq-eqb _ _ (a .sameVariables)) (eq-eqb _ _ (a .sameTotal))) refl;
         rows = rows-of-stable (problem .variables) (problem .clauses) (filePermutations file) (filePoints file)
-            (fileNumbers file) (own-numbers f positive negative file) (a .stable);
+            (fileNumbers file) (own-numbers f clauses file) (a .stable);
       })) accepted

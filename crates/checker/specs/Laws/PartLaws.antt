@@ -10,7 +10,7 @@ use lib.Dec.{eqb}
 use lib.ListN.{length, take, drop, length-take, length-drop}
 use borrow.Author.Tests.{eq-eqb, ne-eqb}
 use Rattle.points.specs.Points.{Numbered, numbered}
-use Rattle.point_slices.specs.Slices.{clausesOf}
+use Rattle.point_slices.specs.Slices.{clausesOf, ClauseSlices}
 use Rattle.permutation_images.specs.Laws.Contracts.{Listed}
 use Rattle.permutation_theory.specs.Permutations.{Permutation, permutationsIn}
 use Rattle.formula.specs.declared.Formula.{Formula}
@@ -23,7 +23,7 @@ use Rattle.formula.specs.Laws.ReplyLaws.{IsFault, answers-first, answers-rest, 
 use Rattle.formula.specs.Laws.ReplyLaws.{refused-fault}
 use Rattle.certificate.specs.declared.Contents.{Contents}
 use Rattle.certificate.specs.Bytes.{numberFrom, numbersIn, pointWidth, numberWidth}
-use Rattle.certificate.specs.Laws.BytesLaws.{length-entries}
+use Rattle.math.specs.Laws.NumeralLaws.{length-entries}
 use Rattle.certificate.specs.Certificate.{FileContents, contentsOf, wellFormed, filePermutations, filePoints}
 use Rattle.certificate.specs.Certificate.{fileNumbers}
 use Rattle.certificate.specs.Laws.CertificateLaws.{wellFormed-sound}
@@ -45,9 +45,9 @@ part-long i j k l apart end = omega (arith, length-take (j - i) (drop i l), leng
 
 -- ---- the bodies of a file
 
-module _ (c : Contents) (positive negative file : List ℕ) (ok : Readable c positive negative file) where
+module _ (c : Contents) (clauses : ClauseSlices) (file : List ℕ) (ok : Readable c clauses file) where
   abbrev cs : List Numbered
-  cs = numbered (clausesOf positive negative)
+  cs = numbered (clausesOf clauses)
 
   abbrev es : List Permutation
   es = filePermutations file
@@ -132,14 +132,14 @@ module _ (c : Contents) (positive negative file : List ℕ) (ok : Readable c pos
         (laid .images-long) eleven
 
     -- what the tests of the entries take for granted
-    pub images-proper : Proper (c .variables) (c .permutations) images positive negative
+    pub images-proper : Proper (c .variables) (c .permutations) images clauses
     images-proper =
         record {
           few = ok .fitting .few-variables;
           few-permutations = passes-few (c .variables) (c .permutations) images eleven;
           listed = images-listed;
           proper = permutation-passes (c .variables) (permutationsIn (c .variables) (c .permutations) images) eleven .1;
-          below = fits-below (c .variables) (c .clauses) positive negative (ok .fitting);
+          below = fits-below (c .variables) (c .clauses) clauses (ok .fitting);
         }
 
     pub stops-12 : (r : Fault) → r ≡ symmetryFault cs (permutationsIn (c .variables) (c .permutations) images)
@@ -171,10 +171,10 @@ module _ (c : Contents) (positive negative file : List ℕ) (ok : Readable c pos
 
 -- ---- a file
 
-module _ (n m : ℕ) (positive negative file : List ℕ) where
+module _ (n m : ℕ) (clauses : ClauseSlices) (file : List ℕ) where
   abbrev rows : List Fault
   rows =
-      let cs = numbered (clausesOf positive negative) in
+      let cs = numbered (clausesOf clauses) in
       let es = filePermutations file in
       let ps = filePoints file in
       let ns = fileNumbers file in
@@ -183,7 +183,7 @@ module _ (n m : ℕ) (positive negative file : List ℕ) where
 
   -- a file that the plain reader refuses
   pub stops-14 : (code place : ℕ) → refused code place ≡ openedReply file
-      → fault code place ≡ fileRows n m positive negative file
+      → fault code place ≡ fileRows n m clauses file
   unfolding openedReply
   stops-14 code place e =
       answers-first (fault code place) (fileFault file) (sizesFault n m file ∷ rows)
@@ -201,33 +201,33 @@ module _ (n m : ℕ) (positive negative file : List ℕ) where
         ap (λ (k : FileContents). cond (eqb (k .variables) n && eqb (k .clauses) m) no-fault (fault 15 0)) (sym same)
         ∙ ap₂ (λ (x y : Bool). cond (x && y) no-fault (fault 15 0)) p q
 
-    pub stops-15 : sizesFault n m file ≡ fault 15 0 → fault 15 0 ≡ fileRows n m positive negative file
+    pub stops-15 : sizesFault n m file ≡ fault 15 0 → fault 15 0 ≡ fileRows n m clauses file
     stops-15 e = answers-rest (fault 15 0) (fileFault file) (sizesFault n m file ∷ rows) row14
         (answers-first (fault 15 0) (sizesFault n m file) rows (sym e) tt)
 
-    pub other-variables : (c .variables ≡ n → ⊥) → fault 15 0 ≡ fileRows n m positive negative file
+    pub other-variables : (c .variables ≡ n → ⊥) → fault 15 0 ≡ fileRows n m clauses file
     other-variables ne = stops-15 (sizes false (eqb (c .clauses) m) (ne-eqb (c .variables) n ne) refl)
 
-    pub other-clauses : c .variables ≡ n → (c .clauses ≡ m → ⊥) → fault 15 0 ≡ fileRows n m positive negative file
+    pub other-clauses : c .variables ≡ n → (c .clauses ≡ m → ⊥) → fault 15 0 ≡ fileRows n m clauses file
     other-clauses e ne = stops-15 (sizes true false (eq-eqb (c .variables) n e) (ne-eqb (c .clauses) m ne))
 
     pub ends-bodies : c .variables ≡ n → c .clauses ≡ m → (r : Fault)
-        → r ≡ bodiesFault (c .variables) (numbered (clausesOf positive negative)) (filePermutations file)
-        (filePoints file) (fileNumbers file) → r ≡ fileRows n m positive negative file
+        → r ≡ bodiesFault (c .variables) (numbered (clausesOf clauses)) (filePermutations file)
+        (filePoints file) (fileNumbers file) → r ≡ fileRows n m clauses file
     ends-bodies e g r h =
         answers-rest r (fileFault file) (sizesFault n m file ∷ rows) row14
         (answers-rest r (sizesFault n m file) rows (sizes true true (eq-eqb (c .variables) n e)
         (eq-eqb (c .clauses) m g))
-        (h ∙ ap (λ (k : ℕ). bodiesFault k (numbered (clausesOf positive negative)) (filePermutations file)
+        (h ∙ ap (λ (k : ℕ). bodiesFault k (numbered (clausesOf clauses)) (filePermutations file)
         (filePoints file) (fileNumbers file)) e))
 
-    pub readable : c .variables ≡ n → c .clauses ≡ m → Fits n m positive negative → Readable c positive negative file
+    pub readable : c .variables ≡ n → c .clauses ≡ m → Fits n m clauses → Readable c clauses file
     readable e g f =
         record {
           formed = wellFormed-sound file formed;
           same = same;
-          fitting = subst (λ (k : ℕ). Fits k (c .clauses) positive negative) (sym e)
-              (subst (λ (k : ℕ). Fits n k positive negative) (sym g) f);
+          fitting = subst (λ (k : ℕ). Fits k (c .clauses) clauses) (sym e)
+              (subst (λ (k : ℕ). Fits n k clauses) (sym g) f);
         }
 
 -- what the plain reader's contents tell
@@ -243,30 +243,30 @@ opened-file file c h = by (wellFormed file) refl h
 
 -- ---- the checker
 
-module _ (f : Formula) (positive negative file : List ℕ) where
+module _ (f : Formula) (clauses : ClauseSlices) (file : List ℕ) where
   -- its rows are refusal 10 and the file's
-  all-rows : checkFault f positive negative file
-      ≡ first (clausesFault f positive negative ∷ fileFault file ∷ sizesFault (f .variables) (f .clauses) file
-      ∷ rows (f .variables) (f .clauses) positive negative file)
+  all-rows : checkFault f clauses file
+      ≡ first (clausesFault f clauses ∷ fileFault file ∷ sizesFault (f .variables) (f .clauses) file
+      ∷ rows (f .variables) (f .clauses) clauses file)
   unfolding problemOf
-  all-rows = check-rows f positive negative file
+  all-rows = check-rows f clauses file
 
-  answered : (r : Fault) → r ≡ checkFault f positive negative file
-      → unless r accepted ≡ checkReply f positive negative file
+  answered : (r : Fault) → r ≡ checkFault f clauses file
+      → unless r accepted ≡ checkReply f clauses file
   unfolding checkReply
   answered r e = ap (λ (t : Fault). unless t accepted) e
 
-  pub stops-10 : (r : Fault) → r ≡ clausesFault f positive negative → IsFault r
-      → unless r accepted ≡ checkReply f positive negative file
+  pub stops-10 : (r : Fault) → r ≡ clausesFault f clauses → IsFault r
+      → unless r accepted ≡ checkReply f clauses file
   stops-10 r e h = answered r (answers-first r _ _ e h ∙ sym all-rows)
 
-  pub ends-file : (r : Fault) → clausesFault f positive negative ≡ no-fault
-      → r ≡ fileRows (f .variables) (f .clauses) positive negative file
-      → unless r accepted ≡ checkReply f positive negative file
+  pub ends-file : (r : Fault) → clausesFault f clauses ≡ no-fault
+      → r ≡ fileRows (f .variables) (f .clauses) clauses file
+      → unless r accepted ≡ checkReply f clauses file
   ends-file r ten e = answered r (answers-rest r _ _ ten e ∙ sym all-rows)
 
   -- what refusal 10 leaves certain
-  pub clauses-fit : clausesFault f positive negative ≡ no-fault → Fits (f .variables) (f .clauses) positive negative
+  pub clauses-fit : clausesFault f clauses ≡ no-fault → Fits (f .variables) (f .clauses) clauses
   unfolding clausesFault
-  clauses-fit h = fits-sound (f .variables) (f .clauses) positive negative
-      (tested (fits (f .variables) (f .clauses) positive negative) no-fault 10 0 h .0)
+  clauses-fit h = fits-sound (f .variables) (f .clauses) clauses
+      (tested (fits (f .variables) (f .clauses) clauses) no-fault 10 0 h .0)

@@ -4,7 +4,7 @@ use mathlib.Core.Path.{_≡_}
 use Prim.Native.Nat.{ℕ}
 use lib.ListN.{length}
 use Rattle.points.specs.Points.{Numbered, numbered}
-use Rattle.point_slices.specs.Slices.{clausesOf}
+use Rattle.point_slices.specs.Slices.{clausesOf, ClauseSlices}
 use Rattle.permutation_theory.specs.Permutations.{Permutation}
 use Rattle.formula.specs.Limits.{maxSlots}
 use Rattle.formula.specs.Refusals.{Fits, permutationFault, symmetryFault}
@@ -23,9 +23,9 @@ bodiesFault n cs es ps ns =
     ∷ numbersFault cs (length ps) ps ns ∷ flipsFault n cs es ps ns ∷ [])
 
 -- before them the rows 14 and 15, of a file
-abbrev pub fileRows : ℕ → ℕ → List ℕ → List ℕ → List ℕ → Fault
-fileRows n m positive negative file =
-    let cs = numbered (clausesOf positive negative) in
+abbrev pub fileRows : ℕ → ℕ → ClauseSlices → List ℕ → Fault
+fileRows n m clauses file =
+    let cs = numbered (clausesOf clauses) in
     let es = filePermutations file in
     let ps = filePoints file in
     let ns = fileNumbers file in
@@ -34,7 +34,7 @@ fileRows n m positive negative file =
     ∷ flipsFault n cs es ps ns ∷ [])
 
 -- c is what the well-formed file's first bytes say, and the clauses fit its n: rows 10, 14 and 15 see to it
-pub record Readable (c : Contents) (positive negative file : List ℕ) : Type 0 where
+pub record Readable (c : Contents) (clauses : ClauseSlices) (file : List ℕ) : Type 0 where
   pub formed : WellFormed file
   pub same : contentsIn c ≡ contentsOf file
-  pub fitting : Fits (c .variables) (c .clauses) positive negative
+  pub fitting : Fits (c .variables) (c .clauses) clauses

@@ -1,18 +1,19 @@
 -- The worked cases of document 01 hold of the definitions, by computation. Assumes nothing.
 use mathlib.Core.Path.{_≡_, refl}
 use Rattle.math.specs.Bits.{bit, flip}
+use Rattle.math.specs.Lists.{over}
 use Rattle.formula.specs.Reply.{accepted}
 use Rattle.search.specs.Search.{searchReply, searchSlots}
 use Rattle.certificate.specs.Certificate.{contentsOf}
 use Rattle.certificate.specs.Writer.{certificateOf}
 use Rattle.checker.specs.Checker.{checkReply}
 use Rattle.dimacs_format.specs.Laws.Example.{satisfiable-text}
-use Rattle.dimacs_format.specs.Reader.{readReply, readFormula, readPositive, readNegative}
-use Rattle.claims.specs.Cases.{certificateIn, Holds, AllHold, positiveA, negativeA, caseA, caseA-swap, caseA-3}
+use Rattle.dimacs_format.specs.Reader.{readReply, readFormula, readClauses}
+use Rattle.claims.specs.Cases.{certificateIn, Holds, AllHold, clausesA, caseA, caseA-swap, caseA-3}
 use Rattle.claims.specs.Cases.{caseA-4, caseB, caseB-3, case-none, case-empty, case-both, cases, Yields}
 
 hold-A-swap : Holds caseA-swap
-unfolding searchReply searchSlots certificateOf contentsOf bit flip
+unfolding searchReply searchSlots certificateOf contentsOf bit flip over
 hold-A-swap = record { answered = refl; filled = refl; certified = refl }
 
 hold-A : Holds caseA
@@ -65,10 +66,10 @@ cases-hold = (
 
 -- ---- the certificate of A with exchange 2 1 is accepted, and the program's example is B
 
-pub swap-accepted : checkReply (caseA-swap .formula) positiveA negativeA (certificateIn caseA-swap) ≡ accepted
-unfolding checkReply searchSlots certificateOf bit flip
+pub swap-accepted : checkReply (caseA-swap .formula) clausesA (certificateIn caseA-swap) ≡ accepted
+unfolding checkReply searchSlots certificateOf bit flip over
 swap-accepted = refl
 
 pub text-B : Yields satisfiable-text caseB
-unfolding readReply readFormula readPositive readNegative
-text-B = record { answer = refl; formula = refl; positive = refl; negative = refl }
+unfolding readReply readFormula readClauses
+text-B = record { answer = refl; formula = refl; clauses = refl }

@@ -16,7 +16,7 @@ use Rattle.math.specs.Lists.{_∈_, firstFailing, below, over}
 use Rattle.math.specs.Laws.PartLaws.{over-front, over-length}
 use Rattle.points.specs.Laws.PointLaws.{falsified as unsatisfied}
 use Rattle.points.specs.Points.{Numbered, Satisfies, satisfies, variables, FirstFalsified}
-use Rattle.point_slices.specs.Slices.{pointsOf, clausesOf}
+use Rattle.point_slices.specs.Slices.{ClauseSlices, SlotSlices, clausesOf}
 use Rattle.permutation_theory.specs.Permutations.{Covered}
 use Rattle.formula.specs.declared.Formula.{Formula}
 use Rattle.formula.specs.Limits.{maxSlots, capacity}
@@ -29,8 +29,9 @@ use Rattle.formula.specs.Laws.ReplyLaws.{first-skips, first-stops, test-passed,
 use Rattle.search.specs.Laws.Accepted.{rows, answered}
 use Rattle.search_theory.specs.Laws.Promised.{ClosedSlots}
 use Rattle.search.specs.Laws.WalkAnswers.{WalkAnswers}
-use Rattle.search.specs.Search.{lentBy, searchFault, searchReply, searchSlots, searchSlice}
+use Rattle.search.specs.Search.{searchFault, searchReply, searchSlots, searchSlices}
 use Rattle.search.specs.Laws.Theorems.{search-closed, slots-filled}
+use Rattle.search_theory.specs.Slots.{filledWith}
 use Rattle.search_theory.specs.Walk.{Slot, slot, walked}
 use Rattle.certificate.specs.Certificate.{filePoints, fileNumbers}
 use Rattle.certificate.specs.Laws.RowLaws.{points-pass, point-passes-take, clause-of, numbered-own, number-passes}
@@ -59,80 +60,81 @@ first-member cs x c f = subst (λ l. c ∈ l) (sym (f .place)) (Memᴰ·append-r
 unsatisfiable-not-refused : {filled : ℕ} (code place : ℕ) → unsatisfiable filled ≡ refused code place → ⊥
 unsatisfiable-not-refused code place e = let z : _≡_ {A = ℕ} 0 1 = cc in omega arith
 
-module _ (f : Formula) (positive negative points falsified depths : List ℕ) where
+module _ (f : Formula) (clauses : ClauseSlices) (slots : SlotSlices) where
   abbrev pb : Problem
-  pb = problemOf f positive negative
+  pb = problemOf f clauses
 
   abbrev lent : ℕ
-  lent = lentBy points falsified depths
+  lent = capacity slots
 
   abbrev l : List Slot
-  l = searchSlots f positive negative lent
+  l = searchSlots f clauses lent
 
-  module _ (filled : ℕ) (reply : searchReply f positive negative lent ≡ unsatisfiable filled) where
-    answer : WalkAnswers f positive negative lent (unsatisfiable filled)
-    answer = answered f positive negative lent (unsatisfiable filled) reply unsatisfiable-not-refused
+  module _ (filled : ℕ) (reply : searchReply f clauses lent ≡ unsatisfiable filled) where
+    answer : WalkAnswers f clauses lent (unsatisfiable filled)
+    answer = answered f clauses lent (unsatisfiable filled) reply unsatisfiable-not-refused
 
-    passed : searchFault f positive negative lent ≡ no-fault
+    passed : searchFault f clauses lent ≡ no-fault
     unfolding searchReply
-    passed = not-refused (searchFault f positive negative lent) (walked pb lent .reply) (unsatisfiable filled) reply
+    passed = not-refused (searchFault f clauses lent) (walked pb lent .reply) (unsatisfiable filled) reply
         unsatisfiable-not-refused
 
     closed : ClosedSlots pb l
-    closed = search-closed f positive negative lent filled reply .0
+    closed = search-closed f clauses lent filled reply .0
 
     counted : filled ≡ length l
-    counted = search-closed f positive negative lent filled reply .1
+    counted = search-closed f clauses lent filled reply .1
 
     few : length l ≤ lent
     few = slots-filled pb lent (answer .ready) (answer .room) (answer .walks)
 
     -- ---- the slices as the search leaves them
 
-    abbrev after : (Slot → ℕ) → List ℕ → List ℕ
-    after part old = searchSlice part f positive negative lent old
+    abbrev slots′ : SlotSlices
+    slots′ = filledWith l slots
 
-    after-is : (part : Slot → ℕ) (old : List ℕ) → after part old ≡ over (map part l) old
-    unfolding searchSlice
-    after-is part old = ap (λ t. unlessKept t (over (map part l) old) old) passed
+    after-is : searchSlices f clauses slots ≡ slots′
+    unfolding searchSlices
+    after-is = ap (λ t. unlessKept t slots′ slots) passed
+
+    abbrev after : (Slot → ℕ) → List ℕ → List ℕ
+    after part old = over (map part l) old
 
     after-length : (part : Slot → ℕ) (old : List ℕ) → lent ≤ length old → length (after part old) ≡ length old
-    after-length part old h = ap length (after-is part old)
-        ∙ over-length (map part l) old (le-trans (le-of-eq (length-map l part)) (le-trans few h))
+    after-length part old h =
+        over-length (map part l) old (le-trans (le-of-eq (length-map l part)) (le-trans few h))
 
     after-front : (part : Slot → ℕ) (old : List ℕ) → take filled (after part old) ≡ map part l
-    after-front part old = ap (take filled) (after-is part old)
-        ∙ over-front filled (map part l) old (length-map l part ∙ sym counted)
+    after-front part old =
+        over-front filled (map part l) old (length-map l part ∙ sym counted)
 
     abbrev points′ : List ℕ
-    points′ = after (λ (s : Slot). s .point) points
+    points′ = slots′ .points
 
     abbrev falsified′ : List ℕ
-    falsified′ = after (λ (s : Slot). s .falsified) falsified
+    falsified′ = slots′ .falsified
 
-    abbrev depths′ : List ℕ
-    depths′ = after (λ (s : Slot). s .depth) depths
-
-    lent-parts : (lent ≤ length points) × (lent ≤ length falsified) × (lent ≤ length depths) × (lent ≤ maxSlots)
+    lent-parts : (lent ≤ length (slots .points)) × (lent ≤ length (slots .falsified)) × (lent ≤ length (slots .depths))
+        × (lent ≤ maxSlots)
     unfolding capacity
     lent-parts = (omega arith, omega arith, omega arith, omega arith)
 
-    same-lent : lentBy points′ falsified′ depths′ ≡ lent
+    same-lent : capacity slots′ ≡ lent
+    unfolding capacity
     same-lent =
-        let e = after-length (λ (s : Slot). s .point) points (lent-parts .0) in
-        let g = after-length (λ (s : Slot). s .falsified) falsified (lent-parts .1) in
-        let h = after-length (λ (s : Slot). s .depth) depths (lent-parts .2) in
-        ap (λ a. capacity a (length falsified′) (length depths′)) e
-        ∙ ap (λ b. capacity (length points) b (length depths′)) g ∙ ap (capacity (length points) (length falsified)) h
+        let e = after-length (λ (s : Slot). s .point) (slots .points) (lent-parts .0) in
+        let g = after-length (λ (s : Slot). s .falsified) (slots .falsified) (lent-parts .1) in
+        let h = after-length (λ (s : Slot). s .depth) (slots .depths) (lent-parts .2) in
+        rw (e, g, h)
 
     -- ---- the writer's tests
 
     -- the rows 10, 11 and 12 are the search's
-    sheet-passed : (formulaFault f positive negative ≡ no-fault)
+    sheet-passed : (formulaFault f clauses ≡ no-fault)
         × (permutationFault (pb .variables) (pb .permutations) ≡ no-fault)
         × (symmetryFault (pb .clauses) (pb .permutations) ≡ no-fault)
     unfolding problemOf
-    sheet-passed = let r = rows f positive negative lent passed in (r .0, r .1, r .2)
+    sheet-passed = let r = rows f clauses lent passed in (r .0, r .1, r .2)
 
     abbrev cs : List Numbered
     cs = pb .clauses
@@ -149,7 +151,7 @@ module _ (f : Formula) (positive negative points falsified depths : List ℕ) wh
 
     own-numbers : OwnNumbers cs
     unfolding problemOf
-    own-numbers = numbered-own 1 (clausesOf positive negative)
+    own-numbers = numbered-own 1 (clausesOf clauses)
 
     -- an entry of a slice among the first k is that of the slots
     front-at : (part : Slot → ℕ) → part (slot 0 0 0) ≡ 0 → (old : List ℕ) (i : ℕ) → i < filled
@@ -161,26 +163,26 @@ module _ (f : Formula) (positive negative points falsified depths : List ℕ) wh
     within : (i : ℕ) → i < filled → i < length l
     within i lt = subst (λ m. i < m) counted lt
 
-    row16 : pointsFault (lentBy points′ falsified′ depths′) (pb .variables) filled (pointsOf points′) ≡ no-fault
+    row16 : pointsFault (capacity slots′) (pb .variables) filled points′ ≡ no-fault
     unfolding pointsFault
     row16 =
         let some : 1 ≤ filled = subst (λ m. 1 ≤ m) (sym counted) (closed .nonempty) in
-        let most : filled ≤ lentBy points′ falsified′ depths′ = subst (λ m. m ≤ lentBy points′ falsified′ depths′)
+        let most : filled ≤ capacity slots′ = subst (λ m. m ≤ capacity slots′)
         (sym counted) (le-trans few (le-of-eq (sym same-lent))) in
-        test-passed (leb 1 filled && leb filled (lentBy points′ falsified′ depths′))
+        test-passed (leb 1 filled && leb filled (capacity slots′))
         (faultAt 16 (firstFailing (pointPasses (pb .variables) points′) (below filled))) 16 0
-        (and-join (leb 1 filled) (leb filled (lentBy points′ falsified′ depths′)) (le-leb 1 filled some)
-        (le-leb filled (lentBy points′ falsified′ depths′) most))
+        (and-join (leb 1 filled) (leb filled (capacity slots′)) (le-leb 1 filled some)
+        (le-leb filled (capacity slots′) most))
         (passes-below 16 (pointPasses (pb .variables) points′) filled each)
       where
         each : (i : ℕ) → i < filled → pointPasses (pb .variables) points′ i ≡ true
         each i lt =
             sym (point-passes-take (pb .variables) points′ filled i lt)
-            ∙ ap (λ q. pointPasses (pb .variables) q i) (after-front (λ (s : Slot). s .point) points)
+            ∙ ap (λ q. pointPasses (pb .variables) q i) (after-front (λ (s : Slot). s .point) (slots .points))
             ∙ points-pass (pb .variables) xs points-below (closed .distinct) i
             (lt-of-lt-of-le (within i lt) (le-of-eq (sym (length-map l (λ (s : Slot). s .point)))))
 
-    row17 : numbersFault cs filled (pointsOf points′) falsified′ ≡ no-fault
+    row17 : numbersFault cs filled points′ falsified′ ≡ no-fault
     unfolding numbersFault
     row17 = passes-below 17 (numberPasses cs points′ falsified′) filled each
       where
@@ -189,8 +191,8 @@ module _ (f : Formula) (positive negative points falsified depths : List ℕ) wh
             let t = getD l i (slot 0 0 0) in
             let m = closed .settled t (getD-in l i (slot 0 0 0) (within i lt)) .moved in
             let number : getD falsified′ i 0
-            ≡ m .clause .number = front-at (λ (s : Slot). s .falsified) refl falsified i lt ∙ m .number in
-            let point : getD points′ i 0 ≡ t .point = front-at (λ (s : Slot). s .point) refl points i lt in
+            ≡ m .clause .number = front-at (λ (s : Slot). s .falsified) refl (slots .falsified) i lt ∙ m .number in
+            let point : getD points′ i 0 ≡ t .point = front-at (λ (s : Slot). s .point) refl (slots .points) i lt in
             number-passes cs points′ falsified′ i (m .clause .clause)
             (ap (clauseNumbered cs) number
             ∙ clause-of cs own-numbers (m .clause) (first-member cs (t .point) (m .clause) (m .first)))
@@ -204,38 +206,42 @@ module _ (f : Formula) (positive negative points falsified depths : List ℕ) wh
 
     module _ (out : List ℕ) where
       abbrev faults : Fault
-      faults = writeFault f positive negative points′ falsified′ depths′ filled out
+      faults = writeFault f clauses slots′ filled out
 
-      abbrev reply-of : Reply
-      reply-of = writeReply f positive negative points′ falsified′ depths′ filled out
+      abbrev reply-of : SlotSlices → Reply
+      reply-of s = writeReply f clauses s filled out
 
-      abbrev output : List ℕ
-      output = writeOutput f positive negative points′ falsified′ depths′ filled out
+      abbrev output : SlotSlices → List ℕ
+      output s = writeOutput f clauses s filled out
+
+      abbrev left : SlotSlices
+      left = searchSlices f clauses slots
 
       -- C7: "there the writer refuses by 19 only"
       short-fault : length out < size → faults ≡ fault 19 size
       unfolding roomFault
       short-fault lt =
           let r = sheet-passed in
-          write-rows f positive negative points′ falsified′ depths′ filled out
+          write-rows f clauses slots′ filled out
           ∙ first-skips _ _ (r .0) ∙ first-skips _ _ (r .1) ∙ first-skips _ _ (r .2) ∙ first-skips _ _ row16
           ∙ first-skips _ _ row17
           ∙ first-stops (roomFault size (length out)) [] 19 size (rw (lt-leb size (length out) lt))
 
-      pub short-reply : length out < size → reply-of ≡ refused 19 size
+      pub short-reply : length out < size → reply-of left ≡ refused 19 size
       unfolding writeReply
-      short-reply lt = ap (λ t. unless t (written size)) (short-fault lt)
+      short-reply lt = ap reply-of after-is ∙ ap (λ t. unless t (written size)) (short-fault lt)
 
-      pub short-output : length out < size → output ≡ out
+      pub short-output : length out < size → output left ≡ out
       unfolding writeOutput
-      short-output lt = ap (λ t. unlessKept t (certificateOf pb points′ falsified′ filled ++ drop size out) out)
+      short-output lt = ap output after-is ∙ ap (λ t. unlessKept t (certificateOf pb slots′ filled ++ drop size out)
+          out)
           (short-fault lt)
 
       long-passes : size ≤ length out → faults ≡ no-fault
       unfolding roomFault
       long-passes le =
           let r = sheet-passed in
-          passed-writer f positive negative points′ falsified′ depths′ filled out
+          passed-writer f clauses slots′ filled out
           (record {
             row10 = r .0;
             row11 = r .1;
@@ -246,11 +252,15 @@ module _ (f : Formula) (positive negative points falsified depths : List ℕ) wh
                 (le-leb size (length out) le);
           })
 
-      pub long-reply : size ≤ length out → reply-of ≡ written size
-      long-reply le = reply-written f positive negative points′ falsified′ depths′ filled out (long-passes le)
+      long-written : size ≤ length out → reply-of slots′ ≡ written size
+      long-written le = reply-written f clauses slots′ filled out (long-passes le)
 
-      pub long-rest : size ≤ length out → drop size output ≡ drop size out
-      long-rest le = past-unchanged f positive negative points′ falsified′ depths′ filled out size (long-reply le)
+      pub long-reply : size ≤ length out → reply-of left ≡ written size
+      long-reply le = ap reply-of after-is ∙ long-written le
+
+      pub long-rest : size ≤ length out → drop size (output left) ≡ drop size out
+      long-rest le = ap (λ s. drop size (output s)) after-is
+          ∙ past-unchanged f clauses slots′ filled out size (long-written le)
 
     -- ---- the slots are a stable set, in the checker's form
 
@@ -286,21 +296,22 @@ module _ (f : Formula) (positive negative points falsified depths : List ℕ) wh
           transported = transported;
         }
 
-    clauses-sound : clausesFault f positive negative ≡ no-fault
+    clauses-sound : clausesFault f clauses ≡ no-fault
     unfolding clausesFault
-    clauses-sound = rw (fits-complete (f .variables) (f .clauses) positive negative
-        (formula-passes f positive negative (sheet-passed .0) .0))
+    clauses-sound = rw (fits-complete (f .variables) (f .clauses) clauses
+        (formula-passes f clauses (sheet-passed .0) .0))
 
     -- D3.4: "Its certificate is then accepted."
     pub long-accepted : (out : List ℕ) → size ≤ length out
-        → checkReply f positive negative (take size (output out)) ≡ accepted
+        → checkReply f clauses (take size (output out (left out))) ≡ accepted
     long-accepted out le =
-        let w = reads-back f positive negative points′ falsified′ depths′ filled out size (long-reply out le) in
-        let same-points : filePoints (take size (output out)) ≡ xs = w .readsPoints
-        ∙ after-front (λ (s : Slot). s .point) points in
-        let same-numbers : fileNumbers (take size (output out)) ≡ ks = w .readsNumbers
-        ∙ after-front (λ (s : Slot). s .falsified) falsified in
-        accepts-complete f positive negative (take size (output out))
+        let w = reads-back f clauses slots′ filled out size (long-written out le) in
+        let same-points : filePoints (take size (output out slots′)) ≡ xs = w .readsPoints
+        ∙ after-front (λ (s : Slot). s .point) (slots .points) in
+        let same-numbers : fileNumbers (take size (output out slots′)) ≡ ks = w .readsNumbers
+        ∙ after-front (λ (s : Slot). s .falsified) (slots .falsified) in
+        ap (λ s. checkReply f clauses (take size (output out s))) after-is
+        ∙ accepts-complete f clauses (take size (output out slots′))
         (record {
           clausesPass = clauses-sound;
           inOrder = w .inOrder;

@@ -7,25 +7,26 @@ use native.Mathlib.Omega.{arith}
 use lib.Dec.{lit≤}
 use lib.ListN.{replicate}
 use Rattle.math.specs.Bits.{bit, flip}
+use Rattle.point_slices.specs.Slices.{SlotSlices, wholeClauses, wholeSlots}
 use Rattle.formula.specs.Limits.{capacity}
 use Rattle.formula.specs.Problem.{problemOf, Unsatisfiable}
 use Rattle.formula.specs.Reply.{refused, satisfiable, unsatisfiable, unknown}
 use Rattle.dimacs_format.specs.Laws.Example.{satisfiable-text}
-use Rattle.dimacs_format.specs.Reader.{readReply, readFormula, readPositive, readNegative}
+use Rattle.dimacs_format.specs.Reader.{readReply, readFormula, readClauses}
 use Rattle.search.specs.Search.{searchReply}
 use Rattle.certificate.specs.Writer.{lengthNeeded}
 use Rattle.claims.specs.Cases.{Case, caseA-swap, caseA-3, caseA-4, caseB, certificateIn}
 use Rattle.claims.specs.Laws.CasesHold.{swap-accepted}
-use Rattle.claims.specs.Claim.{Sheet, from-text, by-value, problemIn, Slots, SearchAnswers, Meets, AtLeast}
+use Rattle.claims.specs.Claim.{Sheet, from-text, by-value, problemIn, SearchAnswers, Meets, AtLeast}
 use Rattle.claims.specs.Claim.{Certified}
 use Rattle.claims.specs.Laws.Theorem.{claim}
 
 -- the sheet of a case, by value, and three slices of p places
 abbrev sheetOf : Case → Sheet
-sheetOf c = by-value (c .formula) (c .positive) (c .negative)
+sheetOf c = by-value (c .formula) (c .clauses)
 
-abbrev places : ℕ → Slots
-places p = record { points = replicate p 7; falsified = replicate p 7; depths = replicate p 7 }
+abbrev places : ℕ → SlotSlices
+places p = wholeSlots (replicate p 7) (replicate p 7) (replicate p 7)
 
 satisfiable-kept : {x d filled : ℕ} (code place : ℕ) → satisfiable x d filled ≡ refused code place → ⊥
 satisfiable-kept code place e = let z : _≡_ {A = ℕ} 0 1 = cc in omega arith
@@ -44,10 +45,10 @@ answered-B = record { readable = tt; reply = refl; accepted = satisfiable-kept }
 
 -- the program's example, read into slices of three and of two places
 abbrev sheetText : Sheet
-sheetText = from-text satisfiable-text (0 ∷ 0 ∷ 9 ∷ []) (0 ∷ 0 ∷ [])
+sheetText = from-text satisfiable-text (wholeClauses (0 ∷ 0 ∷ 9 ∷ []) (0 ∷ 0 ∷ []))
 
 pub answered-text : SearchAnswers sheetText (places 5) (satisfiable 2 1 4)
-unfolding searchReply capacity readReply readFormula readPositive readNegative bit flip
+unfolding searchReply capacity readReply readFormula readClauses bit flip
 answered-text = record { readable = refl; reply = refl; accepted = satisfiable-kept }
 
 pub answered-A : SearchAnswers (sheetOf caseA-swap) (places 4) (unsatisfiable 3)
@@ -78,8 +79,8 @@ unfolding lengthNeeded problemOf
 certified-A = claim .certified (sheetOf caseA-swap) (places 4) 3 answered-A (replicate 71 9)
 
 -- 4: a certificate that is accepted, from wherever it comes
-pub refuted-again : Unsatisfiable (problemOf (caseA-swap .formula) (caseA-swap .positive) (caseA-swap .negative))
-refuted-again = claim .refutes (caseA-swap .formula) (caseA-swap .positive) (caseA-swap .negative)
+pub refuted-again : Unsatisfiable (problemOf (caseA-swap .formula) (caseA-swap .clauses))
+refuted-again = claim .refutes (caseA-swap .formula) (caseA-swap .clauses)
     (certificateIn caseA-swap) swap-accepted
 
 -- 5: with three slots A without exchange is left open, and every choice that meets the rules would differ from 00 in a

@@ -16,7 +16,7 @@ refused-requires : tie.Need-refused-requires
 refused-requires c κs = search needs
 
 returns : tie.Need-returns
-returns c = let s = c .before .before .before .before .before in answers-read (s .args .text .now) _ _ _ _ _ (answers-refused _ _ _ _ _ _ (text-long (s .args .text .now) _ _ (c .before .if1 .taken)) (c .refused .ensures))
+returns c = answers-read (answers-refused (text-long (c .before .before .before .before .before .args .text .now) _ (c .before .if1 .taken)) (c .refused .ensures))
 
 find-problem-requires : tie.Need-find-problem-requires
 find-problem-requires c κs = search needs
@@ -25,11 +25,12 @@ refused-requires-2 : tie.Need-refused-requires-2
 refused-requires-2 c κs = search needs
 
 returns-2 : tie.Need-returns-2
-returns-2 c = let s = c .before .before .before .before .before .before .before .before in answers-read (s .args .text .now) _ _ _ _ _ (answers-refused _ _ _ _ _ _ (text-absent (s .args .text .now) _ _ (c .before .before .before .before .if1 .left) (c .before .before .before .find-problem .result) (c .before .before .before .find-problem .ensures) (c .before .enum-told .given .1)) (c .refused2 .ensures))
+returns-2 c =
+    answers-read (answers-refused (text-absent (c .before .before .before .before .before .before .before .before .args .text .now) _ (c .before .before .before .before .if1 .left) (c .before .before .before .find-problem .result) (c .before .before .before .find-problem .ensures) (c .before .enum-told .given .1)) (c .refused2 .ensures))
 
 -- the problem line lies within the text
 placed : (c : tie.After-found) → Stretch (belongs Line) (c .before .before .before .before .before .before .before .args .text .now) (c .found .given .0 .0) (c .found .given .0 .1 .0)
-placed c = problem-place (c .before .before .before .before .before .before .before .args .text .now) 0 0 (c .before .before .before .if1 .left) (c .before .before .find-problem .result) (c .before .before .find-problem .ensures) _ _ (c .found .given .1)
+placed c = problem-place (c .before .before .before .before .before .before .before .args .text .now) 0 (c .before .before .before .if1 .left) (c .before .before .find-problem .result) (c .before .before .find-problem .ensures) _ _ (c .found .given .1)
 
 sub-read-problem : tie.Need-sub-read-problem
 sub-read-problem c = placed (c .before) .ordered
@@ -48,9 +49,8 @@ refused-requires-3 c κs = search needs
 
 returns-3 : tie.Need-returns-3
 returns-3 c =
-    let s = c .before .before .before .before .before .before .before .before .before .before .before .before .before in
-    answers-read (s .args .text .now) _ _ _ _ _
-    (answers-refused _ _ _ _ _ _ (text-malformed (s .args .text .now) _ _ (c .before .before .before .before .before .before .before .before .before .if1 .left) (c .before .before .before .before .before .before .before .before .find-problem .result) (c .before .before .before .before .before .before .before .before .find-problem .ensures) _ _ (c .before .before .before .before .before .before .found .given .1)
+    answers-read
+    (answers-refused (text-malformed (c .before .before .before .before .before .before .before .before .before .before .before .before .before .args .text .now) _ (c .before .before .before .before .before .before .before .before .before .if1 .left) (c .before .before .before .before .before .before .before .before .find-problem .result) (c .before .before .before .before .before .before .before .before .find-problem .ensures) _ _ (c .before .before .before .before .before .before .found .given .1)
     (sym (ap sizingOf (c .before .enum-told2 .given .1)) ∙ c .before .before .before .read-problem .ensures)) (c .refused3 .ensures))
 
 read-sized-requires : tie.Need-read-sized-requires
@@ -60,9 +60,8 @@ read-sized-requires c κs =
 
 returns-4 : tie.Need-returns-4
 returns-4 c =
-    let s = c .before .before .before .before .before .before .before .before .before .before .before .before .before .before .before .before .before .before .before .before in
-    answers-read (s .args .text .now) _ _ _ _ _
-    (answers-same (text-sized (s .args .text .now) _ _ (c .before .before .before .before .before .before .before .before .before .before .before .before .before .before .before .before .if1 .left) (c .before .before .before .before .before .before .before .before .before .before .before .before .before .before .before .find-problem .result) (c .before .before .before .before .before .before .before .before .before .before .before .before .before .before .before .find-problem .ensures) _ _ (c .before .before .before .before .before .before .before .before .before .before .before .before .before .found .given .1) _
+    answers-read
+    (answers-same (text-sized (c .before .before .before .before .before .before .before .before .before .before .before .before .before .before .before .before .before .before .before .before .args .text .now) _ (c .before .before .before .before .before .before .before .before .before .before .before .before .before .before .before .before .if1 .left) (c .before .before .before .before .before .before .before .before .before .before .before .before .before .before .before .find-problem .result) (c .before .before .before .before .before .before .before .before .before .before .before .before .before .before .before .find-problem .ensures) _ _ (c .before .before .before .before .before .before .before .before .before .before .before .before .before .found .given .1) _
     (sym (ap sizingOf (c .before .before .before .before .before .before .before .before .sizing .given .1)) ∙ c .before .before .before .before .before .before .before .before .before .before .read-problem .ensures)) (c .before .before .before .before .read-sized .ensures))
 
 pub read-spec : {M : Type 1} → statement M

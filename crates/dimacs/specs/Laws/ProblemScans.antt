@@ -11,7 +11,7 @@ use Rattle.dimacs.specs.declared.Matched.the-variants.{Behind, Other}
 use Rattle.dimacs.specs.declared.Sized.{Sized}
 use Rattle.dimacs.specs.declared.Sized.the-variants.{Number, Other as NoNumber}
 use Rattle.dimacs.specs.declared.Sizing.{Sizing}
-use Rattle.dimacs.specs.declared.Sizing.the-variants.{Sizes as SizesRead, Malformed}
+use Rattle.dimacs.specs.declared.Sizing.the-variants.{Read, Malformed}
 use Rattle.dimacs.specs.declared.Found.{Found}
 use Rattle.dimacs.specs.declared.Found.the-variants.{Line as FoundLine, Absent}
 use Rattle.dimacs_format.specs.Text.{piece, lines, words, spelled, sameBytes, numberIn}
@@ -20,7 +20,7 @@ use Rattle.dimacs_words.specs.Laws.Scans.{belongs, Stretch, linesBehind}
 
 -- the sizes that an answer of the code is
 abbrev pub sizingOf : Sizing → Option Sizes
-sizingOf (SizesRead v c) = some (record { variables = v; total = c })
+sizingOf (Read z) = some z
 sizingOf Malformed = none
 
 -- the spelling of the words from a place on

@@ -7,13 +7,15 @@ use Prim.Native.Nat.{ℕ, _-_, _≤_, _<_}
 use native.Mathlib.Omega.{arith}
 use lib.ListN.{length, take, drop}
 use borrow.Author.Tests.{le-leb, lt-leb}
+use Rattle.point_slices.specs.Slices.{ClauseSlices, clauseRoom}
+use Rattle.formula.specs.Limits.{maxVariables, maxClauses}
 use Rattle.dimacs_lines.specs.declared.Parsed.{Parsed}
 use Rattle.dimacs.specs.declared.Found.{Found}
 use Rattle.dimacs.specs.declared.Found.the-variants.{Line as FoundLine, Absent}
 use Rattle.dimacs_words.specs.declared.Class.the-variants.{Line as LineBytes}
-use Rattle.dimacs_format.specs.Reader.{refuses, andThen, walk, Sizes, problemWords, problemIn, withinLimits, lineStep}
-use Rattle.dimacs_format.specs.Reader.{begin, atEnd, withRoom, withSizes, withProblem, fromProblem, withLines, reading}
-use Rattle.dimacs_format.specs.Reader.{readReply, readFormula, readPositive, readNegative}
+use Rattle.dimacs_format.specs.Reader.{refuses, Sizes, problemWords, problemIn, withinLimits, textSays, withRoom}
+use Rattle.dimacs_format.specs.Reader.{withSizes, withProblem, fromProblem, withLines, reading, readReply, readFormula}
+use Rattle.dimacs_format.specs.Reader.{readClauses}
 use Rattle.dimacs.specs.Contract.{Read}
 use Rattle.dimacs_lines.specs.Laws.ParsedAs.{ParsedAs}
 use Rattle.dimacs.specs.Laws.ProblemScans.{ProblemFound}
@@ -23,37 +25,33 @@ use Rattle.dimacs_format.specs.Laws.TextLaws.{words-bytes}
 
 -- ---- sizes and room
 
-module _ (size a b : ℕ) (l : Line) (after : List Line) (z : Sizes) where
-  pub sizes-low : z .variables < 1 → withSizes size a b l after z ≡ refuses 3 (l .start)
+module _ (size room : ℕ) (l : Line) (after : List Line) (z : Sizes) where
+  pub sizes-low : z .variables < 1 → withSizes size room l after z ≡ refuses 3 (l .start)
   unfolding withSizes withinLimits
   sizes-low h = rw (lt-leb 1 (z .variables) h)
 
-  pub sizes-high : 1 ≤ z .variables → 64 < z .variables → withSizes size a b l after z ≡ refuses 3 (l .start)
+  pub sizes-high : 1 ≤ z .variables → maxVariables < z .variables → withSizes size room l after z ≡ refuses 3 (l .start)
   unfolding withSizes withinLimits
-  sizes-high lo h = rw (le-leb 1 (z .variables) lo, lt-leb (z .variables) 64 h)
+  sizes-high lo h = rw (le-leb 1 (z .variables) lo, lt-leb (z .variables) maxVariables h)
 
-  pub sizes-many : 1 ≤ z .variables → z .variables ≤ 64 → 4096 < z .total
-      → withSizes size a b l after z ≡ refuses 3 (l .start)
+  pub sizes-many : 1 ≤ z .variables → z .variables ≤ maxVariables → maxClauses < z .total
+      → withSizes size room l after z ≡ refuses 3 (l .start)
   unfolding withSizes withinLimits
-  sizes-many lo hi h = rw (le-leb 1 (z .variables) lo, le-leb (z .variables) 64 hi, lt-leb (z .total) 4096 h)
+  sizes-many lo hi h =
+      rw (le-leb 1 (z .variables) lo, le-leb (z .variables) maxVariables hi, lt-leb (z .total) maxClauses h)
 
-  module _ (lo : 1 ≤ z .variables) (hi : z .variables ≤ 64) (few : z .total ≤ 4096) where
-    sizes-fit : withSizes size a b l after z ≡ withRoom size a b l after z
+  module _ (lo : 1 ≤ z .variables) (hi : z .variables ≤ maxVariables) (few : z .total ≤ maxClauses) where
+    sizes-fit : withSizes size room l after z ≡ withRoom size room l after z
     unfolding withSizes withinLimits
-    sizes-fit = rw (le-leb 1 (z .variables) lo, le-leb (z .variables) 64 hi, le-leb (z .total) 4096 few)
+    sizes-fit = rw (le-leb 1 (z .variables) lo, le-leb (z .variables) maxVariables hi, le-leb (z .total) maxClauses few)
 
-    pub room-first : a < z .total → withSizes size a b l after z ≡ refuses 4 (l .start)
+    pub room-short : room < z .total → withSizes size room l after z ≡ refuses 4 (l .start)
     unfolding withRoom
-    room-first h = sizes-fit ∙ rw (lt-leb (z .total) a h)
+    room-short h = sizes-fit ∙ rw (lt-leb (z .total) room h)
 
-    pub room-second : z .total ≤ a → b < z .total → withSizes size a b l after z ≡ refuses 4 (l .start)
+    pub room-enough : z .total ≤ room → withSizes size room l after z ≡ textSays size z after
     unfolding withRoom
-    room-second g h = sizes-fit ∙ rw (le-leb (z .total) a g, lt-leb (z .total) b h)
-
-    pub room-both : z .total ≤ a → z .total ≤ b
-        → withSizes size a b l after z ≡ andThen (walk (lineStep z) begin after) (atEnd size z)
-    unfolding withRoom
-    room-both g h = sizes-fit ∙ rw (le-leb (z .total) a g, le-leb (z .total) b h)
+    room-enough h = sizes-fit ∙ rw (le-leb (z .total) room h)
 
 -- ---- the whole text
 
@@ -62,49 +60,47 @@ problem-anywhere : (start : ℕ) (line : List ℕ) → problemIn (piece start li
 unfolding problemIn
 problem-anywhere start line = ap (λ l. cond (begins problemWord line) (problemWords l) none) (words-bytes start 0 line)
 
-pub answers-read : (text positive₀ negative₀ : List ℕ) (r : Parsed) (positive₁ negative₁ : List ℕ)
-    → ParsedAs (reading text (length positive₀) (length negative₀)) positive₀ negative₀ r positive₁ negative₁
-    → Read text positive₀ negative₀ r positive₁ negative₁
-unfolding readReply readFormula readPositive readNegative
-answers-read text positive₀ negative₀ r positive₁ negative₁ a =
-    record { reply = a .reply; formula = a .formula; positive = a .positive; negative = a .negative }
+pub answers-read : {text : List ℕ} {clauses₀ clauses₁ : ClauseSlices} {r : Parsed}
+    → ParsedAs (reading text (clauseRoom clauses₀)) clauses₀ r clauses₁ → Read text clauses₀ r clauses₁
+unfolding readReply readFormula readClauses
+answers-read a = record { reply = a .reply; formula = a .formula; clauses = a .clauses }
 
-module _ (text : List ℕ) (a b : ℕ) where
-  pub text-long : maxText < length text → reading text a b ≡ refuses 1 maxText
+module _ (text : List ℕ) (room : ℕ) where
+  pub text-long : maxText < length text → reading text room ≡ refuses 1 maxText
   unfolding reading
   text-long h = rw (lt-leb (length text) maxText h)
 
   module _ (h : length text ≤ maxText) where
-    by-lines : reading text a b ≡ withLines (length text) a b (fromProblem (lines 0 text))
+    by-lines : reading text room ≡ withLines (length text) room (fromProblem (lines 0 text))
     unfolding reading
     by-lines = rw (le-leb (length text) maxText h)
 
-    pub text-absent : (r : Found) → ProblemFound text r → r ≡ Absent → reading text a b ≡ refuses 2 (length text)
+    pub text-absent : (r : Found) → ProblemFound text r → r ≡ Absent → reading text room ≡ refuses 2 (length text)
     unfolding withLines
     text-absent (FoundLine start stop) f e = absurd (let z : _≡_ {A = ℕ} 0 1 = cc in omega arith)
-    text-absent Absent f e = by-lines ∙ ap (withLines (length text) a b) f
+    text-absent Absent f e = by-lines ∙ ap (withLines (length text) room) f
 
     module _ (r : Found) (found : ProblemFound text r) (start stop : ℕ) (e : r ≡ FoundLine start stop) where
       pub problem-place : Stretch (belongs LineBytes) text start stop
       problem-place = subst (ProblemFound text) e found .0
 
       by-problem : (o : Option Sizes) → o ≡ problemIn (piece 0 (take (stop - start) (drop start text)))
-          → reading text a b ≡ withProblem (length text) a b (piece start (take (stop - start) (drop start text)))
+          → reading text room ≡ withProblem (length text) room (piece start (take (stop - start) (drop start text)))
           (linesBehind text stop) o
       unfolding withLines
       by-problem o f =
-          by-lines ∙ ap (withLines (length text) a b) (subst (ProblemFound text) e found .1)
-          ∙ ap (withProblem (length text) a b (piece start (take (stop - start) (drop start text)))
+          by-lines ∙ ap (withLines (length text) room) (subst (ProblemFound text) e found .1)
+          ∙ ap (withProblem (length text) room (piece start (take (stop - start) (drop start text)))
           (linesBehind text stop))
           (problem-anywhere start (take (stop - start) (drop start text)) ∙ sym f)
 
       pub text-malformed : none ≡ problemIn (piece 0 (take (stop - start) (drop start text)))
-          → reading text a b ≡ refuses 2 start
+          → reading text room ≡ refuses 2 start
       unfolding withProblem
       text-malformed f = by-problem none f
 
       pub text-sized : (z : Sizes) → some z ≡ problemIn (piece 0 (take (stop - start) (drop start text)))
-          → reading text a b ≡ withSizes (length text) a b (piece start (take (stop - start) (drop start text)))
+          → reading text room ≡ withSizes (length text) room (piece start (take (stop - start) (drop start text)))
           (linesBehind text stop) z
       unfolding withProblem
       text-sized z f = by-problem (some z) f

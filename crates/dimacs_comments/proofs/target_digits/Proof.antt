@@ -3,9 +3,10 @@
 use mathlib.Core.Path.{_≡_, sym, ap, _∙_, subst}
 use Prim.Native.Nat.{_≤_, _<_, _-_, _+_, _^_}
 use native.Mathlib.Omega.{arith}
-use lib.ListN.{length, getD, take, drop}
+use lib.ListN.{length, take, drop}
 use borrow.Author.Needs.{needs}
-use Rattle.dimacs_comments.specs.Laws.CommentScans.{binaryIn}
+use Rattle.formula.specs.Limits.{maxVariables}
+use Rattle.dimacs_comments.specs.Laws.CommentScans.{wantedOf, binaryIn}
 use Rattle.dimacs_comments.specs.Laws.CommentScanLaws.{binaryFrom, binary-begins, digit-joins, digit-below}
 use Rattle.dimacs_comments.specs.Laws.CommentScanLaws.{binary-ends, binary-stops, binary-goes-on, binary-low}
 use Rattle.dimacs_comments.specs.Laws.CommentScanLaws.{binary-high, binary-digit}
@@ -13,7 +14,7 @@ use Rattle.dimacs_comments.proofs.target_digits.Statement.{statement}
 use Rattle.dimacs_comments.proofs.target_digits.Tie as tie
 
 abbrev Inv-loop : tie.InvT-loop
-Inv-loop bytes n x₀ i₀ x i = (n ≤ 64) × (n ≤ length bytes) × (x < 2 ^ i) × (binaryIn n bytes ≡ binaryFrom x i (drop i (take n bytes)))
+Inv-loop bytes n x₀ i₀ x i = (n ≤ maxVariables) × (n ≤ length bytes) × (x < 2 ^ i) × (binaryIn n bytes ≡ binaryFrom x i (drop i (take n bytes)))
 
 abbrev μ-loop : tie.MeasureT-loop
 μ-loop bytes n x₀ i₀ x i = n - i
@@ -24,27 +25,32 @@ loop-holds c = (c .before .pre .0, c .before .pre .1, search needs, binary-begin
 shared-slice-read-b : tie.Need-shared-slice-read-b Inv-loop μ-loop
 shared-slice-read-b c = omega arith
 
+no-target-requires : tie.Need-no-target-requires Inv-loop μ-loop
+no-target-requires c κs = search needs
+
 returns : tie.Need-returns Inv-loop μ-loop
 returns c =
-    let l = c .before .before .before .loop in
-    sym (l .inv .3 ∙ binary-stops _ _ (l .inv .1) (l .x) (l .i) (c .before .before .loop-test .taken) (binary-low _ (c .if1 .taken)))
+    let l = c .before .before .before .before .loop in
+    ap wantedOf (c .no-target .ensures) ∙ sym (l .inv .3 ∙ binary-stops _ _ (l .inv .1) (l .x) (l .i) (c .before .before .before .loop-test .taken) (binary-low _ (c .before .if1 .taken)))
+
+no-target-requires-2 : tie.Need-no-target-requires-2 Inv-loop μ-loop
+no-target-requires-2 c κs = search needs
 
 returns-2 : tie.Need-returns-2 Inv-loop μ-loop
 returns-2 c =
-    let l = c .before .before .before .before .loop in
-    sym (l .inv .3 ∙ binary-stops _ _ (l .inv .1) (l .x) (l .i) (c .before .before .before .loop-test .taken) (binary-high _ (c .if2 .taken)))
+    let l = c .before .before .before .before .before .loop in
+    ap wantedOf (c .no-target2 .ensures) ∙ sym (l .inv .3 ∙ binary-stops _ _ (l .inv .1) (l .x) (l .i) (c .before .before .before .before .loop-test .taken) (binary-high _ (c .before .if2 .taken)))
 
-carry-requires : tie.Need-carry-requires Inv-loop μ-loop
-carry-requires c κs = omega (arith, c .before .before .before .loop-test .taken, c .before .before .before .before .loop .inv .0)
+with-digit-requires : tie.Need-with-digit-requires Inv-loop μ-loop
+with-digit-requires c κs = omega (arith, c .before .before .before .loop-test .taken, c .before .before .before .before .loop .inv .0)
 
 loop-again : tie.Need-loop-again Inv-loop μ-loop
 loop-again c =
     let l = c .before .before .before .before .before .loop in
-    let small : getD (c .before .before .before .before .before .before .before .args .bytes .now) (l .i) 0 - 48 < 2 = omega (arith, c .before .if2 .left) in
-    let moved = c .carry .ensures ∙ digit-joins (l .x) (l .i) _ (l .inv .2) small in (
+    let moved = c .with-digit .ensures ∙ digit-joins (l .x) (l .i) _ (l .inv .2) (c .before .before .if1 .left) (c .before .if2 .left) in (
       l .inv .0,
       l .inv .1,
-      subst (λ y. y < 2 ^ (l .i + 1)) (sym moved) (digit-below (l .x) (l .i) _ (l .inv .2) small),
+      subst (λ y. y < 2 ^ (l .i + 1)) (sym moved) (digit-below (l .x) (l .i) _ (l .inv .2) (omega (arith, c .before .if2 .left))),
       l .inv .3 ∙ binary-goes-on _ _ (l .inv .1) (l .x) (l .i) (c .before .before .before .before .loop-test .taken) (binary-digit _ (c .before .before .if1 .left) (c .before .if2 .left))
           ∙ ap (λ y. binaryFrom y (l .i + 1) (drop (l .i + 1) (take (c .before .before .before .before .before .before .before .args .n) (c .before .before .before .before .before .before .before .args .bytes .now)))) (sym moved),
     )
@@ -57,4 +63,4 @@ returns-3 c =
 pub target-digits-spec : {M : Type 1} → statement M
 target-digits-spec =
     tie.close
-    (tie.spec Inv-loop μ-loop loop-holds (λ c. search needs) shared-slice-read-b returns returns-2 (λ c. search needs) carry-requires (λ c. search needs) (λ c. search needs) loop-again returns-3)
+    (tie.spec Inv-loop μ-loop loop-holds (λ c. search needs) shared-slice-read-b no-target-requires returns no-target-requires-2 returns-2 with-digit-requires (λ c. search needs) (λ c. search needs) loop-again returns-3)

@@ -4,13 +4,13 @@ use mathlib.Core.List.{List, [], _∷_, _++_, append-nil, List·Memᴰ·head, Li
 use mathlib.Core.Logic.{_⊎_, inl, inr, ⊎-elim}
 use mathlib.Core.Option.{Option, some, none}
 use mathlib.Core.Path.{_≡_, refl, sym, ap, ap₂, _∙_, subst}
-use Prim.Native.Nat.{ℕ, zero, suc, _+_, _-_, _*_, _/_, _%_, _^_, _≤_, _<_, zero-le}
+use Prim.Native.Nat.{ℕ, zero, suc, _+_, _-_, _*_, _^_, _≤_, _<_, zero-le}
 use native.Mathlib.Nat.{add-sub-cancel-left, le-of-eq, le-trans, zero-add, add-zero, one-mul, mul-zero, mul-add}
-use native.Mathlib.Nat.{mul-comm, mul-assoc, pow-suc}
+use native.Mathlib.Nat.{zero-mul, mul-comm, mul-assoc, pow-suc}
 use native.Mathlib.Numerals.{add-one}
 use native.Mathlib.Decide.{ℕ-discrete}
 use native.Mathlib.Omega.{arith}
-use lib.Bits.{bitOr, or-shifted}
+use lib.Bits.{bitOr, or-shifted-r}
 use lib.Dec.{eqb, leb}
 use lib.ListN.{length, getD, take, drop, set, length-append, length-drop, length-set, drop-of-length-le}
 use lib.Seq.{getD-take, getD-drop, take-all, take-suc-set, length-take-le, append-snoc, take-at, drop-at, drop-drop}
@@ -19,6 +19,7 @@ use Rattle.math.specs.Laws.ListLaws.{not-true-false, not-all, getD-in}
 use Rattle.math.specs.Lists.{_∈_, all}
 use Rattle.permutation_theory.specs.Laws.PermutationLaws.{isPermutation-sound, permutation-within}
 use Rattle.permutation_theory.specs.Permutations.{Permutation, isPermutation}
+use Rattle.formula.specs.Limits.{maxVariables}
 use Rattle.dimacs_words.specs.declared.Class.the-variants.{Blank}
 use Rattle.dimacs_words.specs.declared.Cursor.{Cursor}
 use Rattle.dimacs_words.specs.declared.Word.{Word as WordAnswer}
@@ -31,7 +32,8 @@ use Rattle.dimacs_format.specs.Reader.{isBinary, binary, targetIn, beginsWord, 
 use Rattle.dimacs_format.specs.Reader.{permutationIn}
 use Rattle.dimacs_words.specs.Laws.Scans.{belongs, Stretch, signed, WordAt, WordRead}
 use Rattle.dimacs_words.specs.Laws.ScanLaws.{here-on, part-end, run-all, words-skip, words-end}
-use Rattle.dimacs_comments.specs.Laws.CommentScans.{binaryIn, prepended, numbersFrom, Spoiled, Imaging, Storing}
+use Rattle.dimacs_comments.specs.Laws.CommentScans.{withDigit, binaryIn, prepended, numbersFrom, Spoiled, Imaging}
+use Rattle.dimacs_comments.specs.Laws.CommentScans.{Storing}
 use Rattle.dimacs_comments.specs.Laws.CommentScans.{Collecting, Permuting}
 
 -- ---- the target line
@@ -47,9 +49,18 @@ binary-begins n bytes =
     ap (λ v. cond (all isBinary (take n bytes)) (some v) none)
     (sym (zero-add (1 * binary (take n bytes)) ∙ one-mul (binary (take n bytes))))
 
--- a digit moved to bit i joins what stands below it
-pub digit-joins : (x i d : ℕ) → x < 2 ^ i → d < 2 → bitOr (d / 2 ^ 0 % 2 * 2 ^ i) x ≡ d * 2 ^ i + x
-digit-joins x i d h k = let e : d / 1 % 2 ≡ d = omega arith in or-shifted (d / 1 % 2) i x h ∙ ap (λ j. j * 2 ^ i + x) e
+-- a digit at bit i joins what stands below it
+pub digit-joins : (x i b : ℕ) → x < 2 ^ i → 48 ≤ b → b ≤ 49 → withDigit x i (eqb b 49) ≡ (b - 48) * 2 ^ i + x
+digit-joins x i b h lo hi = by (ℕ-discrete b 49)
+  where
+    by : Dec (b ≡ 49) → withDigit x i (eqb b 49) ≡ (b - 48) * 2 ^ i + x
+    by (yes e) = ap (withDigit x i) (eq-eqb b 49 e) ∙ ap (bitOr x) (sym (one-mul (2 ^ i))) ∙ or-shifted-r 1 i x h
+        ∙ ap (λ d. d * 2 ^ i + x) (let z : 1 ≡ b - 48 = omega arith in z)
+    by (no ne) = ap (withDigit x i) (ne-eqb b 49 ne) ∙ sym (zero-add x) ∙ ap (λ d. d + x) (sym (zero-mul (2 ^ i)))
+        ∙ ap (λ d. d * 2 ^ i + x) (let z : 0 ≡ b - 48 = low in z)
+      where
+        low : 0 ≡ b - 48
+        low = omega arith
 
 pub digit-below : (x i d : ℕ) → x < 2 ^ i → d < 2 → d * 2 ^ i + x < 2 ^ (i + 1)
 digit-below x i d h k = rw (add-one, pow-suc) (by d k)
@@ -314,7 +325,7 @@ module _ (n : ℕ) (bytes : List ℕ) (at from : ℕ) (run : Stretch (belongs Bl
 -- ---- the loop over the numbers
 
 module _ (n : ℕ) (bytes part₀ : List ℕ) where
-  pub collect-begins : n ≤ 64 → length part₀ ≡ n → Collecting n bytes part₀ part₀ 0 0
+  pub collect-begins : n ≤ maxVariables → length part₀ ≡ n → Collecting n bytes part₀ part₀ 0 0
   unfolding prepended
   collect-begins few size =
       record {
@@ -355,7 +366,7 @@ module _ (n : ℕ) (bytes part₀ : List ℕ) where
         found : Imaging n bytes at (Variable v cursor)
         found = subst (Imaging n bytes at) e k
 
-        pub image-small : v ≤ 64
+        pub image-small : v ≤ maxVariables
         image-small = le-trans (found .2) (c .few)
 
         pub image-later : (at < cursor .at) × (cursor .at ≤ length bytes)

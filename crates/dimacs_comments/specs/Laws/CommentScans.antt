@@ -3,22 +3,29 @@ use mathlib.Core.Bool.{Bool, true, false, cond}
 use mathlib.Core.List.{List, [], _++_}
 use mathlib.Core.Option.{Option, some, none}
 use mathlib.Core.Path.{_≡_}
-use Prim.Native.Nat.{ℕ, _+_, _≤_, _<_}
+use Prim.Native.Nat.{ℕ, _+_, _^_, _≤_, _<_}
+use lib.Bits.{bitOr}
 use lib.ListN.{length, take, drop}
 use Rattle.math.specs.Lists.{all}
+use Rattle.formula.specs.Limits.{maxVariables}
 use Rattle.dimacs_comments.specs.declared.Wanted.{Wanted}
-use Rattle.dimacs_comments.specs.declared.Wanted.the-variants.{Target, Malformed}
 use Rattle.dimacs_comments.specs.declared.Image.{Image}
-use Rattle.dimacs_comments.specs.declared.Image.the-variants.{End, Variable, Malformed as Other}
+use Rattle.dimacs_comments.specs.declared.Image.the-variants.{End, Variable, Malformed}
 use Rattle.dimacs_format.specs.Text.{words, spelled}
 use Rattle.dimacs_format.specs.Reader.{isBinary, binary, bothNumbers, numbersIn, permuting, permutationIn}
 
 -- ---- the target line
 
--- the target that an answer of the code is
+-- the target that the code holds, if there is one
 abbrev pub wantedOf : Wanted → Option ℕ
-wantedOf (Target x) = some x
-wantedOf Malformed = none
+wantedOf w = cond (w .found) (some (w .target)) none
+
+abbrev pub noTarget : Wanted
+noTarget = record { found = false; target = 0 }
+
+-- a point with one more digit, that of bit i
+abbrev pub withDigit : ℕ → ℕ → Bool → ℕ
+withDigit x i one = cond one (bitOr x (2 ^ i)) x
 
 -- the first n bytes as digits 0 and 1
 unfoldable pub binaryIn : ℕ → List ℕ → Option ℕ
@@ -45,7 +52,7 @@ abbrev pub Imaging : ℕ → List ℕ → ℕ → Image → Type 0
 Imaging n bytes at End = numbersFrom bytes at ≡ some []
 Imaging n bytes at (Variable v c) = (at < c .at) × (c .at ≤ length bytes) × (v ≤ n)
     × (numbersFrom bytes at ≡ bothNumbers (some v) (numbersFrom bytes (c .at)))
-Imaging n bytes at Other = Spoiled n (numbersFrom bytes at)
+Imaging n bytes at Malformed = Spoiled n (numbersFrom bytes at)
 
 -- the part holds the numbers of all words, or no permutation comes of these
 abbrev pub Storing : ℕ → List ℕ → List ℕ → Bool → Type 0
@@ -54,7 +61,7 @@ Storing n bytes part false = permuting n (numbersIn (spelled (words 0 bytes))) �
 
 -- the loop over the numbers: those stored in front of those left are all of them
 pub record Collecting (n : ℕ) (bytes : List ℕ) (part₀ part : List ℕ) (j at : ℕ) : Type 0 where
-  pub few : n ≤ 64
+  pub few : n ≤ maxVariables
   pub size : length part ≡ n
   pub kept : length part ≡ length part₀
   pub front : j ≤ n

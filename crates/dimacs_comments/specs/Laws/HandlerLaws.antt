@@ -1,4 +1,4 @@
--- Laws of one line, by its kind: a target line, a permutation line, a line of words. Assumes nothing.
+-- Laws of the comments with meaning, one line behind those before it. Assumes nothing.
 use mathlib.Core.Bool.{Bool, true, false, cond}
 use mathlib.Core.List.{List, [], _∷_, _++_}
 use mathlib.Core.Option.{Option, some, none}
@@ -12,40 +12,52 @@ use lib.Seq.{drop-drop, take-take, take-nil, take-add}
 use borrow.Author.Tests.{lt-ltb, le-ltb}
 use Rattle.permutation_images.specs.Laws.LoopLaws.{length-permutations, part-ends}
 use Rattle.permutation_theory.specs.Permutations.{Permutation, permutationsIn}
-use Rattle.dimacs_clauses.specs.declared.Begun.{Begun}
-use Rattle.dimacs_clauses.specs.declared.Taken.{Taken}
-use Rattle.dimacs_clauses.specs.declared.Taken.the-variants.{On as Further, Refused as Stopped}
-use Rattle.dimacs_comments.specs.declared.State.{State}
-use Rattle.dimacs_format.specs.Text.{piece, words}
-use Rattle.dimacs_format.specs.Reader.{goes, refuses, walk, Sizes, wordStep, targetIn, targetKept, targetStep}
-use Rattle.dimacs_format.specs.Reader.{permutationIn, permutationKept, permutationStep}
+use Rattle.formula.specs.Limits.{maxVariables, maxPermutations, maxImages}
+use Rattle.formula.specs.declared.Checked.the-variants.{Passed, Refused}
+use Rattle.dimacs_comments.specs.declared.Wanted.{Wanted}
+use Rattle.dimacs_format.specs.Reader.{goes, targetIn, targetKept, targetSaid, permutationIn, permutationKept}
+use Rattle.dimacs_format.specs.Reader.{permutationSaid}
 use Rattle.dimacs_format.specs.Input.{imagesOf}
-use Rattle.dimacs_words.specs.Laws.ScanLaws.{part-end}
-use Rattle.dimacs_comments.specs.Laws.CommentScans.{Permuting}
-use Rattle.dimacs_comments.specs.Laws.HandlerScans.{targetOf, KeptImages}
-use Rattle.dimacs_clauses.specs.Laws.ClauseScans.{clausesFrom, takenOf, Few, Ready, Scanning}
+use Rattle.dimacs_comments.specs.Laws.CommentScans.{wantedOf, Permuting}
+use Rattle.dimacs_comments.specs.Laws.HandlerScans.{TargetRead, KeptImages, PermutationRead}
 
 -- ---- a target line
 
-module _ (n start : ℕ) (line : List ℕ) (s : State) where
-  pub target-second : s .targeted ≡ true → targetStep n (targetOf s) (piece start line) ≡ refuses 8 start
-  unfolding targetStep
-  target-second e = rw e
+-- the first such line
+first-line : (n place : ℕ) (bytes : List ℕ) (w read : Wanted) → w .found ≡ false → wantedOf read ≡ targetIn n bytes
+    → targetSaid n (wantedOf w) place bytes ≡ targetKept place (wantedOf read)
+unfolding targetSaid
+first-line n place bytes w read e f = rw e (ap (targetKept place) (sym f))
 
-  first-line : s .targeted ≡ false → (o : Option ℕ) → targetIn n (take (length line - 7) (drop 7 line)) ≡ o
-      → targetStep n (targetOf s) (piece start line) ≡ targetKept start o
-  unfolding targetStep
-  first-line e o f = rw e (ap (λ l. targetKept start (targetIn n l)) (sym (part-end line 7)) ∙ ap (targetKept start) f)
+module _ {n place : ℕ} {bytes : List ℕ} {w : Wanted} where
+  -- S18: "at most one such line"
+  pub target-second : w .found ≡ true → TargetRead n place bytes w (record { answer = Refused 8 place; wanted = w })
+  unfolding targetSaid
+  target-second e = record { step = rw e }
 
-  pub target-bad : s .targeted ≡ false → targetIn n (take (length line - 7) (drop 7 line)) ≡ none
-      → targetStep n (targetOf s) (piece start line) ≡ refuses 8 start
-  unfolding targetKept
-  target-bad e f = first-line e none f
+  module _ (read : Wanted) (f : wantedOf read ≡ targetIn n bytes) where
+    pub target-malformed : read .found ≡ false
+        → TargetRead n place bytes w (record { answer = Refused 8 place; wanted = w })
+    unfolding targetSaid targetKept
+    target-malformed g = by (w .found) refl
+      where
+        by : (t : Bool) → w .found ≡ t → TargetRead n place bytes w (record { answer = Refused 8 place; wanted = w })
+        by true e = target-second e
+        by false e =
+            record {
+              step = sym (first-line n place bytes w read e f
+                  ∙ ap (λ b. targetKept place (cond b (some (read .target)) none)) g);
+            }
 
-  pub target-good : (x : ℕ) → s .targeted ≡ false → targetIn n (take (length line - 7) (drop 7 line)) ≡ some x
-      → targetStep n (targetOf s) (piece start line) ≡ goes (some x)
-  unfolding targetKept
-  target-good x e f = first-line e (some x) f
+    pub target-good : w .found ≡ false → read .found ≡ true
+        → TargetRead n place bytes w (record { answer = Passed; wanted = read })
+    unfolding targetKept
+    target-good e g =
+        record {
+          step = ap (λ b. goes (cond b (some (read .target)) none)) g
+              ∙ sym (first-line n place bytes w read e f
+              ∙ ap (λ b. targetKept place (cond b (some (read .target)) none)) g);
+        }
 
 -- ---- permutations one behind the other
 
@@ -98,75 +110,66 @@ images-take n (suc k) bytes =
 -- ---- a permutation line
 
 -- the permutations fit into their bytes
-pub images-room : (n k : ℕ) → n ≤ 64 → k < 16 → k * n + n ≤ 1024
-images-room n k few lt = let a = part-ends k 16 n lt in omega arith
+pub images-room : (n k : ℕ) → n ≤ maxVariables → k < maxPermutations → k * n + n ≤ maxImages
+images-room n k few lt = let a = part-ends k maxPermutations n lt in omega arith
 
-module _ (n start : ℕ) (line : List ℕ) (k : ℕ) (old : List ℕ) where
-  pub permutation-over : 16 ≤ k → permutationStep n (permutationsIn n k old) (piece start line) ≡ refuses 9 start
-  unfolding permutationStep
+-- a line before the seventeenth
+line-kept : (n place : ℕ) (bytes : List ℕ) (k : ℕ) (old : List ℕ) → k < maxPermutations → (o : Option Permutation)
+    → permutationIn n bytes ≡ o
+    → permutationSaid n (permutationsIn n k old) place bytes ≡ permutationKept (permutationsIn n k old) place o
+unfolding permutationSaid
+line-kept n place bytes k old h o f =
+    rw (lt-ltb (length (permutationsIn n k old)) maxPermutations
+    (subst (λ j. j < maxPermutations) (sym (length-permutations n k old)) h))
+    (ap (permutationKept (permutationsIn n k old) place) f)
+
+module _ {n place : ℕ} {bytes : List ℕ} {k : ℕ} {old : List ℕ} where
+  -- R9: a seventeenth line
+  pub permutation-over : maxPermutations ≤ k
+      → PermutationRead n place bytes k old (record { answer = Refused 9 place; permutations = k }) old
+  unfolding permutationSaid
   permutation-over h =
-      rw (le-ltb (length (permutationsIn n k old)) 16 (subst (λ j. 16 ≤ j) (sym (length-permutations n k old)) h))
-
-  line-kept : k < 16 → (o : Option Permutation) → permutationIn n (take (length line - 7) (drop 7 line)) ≡ o
-      → permutationStep n (permutationsIn n k old) (piece start line) ≡ permutationKept (permutationsIn n k old) start o
-  unfolding permutationStep
-  line-kept h o f =
-      rw (lt-ltb (length (permutationsIn n k old)) 16 (subst (λ j. j < 16) (sym (length-permutations n k old)) h))
-      (ap (λ l. permutationKept (permutationsIn n k old) start (permutationIn n l)) (sym (part-end line 7))
-      ∙ ap (permutationKept (permutationsIn n k old) start) f)
-
-  module _ (new : List ℕ) (r : Bool) (p : Permuting n (take (length line - 7) (drop 7 line)) (k * n) old new r)
-      (lt : k < 16) where
-    pub permutation-bad : r ≡ false → permutationStep n (permutationsIn n k old) (piece start line) ≡ refuses 9 start
-    unfolding permutationKept
-    permutation-bad e =
-        line-kept lt none (p .result ∙ ap (λ b. cond {A = Option Permutation} b
-        (some (record { images = take n (drop (k * n) new) })) none) e)
-
-    pub permutation-good : r ≡ true → n ≤ 64 → KeptImages n k old → length new ≡ length old
-        → KeptImages n (k + 1) new × (permutationStep n (permutationsIn n k old) (piece start line)
-        ≡ goes (permutationsIn n (k + 1) new))
-    unfolding permutationKept
-    permutation-good e few t size = (
       record {
-        few = omega arith;
-        places = size ∙ t .places;
-        unused =
-            ap (λ j. drop j new) next ∙ p .rest ∙ sym (drop-drop n (k * n) old) ∙ ap (drop n) (t .unused)
-            ∙ drop-replicate n (1024 - k * n) 0
-            ∙ ap (λ j. replicate j 0) (let z : 1024 - k * n - n ≡ 1024 - (k * n + n) = omega arith in z
-            ∙ ap (λ j. 1024 - j) (sym next));
-      },
-      line-kept lt (some (record { images = take n (drop (k * n) new) }))
-          (p .result ∙ ap (λ b. cond {A = Option Permutation} b (some (record { images = take n (drop (k * n) new) }))
-          none) e)
-          ∙ ap goes (ap (λ l. l ++ record { images = take n (drop (k * n) new) } ∷ [])
-          (permutations-front n k old new (sym (p .front)))
-          ∙ sym (permutations-snoc n k new) ∙ ap (λ j. permutationsIn n j new) (sym (add-one k))),
-    )
+        step = rw (le-ltb (length (permutationsIn n k old)) maxPermutations
+            (subst (λ j. maxPermutations ≤ j) (sym (length-permutations n k old)) h));
+        kept = tt;
+      }
+
+  module _ {new : List ℕ} {r : Bool} (p : Permuting n bytes (k * n) old new r) (lt : k < maxPermutations) where
+    pub permutation-malformed : r ≡ false
+        → PermutationRead n place bytes k old (record { answer = Refused 9 place; permutations = k }) new
+    unfolding permutationKept
+    permutation-malformed e =
+        record {
+          step = sym (line-kept n place bytes k old lt none (p .result ∙ ap (λ b. cond {A = Option Permutation} b
+              (some (record { images = take n (drop (k * n) new) })) none) e));
+          kept = tt;
+        }
+
+    pub permutation-good : r ≡ true → n ≤ maxVariables → KeptImages n k old → length new ≡ length old
+        → PermutationRead n place bytes k old (record { answer = Passed; permutations = k + 1 }) new
+    unfolding permutationKept
+    permutation-good e few t size =
+        record {
+          step =
+              sym (line-kept n place bytes k old lt (some (record { images = take n (drop (k * n) new) }))
+              (p .result ∙ ap (λ b. cond {A = Option Permutation} b
+              (some (record { images = take n (drop (k * n) new) })) none) e)
+              ∙ ap goes (ap (λ l. l ++ record { images = take n (drop (k * n) new) } ∷ [])
+              (permutations-front n k old new (sym (p .front)))
+              ∙ sym (permutations-snoc n k new) ∙ ap (λ j. permutationsIn n j new) (sym (add-one k))));
+          kept =
+              record {
+                few = omega arith;
+                places = size ∙ t .places;
+                unused =
+                    ap (λ j. drop j new) next ∙ p .rest ∙ sym (drop-drop n (k * n) old) ∙ ap (drop n) (t .unused)
+                    ∙ drop-replicate n (maxImages - k * n) 0
+                    ∙ ap (λ j. replicate j 0)
+                    (let z : maxImages - k * n - n ≡ maxImages - (k * n + n) = omega arith in z
+                    ∙ ap (λ j. maxImages - j) (sym next));
+              };
+        }
       where
         next : (k + 1) * n ≡ k * n + n
         next = ap (λ j. j * n) (add-one k) ∙ suc-mul k n
-
--- ---- a line of words
-
-module _ (z : Sizes) (start : ℕ) (line : List ℕ) (s : State) (p q : List ℕ) (r : Taken) (p₁ q₁ : List ℕ)
-    (k : Scanning z start line (clausesFrom p q (s .begun)) r p₁ q₁) where
-  pub words-refused : (code place : ℕ) → r ≡ Stopped code place
-      → walk (wordStep z) (clausesFrom p q (s .begun)) (words start line) ≡ refuses code place
-  words-refused code place e = sym (k .step) ∙ ap (takenOf p₁ q₁) e
-
-  pub words-taken : (more : Begun) → r ≡ Further more → Ready z (s .begun .closed) p q → length p₁ ≡ length p
-      → length q₁ ≡ length q
-      → Ready z (more .closed) p₁ q₁ × (walk (wordStep z) (clausesFrom p q (s .begun)) (words start line)
-      ≡ goes (clausesFrom p₁ q₁ more))
-  words-taken more e ready lp lq = (
-    record {
-      variables = ready .variables;
-      few = ready .few;
-      room-positive = let x = ready .room-positive in omega arith;
-      room-negative = let x = ready .room-negative in omega arith;
-      closed = subst (Few (z .total)) e (k .few);
-    },
-    sym (k .step) ∙ ap (takenOf p₁ q₁) e,
-  )

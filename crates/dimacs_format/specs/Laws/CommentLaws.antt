@@ -19,10 +19,12 @@ use Rattle.math.specs.Lists.{all}
 use Rattle.permutation_theory.specs.Laws.PermutationLaws.{isPermutation-sound, isPermutation-complete}
 use Rattle.permutation_theory.specs.Permutations.{Permutation, isPermutation}
 use Rattle.formula.specs.Limits.{maxPermutations}
-use Rattle.dimacs_format.specs.Text.{isBlank, Line, words, spelled, allBlank, behindHead, numberIn}
-use Rattle.dimacs_format.specs.Reader.{walk, isBinary, binary, targetIn, targetKept, targetStep, beginsWord}
-use Rattle.dimacs_format.specs.Reader.{bothNumbers, numbersIn, permuting, permutationIn, permutationKept}
-use Rattle.dimacs_format.specs.Reader.{permutationStep, goes, refuses}
+use Rattle.dimacs_format.specs.Text.{isBlank, Line, words, spelled, allBlank, targetHead, permutationHead, behind}
+use Rattle.dimacs_format.specs.Text.{numberIn}
+use Rattle.dimacs_format.specs.Reader.{walk, isBinary, binary, targetIn, targetKept, targetSaid, targetStep}
+use Rattle.dimacs_format.specs.Reader.{beginsWord, bothNumbers, numbersIn, permuting, permutationIn}
+use Rattle.dimacs_format.specs.Reader.{permutationKept}
+use Rattle.dimacs_format.specs.Reader.{permutationSaid, permutationStep, goes, refuses}
 use Rattle.dimacs_format.specs.Accepted.{TargetLine, Targeted, PermutationLine, Permuted, no-line, one-line}
 use Rattle.dimacs_format.specs.Accepted.{none-left, one-more}
 use Rattle.dimacs_format.specs.Laws.StepLaws.{same-some, not-some, some-cond, goes-same, never, both-go}
@@ -72,10 +74,10 @@ binary-bit (b ∷ ds) h (suc i) lt =
 
 -- ---- target lines
 
-pub target-line-of : (n : ℕ) (l : Line) (x : ℕ) → targetIn n (behindHead l) ≡ some x → TargetLine n l x
+pub target-line-of : (n : ℕ) (l : Line) (x : ℕ) → targetIn n (behind targetHead l) ≡ some x → TargetLine n l x
 unfolding targetIn
 target-line-of n l x e =
-    let bytes : List ℕ = behindHead l in
+    let bytes : List ℕ = behind targetHead l in
     let c = some-cond (leb n (length bytes) && all isBinary (take n bytes) && allBlank (drop n bytes)) e in
     let w = and-split (leb n (length bytes) && all isBinary (take n bytes)) (allBlank (drop n bytes)) (c .0) in
     let v = and-split (leb n (length bytes)) (all isBinary (take n bytes)) (w .0) in
@@ -93,7 +95,7 @@ target-line-of n l x e =
           ∙ binary-bit (take n bytes) (v .1) i (subst (λ k. i < k) (sym size) lt);
     }
 
-pub target-line-in : (n : ℕ) (l : Line) (x : ℕ) → TargetLine n l x → targetIn n (behindHead l) ≡ some x
+pub target-line-in : (n : ℕ) (l : Line) (x : ℕ) → TargetLine n l x → targetIn n (behind targetHead l) ≡ some x
 unfolding targetIn
 target-line-in n l x t =
     let ds : List ℕ = t .digits in
@@ -109,18 +111,18 @@ target-line-in n l x t =
 -- a walk over target lines, from none seen
 pub walk-targeted : (n : ℕ) (ls : List Line) {t : Option ℕ} → walk (targetStep n) none ls ≡ goes t
     → Targeted n ls (Option·getD t 0)
-unfolding walk targetStep
+unfolding walk targetSaid
 walk-targeted n [] e = subst (λ t. Targeted n [] (Option·getD t 0)) (goes-same e) no-line
 walk-targeted n (l ∷ ls) {t} e =
-    let v = both-go (targetKept (l .start) (targetIn n (behindHead l))) (λ q. walk (targetStep n) q ls) e in
-    first (targetIn n (behindHead l)) refl (v .1) ls (v .2)
+    let v = both-go (targetKept (l .start) (targetIn n (behind targetHead l))) (λ q. walk (targetStep n) q ls) e in
+    first (targetIn n (behind targetHead l)) refl (v .1) ls (v .2)
   where
     rest : (x : ℕ) → TargetLine n l x → (ls : List Line) → walk (targetStep n) (some x) ls ≡ goes t
         → Targeted n (l ∷ ls) (Option·getD t 0)
     rest x h [] e = subst (λ q. Targeted n (l ∷ []) (Option·getD q 0)) (goes-same e) (one-line h)
     rest x h (k ∷ ls) e = absurd (never e)
 
-    first : (o : Option ℕ) → targetIn n (behindHead l) ≡ o → {q : Option ℕ} → targetKept (l .start) o ≡ goes q
+    first : (o : Option ℕ) → targetIn n (behind targetHead l) ≡ o → {q : Option ℕ} → targetKept (l .start) o ≡ goes q
         → (ls : List Line)
         → walk (targetStep n) q ls ≡ goes t → Targeted n (l ∷ ls) (Option·getD t 0)
     first none h f ls e = absurd (never f)
@@ -128,7 +130,7 @@ walk-targeted n (l ∷ ls) {t} e =
 
 pub targeted-walk : (n : ℕ) {ls : List Line} {x : ℕ} → Targeted n ls x
     → (t : Option ℕ) × (walk (targetStep n) none ls ≡ goes t) × (Option·getD t 0 ≡ x)
-unfolding walk targetStep
+unfolding walk targetSaid
 targeted-walk n no-line = (none, refl, refl)
 targeted-walk n (one-line {l = l} {x = x} h) = (some x, rw (target-line-in n l x h), refl)
 
@@ -167,50 +169,52 @@ permuting-of n e (some vs) h =
           (same-some (c .1)) (c .0),
     )
 
-pub permutation-line-of : (n : ℕ) (l : Line) (e : Permutation) → permutationIn n (behindHead l) ≡ some e
+pub permutation-line-of : (n : ℕ) (l : Line) (e : Permutation) → permutationIn n (behind permutationHead l) ≡ some e
     → PermutationLine n l e
 unfolding permutationIn
-permutation-line-of n l e h = by (behindHead l) refl h
+permutation-line-of n l e h = by (behind permutationHead l) refl h
   where
-    first : (b : ℕ) (bs : List ℕ) → behindHead l ≡ b ∷ bs → (v : Bool) → isBlank b ≡ v
-        → cond (not v) (permuting n (numbersIn (spelled (words 0 (behindHead l))))) none ≡ some e
+    first : (b : ℕ) (bs : List ℕ) → behind permutationHead l ≡ b ∷ bs → (v : Bool) → isBlank b ≡ v
+        → cond (not v) (permuting n (numbersIn (spelled (words 0 (behind permutationHead l))))) none ≡ some e
         → PermutationLine n l e
     first b bs f true g h = absurd (not-some h)
     first b bs f false g h =
-        let p = permuting-of n e (numbersIn (spelled (words 0 (behindHead l)))) h in
+        let p = permuting-of n e (numbersIn (spelled (words 0 (behind permutationHead l)))) h in
         record {
           byte = b;
           rest = bs;
           first = f;
           unblank = g;
-          numbers = numbers-of (spelled (words 0 (behindHead l))) (e .images) (p .0);
+          numbers = numbers-of (spelled (words 0 (behind permutationHead l))) (e .images) (p .0);
           permutation = isPermutation-sound n e (p .1);
         }
 
-    by : (bs : List ℕ) → behindHead l ≡ bs
-        → cond (beginsWord bs) (permuting n (numbersIn (spelled (words 0 (behindHead l))))) none ≡ some e
+    by : (bs : List ℕ) → behind permutationHead l ≡ bs
+        → cond (beginsWord bs) (permuting n (numbersIn (spelled (words 0 (behind permutationHead l))))) none ≡ some e
         → PermutationLine n l e
     by [] f h = absurd (not-some h)
     by (b ∷ bs) f h = first b bs f (isBlank b) refl h
 
 pub permutation-line-in : (n : ℕ) (l : Line) (e : Permutation) → PermutationLine n l e
-    → permutationIn n (behindHead l) ≡ some e
+    → permutationIn n (behind permutationHead l) ≡ some e
 unfolding permutationIn
 permutation-line-in n l e p =
-    let b : beginsWord (behindHead l) ≡ true = ap beginsWord (p .first) ∙ ap not (p .unblank) in
-    let v : numbersIn (spelled (words 0 (behindHead l)))
-    ≡ some (e .images) = numbers-in (spelled (words 0 (behindHead l))) (e .images) (p .numbers) in
-    ap (λ t. cond t (permuting n (numbersIn (spelled (words 0 (behindHead l))))) none) b ∙ ap (permuting n) v
+    let b : beginsWord (behind permutationHead l) ≡ true = ap beginsWord (p .first) ∙ ap not (p .unblank) in
+    let v : numbersIn (spelled (words 0 (behind permutationHead l)))
+    ≡ some (e .images) = numbers-in (spelled (words 0 (behind permutationHead l))) (e .images) (p .numbers) in
+    ap (λ t. cond t (permuting n (numbersIn (spelled (words 0 (behind permutationHead l))))) none) b
+    ∙ ap (permuting n) v
     ∙ ap (λ t. cond t (some e) none) (isPermutation-complete n e (p .permutation))
 
 -- one step
 permutation-goes : (n : ℕ) (es : List Permutation) (l : Line) {q : List Permutation} → permutationStep n es l ≡ goes q
     → (e : Permutation) × (length es < maxPermutations) × PermutationLine n l e × (es ++ e ∷ [] ≡ q)
-unfolding permutationStep
-permutation-goes n es l {q} h = by (ltb (length es) maxPermutations) refl (permutationIn n (behindHead l)) refl h
+unfolding permutationSaid
+permutation-goes n es l {q} h = by (ltb (length es) maxPermutations) refl
+    (permutationIn n (behind permutationHead l)) refl h
   where
     by : (t : Bool) → ltb (length es) maxPermutations ≡ t → (o : Option Permutation)
-        → permutationIn n (behindHead l) ≡ o
+        → permutationIn n (behind permutationHead l) ≡ o
         → cond t (permutationKept es (l .start) o) (refuses 9 (l .start)) ≡ goes q
         → (e : Permutation) × (length es < maxPermutations) × PermutationLine n l e × (es ++ e ∷ [] ≡ q)
     by false f o g h = absurd (never h)
@@ -238,7 +242,7 @@ walk-permuted n (l ∷ ls) es {q} le e =
 pub permuted-walk : (n : ℕ) {ls : List Line} {new : List Permutation} → Permuted n ls new → (es : List Permutation)
     → length es + length new ≤ maxPermutations
     → walk (permutationStep n) es ls ≡ goes (es ++ new)
-unfolding walk permutationStep
+unfolding walk permutationSaid
 permuted-walk n none-left es le = ap goes (sym (append-nil es))
 permuted-walk n (one-more {l = l} {ls = ls} {e = e} {es = new} p ps) es le =
     let lt : ltb (length es) maxPermutations ≡ true = lt-ltb (length es) maxPermutations (omega arith) in

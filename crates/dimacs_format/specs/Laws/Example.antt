@@ -1,13 +1,15 @@
 -- Texts and what the reader yields from them, by computation. Assumes nothing.
 use mathlib.Core.List.{List, [], _∷_, _++_}
 use mathlib.Core.Path.{_≡_, refl}
-use Prim.Native.Nat.{ℕ}
+use Prim.Native.Nat.{ℕ, _-_}
 use lib.ListN.{replicate}
+use Rattle.formula.specs.Limits.{maxImages}
 use Rattle.formula.specs.Reply.{Reply, parsed, refused}
 use Rattle.formula.specs.declared.Formula.{Formula}
 use Rattle.formula.specs.Problem.{emptyFormula}
 use Rattle.dimacs_format.specs.Text.{ascii, problemWord, formatWord, targetHead, permutationHead}
-use Rattle.dimacs_format.specs.Reader.{readReply, readFormula, readPositive, readNegative}
+use Rattle.dimacs_format.specs.Reader.{readReply, readFormula, readClauses}
+use Rattle.point_slices.specs.Slices.{wholeClauses}
 
 -- the bytes that the fixed words and heads are
 pub fixed-bytes : (problemWord ≡ 112 ∷ []) × (formatWord ≡ 99 ∷ 110 ∷ 102 ∷ [])
@@ -18,10 +20,9 @@ fixed-bytes = (refl, refl, refl, refl)
 -- what the reader yields from a text and two slices
 pub record Example (text positive₀ negative₀ : List ℕ) (r : Reply) (f : Formula) (positive₁ negative₁ : List ℕ) : Type 0
   where
-    pub reply : readReply text positive₀ negative₀ ≡ r
-    pub formula : readFormula text positive₀ negative₀ ≡ f
-    pub positive : readPositive text positive₀ negative₀ ≡ positive₁
-    pub negative : readNegative text positive₀ negative₀ ≡ negative₁
+    pub reply : readReply text (wholeClauses positive₀ negative₀) ≡ r
+    pub formula : readFormula text (wholeClauses positive₀ negative₀) ≡ f
+    pub clauses : readClauses text (wholeClauses positive₀ negative₀) ≡ wholeClauses positive₁ negative₁
 
 -- "B", as a text: `p cnf 3 2`, `c wish 000`, `1 2 0`, `-1 3 0` on four lines; the third place of a slice stays
 abbrev pub satisfiable-text : List ℕ
@@ -29,10 +30,11 @@ satisfiable-text =
     ascii "p cnf 3 2\n" ++ ascii "c wish 000\n" ++ ascii "1 2 0\n" ++ ascii "-1 3 0\n"
 
 pub satisfiable-text-read : Example satisfiable-text (7 ∷ 8 ∷ 9 ∷ []) (7 ∷ 8 ∷ []) parsed
-    (record { variables = 3; clauses = 2; target = 0; permutations = 0; images = replicate 1024 0 }) (3 ∷ 4 ∷ 9 ∷ [])
+    (record { variables = 3; clauses = 2; target = 0; permutations = 0; images = replicate maxImages 0 }) (3 ∷ 4 ∷ 9
+    ∷ [])
     (0 ∷ 1 ∷ [])
-unfolding readReply readFormula readPositive readNegative
-satisfiable-text-read = record { reply = refl; formula = refl; positive = refl; negative = refl }
+unfolding readReply readFormula readClauses
+satisfiable-text-read = record { reply = refl; formula = refl; clauses = refl }
 
 -- "A with exchange 2 1", behind a remark and a blank line, its last clause closed on a line of its own
 abbrev pub symmetric-text : List ℕ
@@ -47,10 +49,10 @@ symmetric-text =
     ++ ascii "-2 0\n"
 
 pub symmetric-text-read : Example symmetric-text (9 ∷ 9 ∷ 9 ∷ 9 ∷ []) (9 ∷ 9 ∷ 9 ∷ 9 ∷ []) parsed
-    (record { variables = 2; clauses = 4; target = 0; permutations = 1; images = 2 ∷ 1 ∷ replicate 1022 0 })
+    (record { variables = 2; clauses = 4; target = 0; permutations = 1; images = 2 ∷ 1 ∷ replicate (maxImages - 2) 0 })
     (3 ∷ 2 ∷ 1 ∷ 0 ∷ []) (0 ∷ 1 ∷ 2 ∷ 3 ∷ [])
-unfolding readReply readFormula readPositive readNegative
-symmetric-text-read = record { reply = refl; formula = refl; positive = refl; negative = refl }
+unfolding readReply readFormula readClauses
+symmetric-text-read = record { reply = refl; formula = refl; clauses = refl }
 
 -- R7, N3: "7 precedes 5 and 6 at a word": a malformed word behind C closed clauses
 abbrev pub late-word : List ℕ
@@ -59,8 +61,8 @@ late-word =
 
 pub late-word-read : Example late-word (5 ∷ []) (6 ∷ []) (refused 7 14)
     emptyFormula (5 ∷ []) (6 ∷ [])
-unfolding readReply readFormula readPositive readNegative
-late-word-read = record { reply = refl; formula = refl; positive = refl; negative = refl }
+unfolding readReply readFormula readClauses
+late-word-read = record { reply = refl; formula = refl; clauses = refl }
 
 -- R8, S20: "Thus an ordinary remark beginning so is refused."
 abbrev pub target-remark : List ℕ
@@ -69,5 +71,5 @@ target-remark =
 
 pub target-remark-read : Example target-remark (5 ∷ []) (6 ∷ []) (refused 8 14)
     emptyFormula (5 ∷ []) (6 ∷ [])
-unfolding readReply readFormula readPositive readNegative
-target-remark-read = record { reply = refl; formula = refl; positive = refl; negative = refl }
+unfolding readReply readFormula readClauses
+target-remark-read = record { reply = refl; formula = refl; clauses = refl }

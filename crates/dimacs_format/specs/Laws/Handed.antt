@@ -1,94 +1,91 @@
--- What an accepted text hands to the builder: the formula and the first C places of both slices pass refusals 10 and
+-- What an accepted text hands to the builder: the formula and the first C places of the slices pass refusals 10 and
 -- 11, so that the builder refuses them by 12 or 13 at most. Assumes nothing.
-use mathlib.Core.List.{List}
+use mathlib.Core.List.{List, map}
 use mathlib.Core.Path.{_≡_, sym, ap, _∙_, subst}
 use Prim.Native.Nat.{ℕ, _-_, _*_, _^_, _≤_, _<_}
-use lib.ListN.{length, take, drop, replicate, length-map}
+use lib.ListN.{length, drop, replicate, length-map}
 use borrow.Author.Tests.{lt-ltb}
 use Rattle.math.specs.Laws.ListLaws.{map-out}
-use Rattle.math.specs.Lists.{_∈_, over}
-use Rattle.math.specs.Laws.PartLaws.{over-front}
+use Rattle.math.specs.Lists.{_∈_}
 use Rattle.points.specs.Points.{Clause}
+use Rattle.point_slices.specs.Slices.{ClauseSlices, clauseRoom, firstClauses}
 use Rattle.permutation_theory.specs.Permutations.{Permutation, IsPermutation, permutationsIn}
-use Rattle.formula.specs.Limits.{maxPermutations}
+use Rattle.formula.specs.Limits.{maxPermutations, maxImages}
 use Rattle.formula.specs.Problem.{Problem, problemOf}
 use Rattle.formula.specs.Laws.RefusalLaws.{fits-complete, passes-permutation}
-use Rattle.formula.specs.Refusals.{Fits, fits, formulaFault, permutationFault}
+use Rattle.formula.specs.Refusals.{Fits, formulaFault, permutationFault}
 use Rattle.formula.specs.Reply.{parsed, no-fault}
 use Rattle.formula.specs.declared.Formula.{Formula}
-use Rattle.dimacs_format.specs.Input.{Input, imagePlaces, formulaOf, positives, negatives}
-use Rattle.dimacs_format.specs.Laws.InputLaws.{Proper, accepts-proper, proper-images, input-problem}
-use Rattle.dimacs_format.specs.Reader.{readReply, readFormula, readPositive, readNegative}
+use Rattle.dimacs_format.specs.Input.{Input, formulaOf}
+use Rattle.dimacs_format.specs.Reader.{storedIn, readReply, readFormula, readClauses}
+use Rattle.dimacs_format.specs.Laws.InputLaws.{Proper, accepts-proper, proper-images, front-positive}
+use Rattle.dimacs_format.specs.Laws.InputLaws.{front-negative, input-problem}
 use Rattle.dimacs_format.specs.Laws.ReaderLaws.{parsed-accepts}
 
--- a formula and two slices as the reader hands them on
-pub record Handed (f : Formula) (positive negative : List ℕ) : Type 0 where
+-- a formula and its clauses as the reader hands them on
+pub record Handed (f : Formula) (clauses : ClauseSlices) : Type 0 where
   -- "V is 1 to 64 and becomes n, C is 0 to 4,096"; "bits n and up are 0": refusal 10 passes
-  pub fits : Fits (f .variables) (f .clauses) (take (f .clauses) positive) (take (f .clauses) negative)
+  pub fits : Fits (f .variables) (f .clauses) clauses
   pub target : f .target < 2 ^ f .variables
-  pub ten : formulaFault f (take (f .clauses) positive) (take (f .clauses) negative) ≡ no-fault
+  pub ten : formulaFault f clauses ≡ no-fault
   -- "at most 16 such lines", "every number just one time": refusal 11 passes
   pub few-permutations : f .permutations ≤ maxPermutations
   pub permutations : (e : Permutation) → e ∈ permutationsIn (f .variables) (f .permutations) (f .images)
       → IsPermutation (f .variables) e
   pub eleven : permutationFault (f .variables) (permutationsIn (f .variables) (f .permutations) (f .images)) ≡ no-fault
   -- "the reader makes unused bytes 0"
-  pub places : length (f .images) ≡ imagePlaces
+  pub places : length (f .images) ≡ maxImages
   pub unused : drop (f .permutations * f .variables) (f .images)
-      ≡ replicate (imagePlaces - f .permutations * f .variables) 0
+      ≡ replicate (maxImages - f .permutations * f .variables) 0
 
 -- what an input that is within its limits hands on
-module _ (d : Input) (h : Proper d) (positive₀ negative₀ : List ℕ) where
-  front-positive : take (length (d .clauses)) (over (positives (d .clauses)) positive₀) ≡ positives (d .clauses)
-  front-positive = over-front (length (d .clauses)) (positives (d .clauses)) positive₀
-      (length-map (d .clauses) (λ (c : Clause). c .positive))
+module _ (d : Input) (h : Proper d) (clauses₀ : ClauseSlices) where
+  handed : ClauseSlices
+  handed = firstClauses (length (d .clauses)) (storedIn clauses₀ (d .clauses))
 
-  front-negative : take (length (d .clauses)) (over (negatives (d .clauses)) negative₀) ≡ negatives (d .clauses)
-  front-negative = over-front (length (d .clauses)) (negatives (d .clauses)) negative₀
-      (length-map (d .clauses) (λ (c : Clause). c .negative))
+  -- where all sets of a sign are those of clauses of the text, they are within n
+  module _ (sign : Clause → ℕ) (below : (c : Clause) → c ∈ d .clauses → sign c < 2 ^ d .variables) (xs : List ℕ)
+      (e : xs ≡ map sign (d .clauses)) where
+    listed-length : length xs ≡ length (d .clauses)
+    listed-length = ap length e ∙ length-map (d .clauses) sign
 
-  input-fits : Fits (d .variables) (length (d .clauses))
-      (take (length (d .clauses)) (over (positives (d .clauses)) positive₀))
-      (take (length (d .clauses)) (over (negatives (d .clauses)) negative₀))
+    listed-below : (x : ℕ) → x ∈ xs → x < 2 ^ d .variables
+    listed-below x m =
+        let w = map-out sign (d .clauses) (subst (λ l. x ∈ l) e m) in
+        subst (λ y. y < 2 ^ d .variables) (sym (w .2)) (below (w .0) (w .1))
+
+  input-fits : Fits (d .variables) (length (d .clauses)) handed
+  unfolding handed
   input-fits =
-      subst (λ l. Fits (d .variables) (length (d .clauses)) l
-      (take (length (d .clauses)) (over (negatives (d .clauses)) negative₀))) (sym front-positive)
-      (subst (Fits (d .variables) (length (d .clauses)) (positives (d .clauses))) (sym front-negative)
-      (record {
+      record {
         some-variable = h .some-variable;
         few-variables = h .few-variables;
         few-clauses = h .few-clauses;
-        positive-length = length-map (d .clauses) (λ (c : Clause). c .positive);
-        negative-length = length-map (d .clauses) (λ (c : Clause). c .negative);
-        positive-below =
-            λ s m.
-            let w = map-out (λ (c : Clause). c .positive) (d .clauses) m in
-            subst (λ x. x < 2 ^ d .variables) (sym (w .2)) (h .clauses (w .0) (w .1) .0);
-        negative-below =
-            λ s m.
-            let w = map-out (λ (c : Clause). c .negative) (d .clauses) m in
-            subst (λ x. x < 2 ^ d .variables) (sym (w .2)) (h .clauses (w .0) (w .1) .1);
-      }))
+        positive-length = listed-length (λ c. c .positive) (λ c m. h .clauses c m .0) (handed .positive)
+            (front-positive clauses₀ (d .clauses));
+        negative-length = listed-length (λ c. c .negative) (λ c m. h .clauses c m .1) (handed .negative)
+            (front-negative clauses₀ (d .clauses));
+        positive-below = listed-below (λ c. c .positive) (λ c m. h .clauses c m .0) (handed .positive)
+            (front-positive clauses₀ (d .clauses));
+        negative-below = listed-below (λ c. c .negative) (λ c m. h .clauses c m .1) (handed .negative)
+            (front-negative clauses₀ (d .clauses));
+      }
 
   -- the permutations of the formula are those of the text
   listed : permutationsIn (d .variables) (length (d .permutations)) (formulaOf d .images) ≡ d .permutations
   unfolding problemOf formulaOf
-  listed = ap (λ (pb : Problem). pb .permutations) (input-problem d h positive₀ negative₀)
+  listed = ap (λ (pb : Problem). pb .permutations) (input-problem d h clauses₀)
 
-  pub input-handed : Handed (formulaOf d) (over (positives (d .clauses)) positive₀)
-      (over (negatives (d .clauses)) negative₀)
-  unfolding formulaOf formulaFault
+  pub input-handed : Handed (formulaOf d) (firstClauses (length (d .clauses)) (storedIn clauses₀ (d .clauses)))
+  unfolding formulaOf formulaFault handed
   input-handed =
       record {
         fits = input-fits;
         target = h .target;
         ten =
             rw (
-              fits-complete (d .variables) (length (d .clauses))
-                  (take (length (d .clauses)) (over (positives (d .clauses)) positive₀))
-                  (take (length (d .clauses)) (over (negatives (d .clauses)) negative₀)) input-fits,
-              lt-ltb (d .target)
-                  (2 ^ d .variables) (h .target),
+              fits-complete (d .variables) (length (d .clauses)) handed input-fits,
+              lt-ltb (d .target) (2 ^ d .variables) (h .target),
             );
         few-permutations = h .few-permutations;
         permutations = λ e m. h .permutations e (subst (λ es. e ∈ es) listed m);
@@ -98,16 +95,16 @@ module _ (d : Input) (h : Proper d) (positive₀ negative₀ : List ℕ) where
         unused = proper-images d h .unused;
       }
 
--- D2.1: what a text that the reader accepts hands to the builder, with the slices as the reader leaves them
-pub accepted-handed : (text positive₀ negative₀ : List ℕ) → readReply text positive₀ negative₀ ≡ parsed
-    → Handed (readFormula text positive₀ negative₀) (readPositive text positive₀ negative₀)
-    (readNegative text positive₀ negative₀)
-accepted-handed text positive₀ negative₀ e =
-    let w = parsed-accepts text positive₀ negative₀ e in
+-- D2.1: what a text that the reader accepts hands to the builder, with the first C places of the slices as the reader
+-- leaves them
+pub accepted-handed : (text : List ℕ) (clauses₀ : ClauseSlices) → readReply text clauses₀ ≡ parsed
+    → Handed (readFormula text clauses₀)
+    (firstClauses (readFormula text clauses₀ .clauses) (readClauses text clauses₀))
+unfolding formulaOf
+accepted-handed text clauses₀ e =
+    let w = parsed-accepts text clauses₀ e in
     let d = w .0 in
     let y = w .2 in
-    subst (λ f. Handed f (readPositive text positive₀ negative₀) (readNegative text positive₀ negative₀))
-    (sym (y .formula))
-    (subst (λ l. Handed (formulaOf d) l (readNegative text positive₀ negative₀)) (sym (y .positive))
-    (subst (Handed (formulaOf d) (over (positives (d .clauses)) positive₀)) (sym (y .negative))
-    (input-handed d (accepts-proper text (length positive₀) (length negative₀) d (w .1)) positive₀ negative₀)))
+    subst (λ f. Handed f (firstClauses (f .clauses) (readClauses text clauses₀))) (sym (y .formula))
+    (subst (λ s. Handed (formulaOf d) (firstClauses (length (d .clauses)) s)) (sym (y .clauses))
+    (input-handed d (accepts-proper text (clauseRoom clauses₀) d (w .1)) clauses₀))

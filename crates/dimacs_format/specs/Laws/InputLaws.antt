@@ -1,4 +1,4 @@
--- What an accepted text is sure to hold, and that the formula and the two slices read from it say just that. Assumes
+-- What an accepted text is sure to hold, and that the formula and the slices read from it say just that. Assumes
 -- nothing.
 use mathlib.Core.List.{List, [], _∷_, _++_, append-assoc, List·Memᴰ·tail, List·Memᴰ·not-nil, List·Memᴰ·cases-cons}
 use mathlib.Core.Logic.{⊎-elim}
@@ -10,17 +10,18 @@ use lib.ListN.{length, take, drop, replicate, length-append, length-map, length-
 use lib.Pow.{pow-pos}
 use lib.Seq.{take-at, drop-at}
 use Rattle.math.specs.Laws.ListLaws.{here, map-out}
-use Rattle.math.specs.Lists.{over, _∈_}
+use Rattle.math.specs.Lists.{_∈_}
 use Rattle.math.specs.Laws.PartLaws.{over-front}
 use Rattle.math.specs.Laws.SplitLaws.{length-flatMap}
 use Rattle.points.specs.Points.{Clause, numbered}
-use Rattle.point_slices.specs.Slices.{clausesOf}
+use Rattle.point_slices.specs.Slices.{ClauseSlices, beside, firstClauses}
 use Rattle.permutation_theory.specs.Permutations.{Permutation, IsPermutation, permutationsIn}
-use Rattle.formula.specs.Limits.{maxVariables, maxClauses, maxPermutations}
+use Rattle.formula.specs.Limits.{maxVariables, maxClauses, maxPermutations, maxImages}
 use Rattle.formula.specs.Problem.{problemOf}
 use Rattle.dimacs_format.specs.Text.{Line}
-use Rattle.dimacs_format.specs.Input.{Input, clauseOf, imagePlaces, imagesOf, padded, formulaOf, positives}
+use Rattle.dimacs_format.specs.Input.{Input, clauseOf, imagesOf, padded, formulaOf, positives}
 use Rattle.dimacs_format.specs.Input.{negatives}
+use Rattle.dimacs_format.specs.Reader.{storedIn}
 use Rattle.dimacs_format.specs.Accepted.{Targeted, Permuted, Accepts, no-line, one-line, none-left, one-more}
 use Rattle.dimacs_format.specs.Laws.ClauseLaws.{clauseOf-below}
 
@@ -46,8 +47,8 @@ permuted-each n none-left e m = absurd (List·Memᴰ·not-nil m)
 permuted-each n (one-more p ps) e m = ⊎-elim (λ h. subst (IsPermutation n) (sym h) (p .permutation))
     (λ k. permuted-each n ps e k) (List·Memᴰ·cases-cons m)
 
-pub accepts-proper : (text : List ℕ) (p q : ℕ) (d : Input) → Accepts text p q d → Proper d
-accepts-proper text p q d a =
+pub accepts-proper : (text : List ℕ) (room : ℕ) (d : Input) → Accepts text room d → Proper d
+accepts-proper text room d a =
     record {
       some-variable = a .some-variable;
       few-variables = a .few-variables;
@@ -95,10 +96,10 @@ images-back n (e ∷ es) rest h =
 
 -- S21: "the reader makes unused bytes 0": 1,024 places, the images in front, and then zeros
 pub record Images (d : Input) : Type 0 where
-  pub places : length (formulaOf d .images) ≡ imagePlaces
+  pub places : length (formulaOf d .images) ≡ maxImages
   pub front : take (length (d .permutations) * d .variables) (formulaOf d .images) ≡ imagesOf (d .permutations)
   pub unused : drop (length (d .permutations) * d .variables) (formulaOf d .images)
-      ≡ replicate (imagePlaces - length (d .permutations) * d .variables) 0
+      ≡ replicate (maxImages - length (d .permutations) * d .variables) 0
 
 pub proper-images : (d : Input) → Proper d → Images d
 unfolding formulaOf
@@ -107,25 +108,34 @@ proper-images d h =
     let size : length bytes ≡ length (d .permutations) * d .variables = images-length (d .variables) (d .permutations)
     (h .permutations) in
     let le : length (d .permutations) * d .variables
-    ≤ imagePlaces = mul-le-mul (h .few-permutations) (h .few-variables) in
-    let rest : List ℕ = replicate (imagePlaces - length bytes) 0 in
+    ≤ maxImages = mul-le-mul (h .few-permutations) (h .few-variables) in
+    let rest : List ℕ = replicate (maxImages - length bytes) 0 in
     record {
-      places = padded-length imagePlaces bytes (subst (λ k. k ≤ imagePlaces) (sym size) le);
+      places = padded-length maxImages bytes (subst (λ k. k ≤ maxImages) (sym size) le);
       front = take-at bytes rest (length (d .permutations) * d .variables) size;
       unused = drop-at bytes rest (length (d .permutations) * d .variables) size
-          ∙ ap (λ k. replicate (imagePlaces - k) 0) size;
+          ∙ ap (λ k. replicate (maxImages - k) 0) size;
     }
 
 -- ---- the formula and the first C places of the slices are the problem that the text says
 
-pub clauses-back : (cs : List Clause) → clausesOf (positives cs) (negatives cs) ≡ cs
-unfolding clausesOf
+pub clauses-back : (cs : List Clause) → beside (positives cs) (negatives cs) ≡ cs
+unfolding beside
 clauses-back [] = refl
 clauses-back (c ∷ cs) = ap (λ l. c ∷ l) (clauses-back cs)
 
-pub input-problem : (d : Input) → Proper d → (positive₀ negative₀ : List ℕ)
-    → problemOf (formulaOf d) (take (length (d .clauses)) (over (positives (d .clauses)) positive₀))
-    (take (length (d .clauses)) (over (negatives (d .clauses)) negative₀))
+-- what stands in the first places of the slices
+module _ (clauses₀ : ClauseSlices) (cs : List Clause) where
+  pub front-positive : firstClauses (length cs) (storedIn clauses₀ cs) .positive ≡ positives cs
+  front-positive = over-front (length cs) (positives cs) (clauses₀ .positive)
+      (length-map cs (λ (c : Clause). c .positive))
+
+  pub front-negative : firstClauses (length cs) (storedIn clauses₀ cs) .negative ≡ negatives cs
+  front-negative = over-front (length cs) (negatives cs) (clauses₀ .negative)
+      (length-map cs (λ (c : Clause). c .negative))
+
+pub input-problem : (d : Input) → Proper d → (clauses₀ : ClauseSlices)
+    → problemOf (formulaOf d) (firstClauses (length (d .clauses)) (storedIn clauses₀ (d .clauses)))
     ≡ record {
       variables = d .variables;
       total = length (d .clauses);
@@ -134,18 +144,15 @@ pub input-problem : (d : Input) → Proper d → (positive₀ negative₀ : List
       clauses = numbered (d .clauses);
     }
 unfolding problemOf formulaOf
-input-problem d h positive₀ negative₀ =
-    let cs : List Clause = d .clauses in
-    let c =
-    ap₂ clausesOf (over-front (length cs) (positives cs) positive₀ (length-map cs (λ (c : Clause). c .positive)))
-    (over-front (length cs) (negatives cs) negative₀ (length-map cs (λ (c : Clause). c .negative)))
-    ∙ clauses-back cs in
+input-problem d h clauses₀ =
     ap₂ (λ es ks. record {
       variables = d .variables;
-      total = length cs;
+      total = length (d .clauses);
       target = d .target;
       permutations = es;
       clauses = numbered ks;
     })
-    (images-back (d .variables) (d .permutations) (replicate (imagePlaces - length (imagesOf (d .permutations))) 0)
-    (h .permutations)) c
+    (images-back (d .variables) (d .permutations) (replicate (maxImages - length (imagesOf (d .permutations))) 0)
+    (h .permutations))
+    (ap₂ beside (front-positive clauses₀ (d .clauses)) (front-negative clauses₀ (d .clauses))
+    ∙ clauses-back (d .clauses))

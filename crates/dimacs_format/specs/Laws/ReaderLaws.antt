@@ -11,23 +11,25 @@ use lib.Dec.{eqb, leb}
 use lib.ListN.{length, drop}
 use borrow.Author.Tests.{eqb-true, eq-eqb, leb-true, le-leb, lt-leb}
 use Rattle.math.specs.Laws.ListLaws.{here, and-split, and-join, or-split, or-left, or-right, all-at, all-of}
-use Rattle.math.specs.Lists.{over, _∈_, select}
+use Rattle.math.specs.Lists.{_∈_, select}
+use Rattle.point_slices.specs.Slices.{ClauseSlices, clauseRoom}
 use Rattle.formula.specs.Limits.{maxVariables, maxClauses}
 use Rattle.formula.specs.Problem.{emptyFormula}
 use Rattle.formula.specs.Reply.{parsed, refused}
 use Rattle.dimacs_format.specs.Text.{maxText, isBlank, Line, lines, wordsOf, spelled, sameBytes, begins}
 use Rattle.dimacs_format.specs.Text.{isComment, allBlank, problemWord, formatWord, isTargetLine}
 use Rattle.dimacs_format.specs.Text.{isPermutationLine, numberIn, tokenIn, malformed}
-use Rattle.dimacs_format.specs.Input.{Input, emptyClause, formulaOf, positives, negatives}
+use Rattle.dimacs_format.specs.Input.{Input, emptyClause, formulaOf}
 use Rattle.dimacs_format.specs.Reader.{Step, andThen, walk, Sizes, sizesIn, problemWords, problemIn, withinLimits}
-use Rattle.dimacs_format.specs.Reader.{Progress, begin, lineStep, isSkipped, fromProblem, inputOf, atEnd}
-use Rattle.dimacs_format.specs.Reader.{withRoom, withProblem, withLines, reading, replyTo, formulaFrom, sliceFrom}
-use Rattle.dimacs_format.specs.Reader.{readReply, readFormula, readPositive, readNegative, goes, refuses}
+use Rattle.dimacs_format.specs.Reader.{Kind, Progress, begin, partOf, partStep, linesSay, isSkipped, fromProblem}
+use Rattle.dimacs_format.specs.Reader.{inputOf, atEnd, textSays, withRoom, withProblem, withLines, reading}
+use Rattle.dimacs_format.specs.Reader.{replyTo, formulaFrom, storedIn, slicesFrom, readReply, readFormula}
+use Rattle.dimacs_format.specs.Reader.{readClauses, goes, refuses, clause-line, target-line, permutation-line}
 use Rattle.dimacs_format.specs.Accepted.{ProblemLine, Permuted, wordsAmong, Skipped, Accepts}
 use Rattle.dimacs_format.specs.Laws.TextLaws.{begins-split, same-bytes}
 use Rattle.dimacs_format.specs.Laws.StepLaws.{same-some, not-some, some-cond, goes-same, never, both-go}
 use Rattle.dimacs_format.specs.Laws.ClauseLaws.{walk-grouped, grouped-walk}
-use Rattle.dimacs_format.specs.Laws.LineLaws.{walk-parts, parts-walk}
+use Rattle.dimacs_format.specs.Laws.LineLaws.{isKind, walk-parts, parts-walk, clause-words}
 use Rattle.dimacs_format.specs.Laws.CommentLaws.{walk-targeted, targeted-walk, walk-permuted, permuted-walk}
 
 -- ---- the problem line
@@ -128,21 +130,19 @@ second-problem = refl
 
 -- ---- what the reader takes is accepted
 
-module _ (text : List ℕ) (p q : ℕ) where
+module _ (text : List ℕ) (room : ℕ) where
   -- behind a problem line with sizes z: the walk came to s, and C clauses are closed
   accepts-with : (l : Line) (after : List Line) (z : Sizes) (s : Progress) → length text ≤ maxText
       → fromProblem (lines 0 text) ≡ l ∷ after
-      → problemIn l ≡ some z → withinLimits z ≡ true → leb (z .total) p && leb (z .total) q ≡ true
-      → walk (lineStep z) begin after ≡ goes s
-      → length (s .clauses .closed) ≡ z .total → Accepts text p q (inputOf (z .variables) s)
+      → problemIn l ≡ some z → withinLimits z ≡ true → leb (z .total) room ≡ true → linesSay z after ≡ goes s
+      → length (s .clauses .closed) ≡ z .total → Accepts text room (inputOf (z .variables) s)
   unfolding withinLimits
-  accepts-with l after z s size from is limits room walked full =
+  accepts-with l after z s size from is limits enough walked full =
       let f = from-split (lines 0 text) l after from in
       let a = walk-parts z after begin s walked in
       let t = and-split (leb 1 (z .variables) && leb (z .variables) maxVariables) (leb (z .total) maxClauses) limits in
       let v = and-split (leb 1 (z .variables)) (leb (z .variables) maxVariables) (t .0) in
-      let r = and-split (leb (z .total) p) (leb (z .total) q) room in
-      let e = walk-permuted (z .variables) (select isPermutationLine after) [] (omega arith) (a .permutations) in
+      let e = walk-permuted (z .variables) (select isPermutationLine after) [] (omega arith) (a permutation-line) in
       record {
         size = size;
         before = f .0;
@@ -154,49 +154,49 @@ module _ (text : List ℕ) (p q : ℕ) where
         some-variable = leb-true 1 (z .variables) (v .0);
         few-variables = leb-true (z .variables) maxVariables (v .1);
         few-clauses = subst (λ k. k ≤ maxClauses) (sym full) (leb-true (z .total) maxClauses (t .1));
-        room-positive = subst (λ k. k ≤ p) (sym full) (leb-true (z .total) p (r .0));
-        room-negative = subst (λ k. k ≤ q) (sym full) (leb-true (z .total) q (r .1));
-        grouped = walk-grouped z (wordsAmong after) (s .clauses) (a .clauses) full;
-        targeted = walk-targeted (z .variables) (select isTargetLine after) (a .target);
+        enough-room = subst (λ k. k ≤ room) (sym full) (leb-true (z .total) room enough);
+        grouped = walk-grouped z (wordsAmong after) (s .clauses)
+            (sym (clause-words z (begin .clauses) after) ∙ a clause-line) full;
+        targeted = walk-targeted (z .variables) (select isTargetLine after) (a target-line);
         permuted = subst (Permuted (z .variables) (select isPermutationLine after)) (sym (e .2)) (e .1);
         few-permutations = e .3;
       }
 
   -- D2.1: a text that the reader takes is an accepted one, and says what the reader found
-  pub reading-accepts : (d : Input) → reading text p q ≡ goes d → Accepts text p q d
+  pub reading-accepts : (d : Input) → reading text room ≡ goes d → Accepts text room d
   unfolding reading
   reading-accepts d e = whole (leb (length text) maxText) refl (fromProblem (lines 0 text)) refl e
     where
       ends : (l : Line) (after : List Line) (z : Sizes) (s : Progress) → length text ≤ maxText
           → fromProblem (lines 0 text) ≡ l ∷ after → problemIn l ≡ some z
-          → withinLimits z ≡ true → leb (z .total) p && leb (z .total) q ≡ true → walk (lineStep z) begin after ≡ goes s
+          → withinLimits z ≡ true → leb (z .total) room ≡ true → linesSay z after ≡ goes s
           → (t : Bool) → eqb (length (s .clauses .closed)) (z .total) ≡ t
-          → cond t (goes (inputOf (z .variables) s)) (refuses 7 (length text)) ≡ goes d → Accepts text p q d
-      ends l after z s size from is limits room walked true f e =
-          subst (Accepts text p q) (goes-same e) (accepts-with l after z s size from is limits room walked
+          → cond t (goes (inputOf (z .variables) s)) (refuses 7 (length text)) ≡ goes d → Accepts text room d
+      ends l after z s size from is limits enough walked true f e =
+          subst (Accepts text room) (goes-same e) (accepts-with l after z s size from is limits enough walked
           (eqb-true (length (s .clauses .closed)) (z .total) f))
-      ends l after z s size from is limits room walked false f e = absurd (never e)
+      ends l after z s size from is limits enough walked false f e = absurd (never e)
 
       sized : (l : Line) (after : List Line) (z : Sizes) → length text ≤ maxText
           → fromProblem (lines 0 text) ≡ l ∷ after → problemIn l ≡ some z
-          → (t : Bool) → withinLimits z ≡ t → (u : Bool) → leb (z .total) p && leb (z .total) q ≡ u
-          → cond t (cond u (andThen (walk (lineStep z) begin after) (atEnd (length text) z)) (refuses 4 (l .start)))
-          (refuses 3 (l .start)) ≡ goes d → Accepts text p q d
+          → (t : Bool) → withinLimits z ≡ t → (u : Bool) → leb (z .total) room ≡ u
+          → cond t (cond u (textSays (length text) z after) (refuses 4 (l .start))) (refuses 3 (l .start)) ≡ goes d
+          → Accepts text room d
       sized l after z size from is false f u g e = absurd (never e)
       sized l after z size from is true f false g e = absurd (never e)
       sized l after z size from is true f true g e =
-          let v = both-go (walk (lineStep z) begin after) (atEnd (length text) z) e in
+          let v = both-go (linesSay z after) (atEnd (length text) z) e in
           ends l after z (v .0) size from is f g (v .1) (eqb (length (v .0 .clauses .closed)) (z .total)) refl (v .2)
 
       headed : (l : Line) (after : List Line) → length text ≤ maxText → fromProblem (lines 0 text) ≡ l ∷ after
           → (o : Option Sizes) → problemIn l ≡ o
-          → withProblem (length text) p q l after o ≡ goes d → Accepts text p q d
+          → withProblem (length text) room l after o ≡ goes d → Accepts text room d
       headed l after size from none is e = absurd (never e)
-      headed l after size from (some z) is e = sized l after z size from is (withinLimits z) refl
-          (leb (z .total) p && leb (z .total) q) refl e
+      headed l after size from (some z) is e = sized l after z size from is (withinLimits z) refl (leb (z .total) room)
+          refl e
 
       whole : (t : Bool) → leb (length text) maxText ≡ t → (ls : List Line) → fromProblem (lines 0 text) ≡ ls
-          → cond t (withLines (length text) p q ls) (refuses 1 maxText) ≡ goes d → Accepts text p q d
+          → cond t (withLines (length text) room ls) (refuses 1 maxText) ≡ goes d → Accepts text room d
       whole false f ls from e = absurd (never e)
       whole true f [] from e = absurd (never e)
       whole true f (l ∷ after) from e = headed l after (leb-true (length text) maxText f) from (problemIn l) refl e
@@ -204,7 +204,7 @@ module _ (text : List ℕ) (p q : ℕ) where
   -- ---- what is accepted the reader takes
 
   -- D2.1: and an accepted text is taken, with what it says
-  pub accepts-reading : (d : Input) → Accepts text p q d → reading text p q ≡ goes d
+  pub accepts-reading : (d : Input) → Accepts text room d → reading text room ≡ goes d
   unfolding reading
   accepts-reading d a =
       let z : Sizes = record { variables = d .variables; total = length (d .clauses) } in
@@ -222,26 +222,19 @@ module _ (text : List ℕ) (p q : ℕ) where
       (and-join (leb 1 (d .variables)) (leb (d .variables) maxVariables) (le-leb 1 (d .variables) (a .some-variable))
       (le-leb (d .variables) maxVariables (a .few-variables)))
       (le-leb (length (d .clauses)) maxClauses (a .few-clauses)) in
-      let room : leb (length (d .clauses)) p && leb (length (d .clauses)) q ≡ true =
-      and-join (leb (length (d .clauses)) p) (leb (length (d .clauses)) q)
-      (le-leb (length (d .clauses)) p (a .room-positive))
-      (le-leb (length (d .clauses)) q (a .room-negative)) in
-      let walked : walk (lineStep z) begin (a .after) ≡ goes s =
-      parts-walk z (a .after) begin s
-      (record {
-        clauses = grouped-walk z (wordsAmong (a .after)) (d .clauses) (a .grouped) refl;
-        target = t .1;
-        permutations = permuted-walk (d .variables) (a .permuted) [] (omega (arith, a .few-permutations));
-      }) in
-      ap (λ b. cond b (withLines (length text) p q (fromProblem (lines 0 text))) (refuses 1 maxText))
+      let parts : (k : Kind) → walk (partStep z k) (partOf k begin) (select (isKind k) (a .after)) ≡ goes (partOf k s) =
+      each z s (clause-words z (begin .clauses) (a .after)
+      ∙ grouped-walk z (wordsAmong (a .after)) (d .clauses) (a .grouped) refl) (t .1)
+      (permuted-walk (d .variables) (a .permuted) [] (omega (arith, a .few-permutations))) in
+      ap (λ b. cond b (withLines (length text) room (fromProblem (lines 0 text))) (refuses 1 maxText))
       (le-leb (length text) maxText (a .size))
-      ∙ ap (withLines (length text) p q) from
-      ∙ ap (withProblem (length text) p q (a .problem) (a .after))
+      ∙ ap (withLines (length text) room) from
+      ∙ ap (withProblem (length text) room (a .problem) (a .after))
       (problem-in (a .problem) (d .variables) (length (d .clauses)) (a .sizes))
-      ∙ ap (λ b. cond b (withRoom (length text) p q (a .problem) (a .after) z) (refuses 3 (a .problem .start))) limits
-      ∙ ap (λ b. cond b (andThen (walk (lineStep z) begin (a .after)) (atEnd (length text) z))
-      (refuses 4 (a .problem .start))) room
-      ∙ ap (λ m. andThen m (atEnd (length text) z)) walked
+      ∙ ap (λ b. cond b (withRoom (length text) room (a .problem) (a .after) z) (refuses 3 (a .problem .start))) limits
+      ∙ ap (λ b. cond b (textSays (length text) z (a .after)) (refuses 4 (a .problem .start)))
+      (le-leb (length (d .clauses)) room (a .enough-room))
+      ∙ ap (λ m. andThen m (atEnd (length text) z)) (parts-walk z (a .after) begin s parts)
       ∙ ap (λ b. cond b (goes (inputOf (d .variables) s)) (refuses 7 (length text)))
       (eq-eqb (length (d .clauses)) (length (d .clauses)) refl)
       ∙ ap (λ x. goes (record {
@@ -250,64 +243,63 @@ module _ (text : List ℕ) (p q : ℕ) where
         target = x;
         permutations = d .permutations;
       })) (t .2)
+    where
+      each : (z : Sizes) (s : Progress)
+          → walk (partStep z clause-line) (begin .clauses) (select (isKind clause-line) (a .after)) ≡ goes (s .clauses)
+          → walk (partStep z target-line) none (select isTargetLine (a .after)) ≡ goes (s .target)
+          → walk (partStep z permutation-line) [] (select isPermutationLine (a .after)) ≡ goes (s .permutations)
+          → (k : Kind) → walk (partStep z k) (partOf k begin) (select (isKind k) (a .after)) ≡ goes (partOf k s)
+      each z s c t p clause-line = c
+      each z s c t p target-line = t
+      each z s c t p permutation-line = p
 
 -- R1: "text too long | 1 | 1,048,576"
-pub too-long : (text : List ℕ) (p q : ℕ) → maxText < length text → reading text p q ≡ refuses 1 maxText
+pub too-long : (text : List ℕ) (room : ℕ) → maxText < length text → reading text room ≡ refuses 1 maxText
 unfolding reading
-too-long text p q lt = ap (λ b. cond b (withLines (length text) p q (fromProblem (lines 0 text))) (refuses 1 maxText))
+too-long text room lt = ap (λ b. cond b (withLines (length text) room (fromProblem (lines 0 text))) (refuses 1 maxText))
     (lt-leb (length text) maxText lt)
 
 -- a text says one thing
-pub accepts-once : (text : List ℕ) (p q : ℕ) (d e : Input) → Accepts text p q d → Accepts text p q e → d ≡ e
-accepts-once text p q d e a b = goes-same (sym (accepts-reading text p q d a) ∙ accepts-reading text p q e b)
+pub accepts-once : (text : List ℕ) (room : ℕ) (d e : Input) → Accepts text room d → Accepts text room e → d ≡ e
+accepts-once text room d e a b = goes-same (sym (accepts-reading text room d a) ∙ accepts-reading text room e b)
 
 -- ---- what the reader yields
 
--- the reader's answer and the two slices at exit are those of d
-pub record Yields (text positive₀ negative₀ : List ℕ) (d : Input) : Type 0 where
-  pub reply : readReply text positive₀ negative₀ ≡ parsed
-  pub formula : readFormula text positive₀ negative₀ ≡ formulaOf d
+-- the reader's answer and the slices at exit are those of d
+pub record Yields (text : List ℕ) (clauses₀ : ClauseSlices) (d : Input) : Type 0 where
+  pub reply : readReply text clauses₀ ≡ parsed
+  pub formula : readFormula text clauses₀ ≡ formulaOf d
   -- S23: "Rules go to two lent slices, places past C unchanged."
-  pub positive : readPositive text positive₀ negative₀ ≡ over (positives (d .clauses)) positive₀
-  pub negative : readNegative text positive₀ negative₀ ≡ over (negatives (d .clauses)) negative₀
+  pub clauses : readClauses text clauses₀ ≡ storedIn clauses₀ (d .clauses)
 
-module _ (text positive₀ negative₀ : List ℕ) where
-  goes-yields : (d : Input) → reading text (length positive₀) (length negative₀) ≡ goes d
-      → Yields text positive₀ negative₀ d
-  unfolding readReply readFormula readPositive readNegative
+module _ (text : List ℕ) (clauses₀ : ClauseSlices) where
+  goes-yields : (d : Input) → reading text (clauseRoom clauses₀) ≡ goes d → Yields text clauses₀ d
+  unfolding readReply readFormula readClauses
   goes-yields d e =
-      record {
-        reply = ap replyTo e;
-        formula = ap formulaFrom e;
-        positive = ap (λ r. sliceFrom positives r positive₀) e;
-        negative = ap (λ r. sliceFrom negatives r negative₀) e;
-      }
+      record { reply = ap replyTo e; formula = ap formulaFrom e; clauses = ap (λ r. slicesFrom r clauses₀) e }
 
   -- D2.1: an accepted text is read, and yields what it says
-  pub accepts-yields : (d : Input) → Accepts text (length positive₀) (length negative₀) d
-      → Yields text positive₀ negative₀ d
-  accepts-yields d a = goes-yields d (accepts-reading text (length positive₀) (length negative₀) d a)
+  pub accepts-yields : (d : Input) → Accepts text (clauseRoom clauses₀) d → Yields text clauses₀ d
+  accepts-yields d a = goes-yields d (accepts-reading text (clauseRoom clauses₀) d a)
 
   -- D2.1: a text that is read is an accepted one
-  pub parsed-accepts : readReply text positive₀ negative₀ ≡ parsed
-      → (d : Input) × Accepts text (length positive₀) (length negative₀) d × Yields text positive₀ negative₀ d
+  pub parsed-accepts : readReply text clauses₀ ≡ parsed
+      → (d : Input) × Accepts text (clauseRoom clauses₀) d × Yields text clauses₀ d
   unfolding readReply
-  parsed-accepts e = by (reading text (length positive₀) (length negative₀)) refl e
+  parsed-accepts e = by (reading text (clauseRoom clauses₀)) refl e
     where
-      by : (r : Step Input) → reading text (length positive₀) (length negative₀) ≡ r → replyTo r ≡ parsed
-          → (d : Input) × Accepts text (length positive₀) (length negative₀) d × Yields text positive₀ negative₀ d
-      by (goes d) f e = (d, reading-accepts text (length positive₀) (length negative₀) d f, goes-yields d f)
+      by : (r : Step Input) → reading text (clauseRoom clauses₀) ≡ r → replyTo r ≡ parsed
+          → (d : Input) × Accepts text (clauseRoom clauses₀) d × Yields text clauses₀ d
+      by (goes d) f e = (d, reading-accepts text (clauseRoom clauses₀) d f, goes-yields d f)
       by (refuses code place) f e = absurd (let z : _≡_ {A = ℕ} 0 1 = cc in let n : ⊥ = omega arith in n)
 
   -- N1: "Every row leaves all lent slices unchanged"; N2: "a refusal carries one that is 0 throughout"
-  pub refused-leaves : (code place : ℕ) → readReply text positive₀ negative₀ ≡ refused code place
-      → (readFormula text positive₀ negative₀ ≡ emptyFormula) × (readPositive text positive₀ negative₀ ≡ positive₀)
-      × (readNegative text positive₀ negative₀ ≡ negative₀)
-  unfolding readReply readFormula readPositive readNegative
-  refused-leaves code place e = by (reading text (length positive₀) (length negative₀)) e
+  pub refused-leaves : (code place : ℕ) → readReply text clauses₀ ≡ refused code place
+      → (readFormula text clauses₀ ≡ emptyFormula) × (readClauses text clauses₀ ≡ clauses₀)
+  unfolding readReply readFormula readClauses
+  refused-leaves code place e = by (reading text (clauseRoom clauses₀)) e
     where
       by : (r : Step Input) → replyTo r ≡ refused code place
-          → (formulaFrom r ≡ emptyFormula) × (sliceFrom positives r positive₀ ≡ positive₀)
-          × (sliceFrom negatives r negative₀ ≡ negative₀)
+          → (formulaFrom r ≡ emptyFormula) × (slicesFrom r clauses₀ ≡ clauses₀)
       by (goes d) e = absurd (let z : _≡_ {A = ℕ} 0 1 = cc in let n : ⊥ = omega arith in n)
-      by (refuses c p) e = (refl, refl, refl)
+      by (refuses c p) e = (refl, refl)

@@ -1,6 +1,6 @@
 -- Laws of steps that may refuse, and of options: what a walk that reached its end went through. Assumes nothing.
 use mathlib.Core.Bool.{Bool, true, false, cond}
-use mathlib.Core.List.{List, [], _∷_, _++_}
+use mathlib.Core.List.{List, [], _∷_, _++_, flatMap}
 use mathlib.Core.Option.{Option, some, none}
 use mathlib.Core.Path.{_≡_, refl, sym, ap, _∙_}
 use Prim.Native.Nat.{ℕ}
@@ -52,11 +52,13 @@ module _ {S X : Type 0} (f : S → X → Step S) where
   unfolding walk
   walk-step s q x xs e = rw e
 
-  pub walk-steps : (s q : S) (xs ys : List X) → walk f s xs ≡ goes q → walk f s (xs ++ ys) ≡ walk f q ys
-  unfolding andThen
-  walk-steps s q xs ys e = walk-append s xs ys ∙ ap (λ m. andThen m (λ r. walk f r ys)) e
-
-  -- a walk to the end goes to the end of its first half, and from there
-  pub walk-halves : (s : S) (xs ys : List X) {q : S} → walk f s (xs ++ ys) ≡ goes q
-      → (r : S) × (walk f s xs ≡ goes r) × (walk f r ys ≡ goes q)
-  walk-halves s xs ys e = both-go (walk f s xs) (λ r. walk f r ys) (sym (walk-append s xs ys) ∙ e)
+-- a walk that walks along a list for each item is a walk along all these lists
+module _ {S X Y : Type 0} (f : S → Y → Step S) (ys : X → List Y) where
+  pub walk-flat : (s : S) (xs : List X) → walk (λ t x. walk f t (ys x)) s xs ≡ walk f s (flatMap ys xs)
+  unfolding walk flatMap
+  walk-flat s [] = refl
+  walk-flat s (x ∷ xs) = by (walk f s (ys x)) (λ q. walk-flat q xs) ∙ sym (walk-append f s (ys x) (flatMap ys xs))
+    where
+      by : (m : Step S) → ((q : S) → walk (λ t x. walk f t (ys x)) q xs ≡ walk f q (flatMap ys xs))
+          → andThen m (λ q. walk (λ t x. walk f t (ys x)) q xs) ≡ andThen m (λ q. walk f q (flatMap ys xs))
+      by m ih = ap (andThen m) (λ i q. ih q i)

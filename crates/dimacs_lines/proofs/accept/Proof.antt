@@ -1,7 +1,7 @@
 -- `dimacs_lines::accept` meets its contract: too few clauses are refused, else the clauses go to the slices. Assumes
 -- nothing.
 use borrow.Author.Needs.{needs}
-use Rattle.dimacs_lines.specs.Laws.ParsedLaws.{end-refused, answers-refused, answers-accepted}
+use Rattle.dimacs_lines.specs.Laws.ParsedLaws.{end-refused, answers-accepted}
 use Rattle.dimacs_lines.proofs.accept.Statement.{statement}
 use Rattle.dimacs_lines.proofs.accept.Tie as tie
 
@@ -9,10 +9,10 @@ refused-requires : tie.Need-refused-requires
 refused-requires c κs = search needs
 
 returns : tie.Need-returns
-returns c = answers-refused _ 7 (c .before .before .before .before .before .before .before .before .args .size) _ _ _ (end-refused _ _ (c .before .before .before .before .before .before .before .before .args .state) (c .before .before .before .before .before .before .before .before .args .p .now) (c .before .before .before .before .before .before .before .before .args .q .now) (c .before .before .before .before .before .before .before .before .args .images) (c .before .before .before .before .before .before .before .before .pre .0) (c .before .if1 .taken)) (c .refused .ensures)
+returns c = end-refused (c .before .before .before .before .before .before .before .before .before .args .size) (c .before .before .before .before .before .before .before .before .before .pre .0) (c .before .if1 .taken) (c .refused .ensures)
 
-wanted-requires : tie.Need-wanted-requires
-wanted-requires c κs = search needs
+wanted-or-0-requires : tie.Need-wanted-or-0-requires
+wanted-or-0-requires c κs = search needs
 
 copy-requires : tie.Need-copy-requires
 copy-requires c κs = search needs
@@ -22,9 +22,7 @@ copy-requires-2 c κs = search needs
 
 returns-2 : tie.Need-returns-2
 returns-2 c =
-    let s = c .before .before .before .before .before .before .before .before .before .before .before .before .before .before .before .before in
-    answers-accepted (s .args .size) _ (s .args .state) (s .args .p .now) (s .args .q .now) (s .args .images) (s .pre .0) (c .before .before .before .before .before .before .before .before .before .if1 .left) _ _ _ _ _
-    (c .before .before .before .before .before .before .before .before .wanted .ensures) (c .before .before .before .before .before .before .copy .ensures) (c .before .before .copy2 .ensures)
+    answers-accepted (c .before .before .before .before .before .before .before .before .before .before .before .before .before .before .before .before .before .before .before .args .size) (c .before .before .before .before .before .before .before .before .before .before .before .before .before .before .before .before .before .before .before .pre .0) (c .before .before .before .before .before .before .before .before .before .before .before .if1 .left) (c .before .before .before .before .before .before .before .before .before .wanted-or-0 .ensures) (c .before .before .before .before .before .before .copy .ensures .points) (c .before .before .copy2 .ensures .points) (c .before .before .before .before .before .before .copy .ensures .rest) (c .before .before .copy2 .ensures .rest)
 
 pub accept-spec : {M : Type 1} → statement M
 accept-spec =
@@ -32,7 +30,8 @@ accept-spec =
     (tie.spec
     refused-requires
     returns
-    wanted-requires
+    wanted-or-0-requires
+    (λ c. search needs)
     copy-requires
     copy-requires-2
     (λ c. search needs)

@@ -12,17 +12,15 @@ slice-aggregate-read-lines : tie.Need-slice-aggregate-read-lines
 slice-aggregate-read-lines c = refl
 
 read-lines-requires : tie.Need-read-lines-requires
-read-lines-requires c κs =
-    let s = c .before .before .before .before .before .before .before .before in
-    (slices-stand _ _ _ _ (s .pre .0) (search needs) refl, s .pre .3, s .pre .4)
+read-lines-requires c κs = (slices-stand (c .before .before .before .before .before .before .before .before .pre .0) (search needs) refl, c .before .before .before .before .before .before .before .before .pre .3, c .before .before .before .before .before .before .before .before .pre .4)
 
 finish-requires : tie.Need-finish-requires
 finish-requires c κs = search needs
 
 returns : tie.Need-returns
 returns c =
-    let s = c .before .before .before .before .before .before .before .before .before .before .before .before .before .before .before .before .before .before .before .before .before .before .before in
-    answers-same {positive₀ = s .args .positive .now} {negative₀ = s .args .negative .now} (ap (λ m. andThen m (atEnd (length (s .args .text .now)) (record { variables = s .args .n; total = s .args .total }))) (sym (c .before .before .before .before .before .before .before .before .before .before .before .before .before .before .read-lines .ensures .step))) (c .before .before .before .before .finish .ensures)
+    let a = c .before .before .before .before .before .before .before .before .before .before .before .before .before .before .before .before .before .before .before .before .before .before .before .args in
+    answers-same (ap (λ m. andThen m (atEnd (length (a .text .now)) (a .sizes))) (sym (c .before .before .before .before .before .before .before .before .before .before .before .before .before .before .read-lines .ensures .step))) (c .before .before .before .before .finish .ensures)
 
 pub collect-spec : {M : Type 1} → statement M
 collect-spec =

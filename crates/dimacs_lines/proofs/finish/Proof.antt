@@ -1,26 +1,26 @@
 -- `dimacs_lines::finish` meets its contract: on to the end of the text, or the lines' refusal. Assumes nothing.
 use mathlib.Core.Path.{subst}
 use borrow.Author.Needs.{needs}
-use Rattle.dimacs_lines.specs.Laws.ParsedLaws.{answers-refused, finish-on, finish-refused}
-use Rattle.dimacs_lines.specs.Laws.LineScans.{Stands}
+use Rattle.point_slices.specs.Slices.{clauseSlices}
+use Rattle.dimacs_format.specs.Laws.AnswerLaws.{WherePassed}
+use Rattle.dimacs_lines.specs.Laws.ParsedLaws.{finish-on, finish-refused}
+use Rattle.dimacs_lines.specs.Laws.LineScans.{Standing}
 use Rattle.dimacs_lines.proofs.finish.Statement.{statement}
 use Rattle.dimacs_lines.proofs.finish.Tie as tie
 
 accept-requires : tie.Need-accept-requires
 accept-requires c κs =
-    let s = c .before .before .before .before .before .before .before .before .before in
-    (subst (λ d. Stands (record { variables = s .args .n; total = s .args .total }) d (s .args .p .now) (s .args .q .now) (s .args .images)) (c .before .before .before .done .given .1) (s .pre .0), s .pre .1)
+    let a = c .before .before .before .before .before .before .before .before .before .args in
+    (subst (λ d. WherePassed d (Standing (a .sizes) (a .done .state) (clauseSlices (a .p .now) (a .q .now)) (a .images))) (c .before .before .enum-told .given .1) (c .before .before .before .before .before .before .before .before .before .pre .0), c .before .before .before .before .before .before .before .before .before .pre .1)
 
 refused-requires : tie.Need-refused-requires
 refused-requires c κs = search needs
 
 returns : tie.Need-returns
-returns c = let s = c .before .before .before .before .before .before .before .before .before .before .before .before .before .before in finish-on _ _ (s .args .size) (s .args .p .now) (s .args .q .now) (s .args .images) (s .args .done) _ _ _ (c .before .before .before .before .before .before .before .before .done .given .1) _ _ _ (c .before .before .before .before .accept .ensures)
+returns c = finish-on (c .before .before .before .before .before .before .before .before .before .before .before .before .before .before .args .sizes) (c .before .before .before .before .before .before .before .before .before .before .before .before .before .before .args .size) _ (c .before .before .before .before .before .before .before .enum-told .given .1) (c .before .before .before .before .accept .ensures)
 
 returns-2 : tie.Need-returns-2
-returns-2 c =
-    let s = c .before .before .before .before .before .before .before .before in
-    answers-refused _ _ _ _ _ _ (finish-refused _ _ (s .args .size) (s .args .p .now) (s .args .q .now) (s .args .images) (s .args .done) (s .args .positive .now) (s .args .negative .now) _ _ (c .before .before .done2 .given .1)) (c .refused .ensures)
+returns-2 c = finish-refused (c .before .before .before .before .before .before .before .before .before .args .sizes) (c .before .before .before .before .before .before .before .before .before .args .size) _ (c .before .before .answer .given .1) (c .refused .ensures)
 
 pub finish-spec : {M : Type 1} → statement M
 finish-spec =

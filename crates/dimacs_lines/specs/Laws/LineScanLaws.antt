@@ -1,26 +1,37 @@
 -- Laws of the lines behind the problem line, as the code goes along them. Assumes nothing.
-use mathlib.Core.Bool.{Bool, true, false}
+use mathlib.Core.Bool.{true, false}
 use mathlib.Core.List.{List}
 use mathlib.Core.Path.{_≡_, refl, sym, ap, _∙_, subst}
-use Prim.Native.Nat.{ℕ, _+_, _-_, _≤_, _<_, zero-le}
+use Prim.Native.Nat.{ℕ, _+_, _-_, _≤_, _<_}
 use native.Mathlib.Omega.{arith}
 use lib.ListN.{length, take, drop, length-append}
 use Rattle.permutation_theory.specs.Permutations.{permutationsIn}
-use Rattle.point_slices.specs.Slices.{clausesOf}
+use Rattle.point_slices.specs.Slices.{ClauseSlices}
+use Rattle.formula.specs.declared.Checked.the-variants.{Passed, Refused}
 use Rattle.dimacs_words.specs.declared.Class.the-variants.{Line as LineBytes}
-use Rattle.dimacs_comments.specs.declared.State.{State}
-use Rattle.dimacs_comments.specs.declared.Advanced.{Advanced}
-use Rattle.dimacs_comments.specs.declared.Advanced.the-variants.{On, Refused}
-use Rattle.dimacs_format.specs.Text.{maxText, piece, begins, isComment, isTargetLine, isPermutationLine}
-use Rattle.dimacs_format.specs.Reader.{goes, andThen, walk, Sizes, begin, kindBy, handled, lineStep}
-use Rattle.dimacs_words.specs.Laws.ScanLaws.{run-length, behind-none, behind-some, lines-from}
-use Rattle.dimacs_comments.specs.Laws.HandlerScans.{targetOf, KeptImages, TargetTaken, PermutationTaken, WordsTaken}
-use Rattle.dimacs_lines.specs.Laws.LineScans.{progressFrom, advancedOf, Standing, Stands, Advancing, nothingSaid}
-use Rattle.dimacs_lines.specs.Laws.LineScans.{LinesRead, Passing}
-use Rattle.dimacs_clauses.specs.Laws.ClauseScans.{clausesFrom, Ready, Inside}
-use Rattle.dimacs_words.specs.Laws.Scans.{belongs, Stretch, linesBehind}
-use Rattle.dimacs_format.specs.Laws.LineLaws.{kind-is, three-same}
+use Rattle.dimacs_clauses.specs.declared.Taken.{Taken}
+use Rattle.dimacs_comments.specs.declared.TargetTaken.{TargetTaken}
+use Rattle.dimacs_comments.specs.declared.PermutationTaken.{PermutationTaken}
+use Rattle.dimacs_lines.specs.declared.State.{State}
+use Rattle.dimacs_lines.specs.declared.Advanced.{Advanced}
+use Rattle.dimacs_format.specs.Text.{maxText, piece, begins, isComment, targetHead, permutationHead, isTargetLine}
+use Rattle.dimacs_format.specs.Text.{isPermutationLine}
+use Rattle.dimacs_format.specs.Reader.{andThen, walk, Sizes, Progress, withPart, lineStep, linesSay}
+use Rattle.dimacs_format.specs.Reader.{clause-line, target-line, permutation-line}
+use Rattle.dimacs_format.specs.Laws.AnswerLaws.{stepTo, WherePassed, where-passed, where-both, step-within}
+use Rattle.dimacs_format.specs.Laws.AnswerLaws.{then-passed, then-refused}
+use Rattle.dimacs_format.specs.Laws.LineLaws.{kind-clauses, kind-target, kind-permutation, kind-remark, line-remark}
+use Rattle.dimacs_format.specs.Laws.LineLaws.{line-of-kind}
 use Rattle.dimacs_format.specs.Laws.TextLaws.{begins-split}
+use Rattle.dimacs_words.specs.Laws.Scans.{belongs, Stretch, linesBehind}
+use Rattle.dimacs_words.specs.Laws.ScanLaws.{run-length, part-end, behind-none, behind-some, lines-from}
+use Rattle.dimacs_clauses.specs.Laws.ClauseScans.{clausesFrom, Ready, Inside, Scanning}
+use Rattle.dimacs_comments.specs.Laws.CommentScans.{wantedOf}
+use Rattle.dimacs_comments.specs.Laws.HandlerScans.{TargetRead, PermutationRead}
+use Rattle.dimacs_lines.specs.Laws.LineScans.{nothingSaid, withBegun, withWanted, withPermutations, progressWith}
+use Rattle.dimacs_lines.specs.Laws.LineScans.{progressFrom, Kept, Standing}
+use Rattle.dimacs_lines.specs.Laws.LineScans.{CommentRead}
+use Rattle.dimacs_lines.specs.Laws.LineScans.{Advancing, LinesRead, Passing}
 
 -- ---- a line of any kind
 
@@ -29,191 +40,165 @@ pub head-length : (head line : List ℕ) → begins head line ≡ true → lengt
 head-length head line e = subst (λ l. length head ≤ length l) (sym (begins-split head line e))
     (omega (arith, length-append head (drop (length head) line)))
 
-module _ (z : Sizes) (start : ℕ) (line : List ℕ) (s : State) (p q images : List ℕ) (st : Standing z s p q images) where
-  -- the handler of the line's kind
-  kind-step : {c t e : Bool} → isComment (piece start line) ≡ c → isTargetLine (piece start line) ≡ t
-      → isPermutationLine (piece start line) ≡ e
-      → lineStep z (progressFrom (z .variables) p q images s) (piece start line)
-      ≡ handled z (progressFrom (z .variables) p q images s) (piece start line) (kindBy c t e)
-  unfolding lineStep
-  kind-step c t e = ap (handled z (progressFrom (z .variables) p q images s) (piece start line))
-      (kind-is (piece start line) c t e)
+-- what the code hands on is what stands behind the head
+abbrev pub handedOn : List ℕ → List ℕ → List ℕ
+handedOn head line = take (length line - length head) (drop (length head) line)
 
-  pub line-words : (r : Advanced) (p₁ q₁ : List ℕ) → isComment (piece start line) ≡ false
-      → WordsTaken z start line s p q p₁ q₁ r
-      → Advancing z start line s p q images r p₁ q₁ images
-  unfolding kindBy handled andThen
-  line-words (On t) p₁ q₁ e w =
+module _ {z : Sizes} {start : ℕ} {line : List ℕ} {s : State} {images : List ℕ} where
+  -- a target line: its part is replaced
+  pub target-read : {r : TargetTaken} → Kept z s images → isTargetLine (piece start line) ≡ true
+      → TargetRead (z .variables) start (handedOn targetHead line) (s .wanted) r
+      → CommentRead z start line s images (record { answer = r .answer; state = withWanted s (r .wanted) }) images
+  target-read {r = r} kept t k =
       record {
         step =
-            sym (kind-step e refl refl
-            ∙ ap (λ m. andThen m (λ c. goes (record {
-              clauses = c;
-              target = targetOf s;
-              permutations = permutationsIn
-                  (z .variables) (s .permutations) images;
-            }))) (w .3)
-            ∙ ap goes (three-same refl (sym (w .0)) (ap (λ k. permutationsIn (z .variables) k images) (sym (w .1)))));
-        stands = record {
-          ready = w .2;
-          kept = subst (λ k. KeptImages (z .variables) k images) (sym (w .1)) (st .kept);
-        };
-      }
-  line-words (Refused code place) p₁ q₁ e w =
-      record {
-        step =
-            sym (kind-step e refl refl
-            ∙ ap (λ m. andThen m (λ c. goes (record {
-              clauses = c;
-              target = targetOf s;
-              permutations = permutationsIn
-                  (z .variables) (s .permutations) images;
-            }))) w);
-        stands = zero-le;
+            λ x.
+            let p : Progress = progressWith (z .variables) x images s in
+            step-within (r .answer) (wantedOf (r .wanted)) (withPart target-line p)
+            (subst (λ bytes. TargetRead (z .variables) start bytes (s .wanted) r) (part-end line (length targetHead)) k
+            .step)
+            ∙ sym (line-of-kind z p (piece start line) target-line (kind-target (piece start line) t));
+        same-clauses = refl;
+        kept = where-passed (r .answer) (record { variables = kept .variables; images-kept = kept .images-kept });
       }
 
-  pub line-target : (r : Advanced) → isComment (piece start line) ≡ true → isTargetLine (piece start line) ≡ true
-      → TargetTaken (z .variables) start line s r
-      → Advancing z start line s p q images r p q images
-  unfolding kindBy handled andThen
-  line-target (On t) c e w =
+  -- a permutation line
+  pub permutation-read : {r : PermutationTaken} {images₁ : List ℕ} → Kept z s images
+      → isPermutationLine (piece start line) ≡ true
+      → PermutationRead (z .variables) start (handedOn permutationHead line) (s .permutations) images r images₁
+      → CommentRead z start line s images (record { answer = r .answer; state = withPermutations s (r .permutations) })
+      images₁
+  permutation-read {r = r} {images₁} kept e k =
       record {
         step =
-            sym (kind-step c e refl
-            ∙ ap (λ m. andThen m (λ x. goes (record {
-              clauses = clausesFrom p q (s .begun);
-              target = x;
-              permutations = permutationsIn (z .variables) (s .permutations) images;
-            }))) (w .2)
-            ∙ ap goes (three-same (ap (clausesFrom p q) (sym (w .0))) refl
-            (ap (λ k. permutationsIn (z .variables) k images) (sym (w .1)))));
-        stands =
-            record {
-              ready = subst (λ b. Ready z (b .closed) p q) (sym (w .0)) (st .ready);
-              kept = subst (λ k. KeptImages (z .variables) k images) (sym (w .1)) (st .kept);
-            };
-      }
-  line-target (Refused code place) c e w =
-      record {
-        step =
-            sym (kind-step c e refl
-            ∙ ap (λ m. andThen m (λ x. goes (record {
-              clauses = clausesFrom p q (s .begun);
-              target = x;
-              permutations = permutationsIn (z .variables) (s .permutations) images;
-            }))) w);
-        stands = zero-le;
+            λ x.
+            let p : Progress = progressWith (z .variables) x images s in
+            step-within (r .answer) (permutationsIn (z .variables) (r .permutations) images₁)
+            (withPart permutation-line p)
+            (subst (λ bytes. PermutationRead (z .variables) start bytes (s .permutations) images r images₁)
+            (part-end line (length permutationHead)) k .step)
+            ∙ sym (line-of-kind z p (piece start line) permutation-line (kind-permutation (piece start line) e));
+        same-clauses = refl;
+        kept = where-both (r .answer) (λ h. record { variables = kept .variables; images-kept = h }) (k .kept);
       }
 
-  pub line-permutation : (r : Advanced) (images₁ : List ℕ) → isComment (piece start line) ≡ true
-      → isTargetLine (piece start line) ≡ false
-      → isPermutationLine (piece start line) ≡ true → PermutationTaken (z .variables) start line s images images₁ r
-      → Advancing z start line s p q images r p q images₁
-  unfolding kindBy handled andThen
-  line-permutation (On t) images₁ c e f w =
-      record {
-        step =
-            sym (kind-step c e f
-            ∙ ap (λ m. andThen m (λ x. goes (record {
-              clauses = clausesFrom p q (s .begun);
-              target = targetOf s;
-              permutations = x;
-            }))) (w .3)
-            ∙ ap goes (three-same (ap (clausesFrom p q) (sym (w .0))) (sym (w .1)) refl));
-        stands = record { ready = subst (λ b. Ready z (b .closed) p q) (sym (w .0)) (st .ready); kept = w .2 };
-      }
-  line-permutation (Refused code place) images₁ c e f w =
-      record {
-        step =
-            sym (kind-step c e f
-            ∙ ap (λ m. andThen m (λ x. goes (record {
-              clauses = clausesFrom p q (s .begun);
-              target = targetOf s;
-              permutations = x;
-            }))) w);
-        stands = zero-le;
-      }
-
-  pub line-remark : isComment (piece start line) ≡ true → isTargetLine (piece start line) ≡ false
+  -- a remark
+  pub remark-read : Kept z s images → isComment (piece start line) ≡ true → isTargetLine (piece start line) ≡ false
       → isPermutationLine (piece start line) ≡ false
-      → Advancing z start line s p q images (On s) p q images
-  unfolding kindBy handled
-  line-remark c e f = record { step = sym (kind-step c e f); stands = st }
+      → CommentRead z start line s images (record { answer = Passed; state = s }) images
+  remark-read kept c t e =
+      record {
+        step = λ x. sym (line-remark z (progressWith (z .variables) x images s) (piece start line)
+            (kind-remark (piece start line) c t e));
+        same-clauses = refl;
+        kept = kept;
+      }
+
+  module _ {clauses : ClauseSlices} (st : Standing z s clauses images) where
+    -- a comment leaves the clauses as they are
+    pub line-comment : {r : Advanced} {images₁ : List ℕ} → CommentRead z start line s images r images₁
+        → Advancing z start line s clauses images r clauses images₁
+    line-comment {r = r} {images₁} k =
+        record {
+          step =
+              ap (λ b. stepTo (r .answer) (progressWith (z .variables) (clausesFrom clauses b) images₁ (r .state)))
+              (k .same-clauses)
+              ∙ k .step (clausesFrom clauses (s .begun));
+          stands =
+              where-both (r .answer)
+              (λ h. record {
+                ready = subst (λ b. Ready z (b .closed) clauses) (sym (k .same-clauses)) (st .ready);
+                kept = h;
+              })
+              (k .kept);
+        }
+
+    -- a line of words replaces the clauses
+    pub line-words : {r : Taken} {clauses₁ : ClauseSlices} → isComment (piece start line) ≡ false
+        → Scanning z start line clauses (s .begun) r clauses₁
+        → Advancing z start line s clauses images (record { answer = r .answer; state = withBegun s (r .begun) })
+        clauses₁ images
+    line-words {r = r} {clauses₁} c k =
+        let p : Progress = progressFrom (z .variables) clauses images s in
+        record {
+          step =
+              step-within (r .answer) (clausesFrom clauses₁ (r .begun)) (withPart clause-line p) (k .step)
+              ∙ sym (line-of-kind z p (piece start line) clause-line (kind-clauses (piece start line) c));
+          stands =
+              where-passed (r .answer)
+              (record {
+                ready = record {
+                  variables = st .ready .variables;
+                  few = st .ready .few;
+                  room = subst (λ j. z .total ≤ j) (sym (k .room)) (st .ready .room);
+                  closed = k .few;
+                };
+                kept = record { variables = st .kept .variables; images-kept = st .kept .images-kept };
+              });
+        }
 
 -- ---- the lines one after the other
 
-module _ (z : Sizes) (text : List ℕ) (end : ℕ) (p₀ q₀ images₀ : List ℕ) where
-  pub passing-begins : (s : State) → s ≡ nothingSaid → Standing z nothingSaid p₀ q₀ images₀ → length text ≤ maxText
-      → end ≤ length text
-      → Passing z text end p₀ q₀ images₀ p₀ q₀ images₀ s end
-  unfolding clausesOf permutationsIn
-  passing-begins s e st size within =
-      subst (λ t. Passing z text end p₀ q₀ images₀ p₀ q₀ images₀ t end) (sym e)
-      (record {
-        standing = st;
-        size = size;
-        within = within;
-        left = refl;
-        size-positive = refl;
-        size-negative = refl;
-        size-images = refl;
-      })
+module _ {z : Sizes} {text : List ℕ} {end : ℕ} where
+  pub passing-begins : {s : State} {clauses : ClauseSlices} {images : List ℕ} → s ≡ nothingSaid
+      → Standing z nothingSaid clauses images → length text ≤ maxText → end ≤ length text
+      → Passing z text end clauses images s end
+  unfolding permutationsIn
+  passing-begins {clauses = clauses} {images} e st size within =
+      subst (λ t. Passing z text end clauses images t end) (sym e)
+      (record { standing = st; size = size; within = within; left = refl })
 
-  module _ (p q images : List ℕ) (s : State) (last : ℕ) (a : Passing z text end p₀ q₀ images₀ p q images s last) where
-    pub passing-ends : length text ≤ last → LinesRead z text end (On s) p q images
+  module _ {clauses : ClauseSlices} {images : List ℕ} {s : State} {last : ℕ}
+      (a : Passing z text end clauses images s last) where
+    pub passing-ends : length text ≤ last → LinesRead z text end (record { answer = Passed; state = s }) clauses images
     unfolding walk
     passing-ends h =
         record {
-          step = sym (a .left ∙ ap (walk (lineStep z) (progressFrom (z .variables) p q images s))
+          step = sym (a .left ∙ ap (walk (lineStep z) (progressFrom (z .variables) clauses images s))
               (behind-none text last h));
           stands = a .standing;
         }
 
-    module _ (inside : last < length text) (stop : ℕ) (line : Stretch (belongs LineBytes) text (last + 1) stop)
-        (r : Advanced) (p₁ q₁ images₁ : List ℕ)
-        (k : Advancing z (last + 1) (take (stop - (last + 1)) (drop (last + 1) text)) s p q images r p₁ q₁ images₁)
-      where
-        -- the line's step comes first
-        stepped : walk (lineStep z) begin (linesBehind text end)
-            ≡ andThen (advancedOf (z .variables) p₁ q₁ images₁ r) (λ t. walk (lineStep z) t (linesBehind text stop))
-        unfolding walk
-        stepped =
-            a .left ∙ ap (walk (lineStep z) (progressFrom (z .variables) p q images s))
-            (behind-some text last inside ∙ lines-from text (last + 1) stop line)
-            ∙ ap (λ m. andThen m (λ t. walk (lineStep z) t (linesBehind text stop))) (sym (k .step))
-
-        pub passing-stops : (code place : ℕ) → r ≡ Refused code place → LinesRead z text end r p₁ q₁ images₁
-        unfolding andThen
-        passing-stops code place e =
-            record {
-              step =
-                  ap (advancedOf (z .variables) p₁ q₁ images₁) e
-                  ∙ sym (stepped ∙ ap (λ t. andThen (advancedOf (z .variables) p₁ q₁ images₁ t)
-                  (λ t. walk (lineStep z) t (linesBehind text stop))) e);
-              stands = k .stands;
-            }
-
-        pub passing-goes-on : (t : State) → r ≡ On t → length p₁ ≡ length p → length q₁ ≡ length q
-            → length images₁ ≡ length images
-            → Passing z text end p₀ q₀ images₀ p₁ q₁ images₁ t stop
-        unfolding andThen
-        passing-goes-on t e lp lq lt =
-            record {
-              standing = subst (λ x. Stands z x p₁ q₁ images₁) e (k .stands);
-              size = a .size;
-              within = line .within;
-              left = stepped ∙ ap (λ t. andThen (advancedOf (z .variables) p₁ q₁ images₁ t)
-                  (λ t. walk (lineStep z) t (linesBehind text stop))) e;
-              size-positive = lp ∙ a .size-positive;
-              size-negative = lq ∙ a .size-negative;
-              size-images = lt ∙ a .size-images;
-            }
-
     -- the line lies within the text
-    pub passing-inside : (stop : ℕ) → Stretch (belongs LineBytes) text (last + 1) stop
+    pub passing-inside : {stop : ℕ} → Stretch (belongs LineBytes) text (last + 1) stop
         → Inside (last + 1) (take (stop - (last + 1)) (drop (last + 1) text))
-    passing-inside stop line =
+    passing-inside {stop = stop} line =
         let o = line .ordered in
         let w = line .within in
         let b = a .size in
         omega (arith, run-length (belongs LineBytes) text (last + 1) stop line)
+
+    module _ {stop : ℕ} {r : Advanced} {clauses₁ : ClauseSlices} {images₁ : List ℕ} (inside : last < length text)
+        (line : Stretch (belongs LineBytes) text (last + 1) stop)
+        (k : Advancing z (last + 1) (take (stop - (last + 1)) (drop (last + 1) text)) s clauses images r clauses₁
+        images₁)
+      where
+        -- the line's step comes first
+        stepped : linesSay z (linesBehind text end)
+            ≡ andThen (stepTo (r .answer) (progressFrom (z .variables) clauses₁ images₁ (r .state)))
+            (λ t. walk (lineStep z) t (linesBehind text stop))
+        unfolding walk
+        stepped =
+            a .left ∙ ap (walk (lineStep z) (progressFrom (z .variables) clauses images s))
+            (behind-some text last inside ∙ lines-from text (last + 1) stop line)
+            ∙ ap (λ m. andThen m (λ t. walk (lineStep z) t (linesBehind text stop))) (sym (k .step))
+
+        pub passing-stops : {code place : ℕ} → r .answer ≡ Refused code place → LinesRead z text end r clauses₁ images₁
+        passing-stops {code = code} {place} e =
+            record {
+              step = sym (stepped ∙ then-refused (r .answer) code place
+                  (progressFrom (z .variables) clauses₁ images₁ (r .state))
+                  (progressFrom (z .variables) clauses₁ images₁ (r .state))
+                  (λ t. walk (lineStep z) t (linesBehind text stop)) e);
+              stands = k .stands;
+            }
+
+        pub passing-goes-on : r .answer ≡ Passed → Passing z text end clauses₁ images₁ (r .state) stop
+        passing-goes-on e =
+            record {
+              standing = subst (λ x. WherePassed x (Standing z (r .state) clauses₁ images₁)) e (k .stands);
+              size = a .size;
+              within = line .within;
+              left = stepped ∙ then-passed (r .answer) (progressFrom (z .variables) clauses₁ images₁ (r .state))
+                  (λ t. walk (lineStep z) t (linesBehind text stop)) e;
+            }

@@ -1,47 +1,51 @@
 -- What the functions that make the reader's answer promise. Assumes nothing.
-use mathlib.Core.Bool.{Bool, cond}
 use mathlib.Core.List.{List}
-use mathlib.Core.Option.{some, none, Option·getD}
 use mathlib.Core.Path.{_≡_}
 use Prim.Native.Nat.{ℕ, _≤_}
-use lib.ListN.{length}
+use lib.ListN.{length, take}
 use lib.Seq.{paste}
+use Rattle.math.specs.Lists.{over}
+use Rattle.point_slices.specs.Slices.{ClauseSlices, pointsOf, restOf, clauseRoom}
+use Rattle.formula.specs.Limits.{maxVariables, maxClauses}
 use Rattle.formula.specs.Problem.{emptyFormula}
 use Rattle.dimacs_lines.specs.declared.Parse.the-variants.{Refused}
 use Rattle.dimacs_lines.specs.declared.Parsed.{Parsed}
 use Rattle.dimacs_lines.specs.Reply.{replyOfParse}
-use Rattle.dimacs_format.specs.Input.{Input, positives, negatives}
-use Rattle.dimacs_format.specs.Reader.{Step, replyTo, formulaFrom, sliceFrom}
+use Rattle.dimacs_format.specs.Input.{Input}
+use Rattle.dimacs_format.specs.Reader.{Step, Sizes, replyTo, formulaFrom, slicesFrom}
 
--- a target, or 0 where there is none
-abbrev pub wantedOr0 : Bool → ℕ → ℕ
-wantedOr0 targeted x = Option·getD (cond targeted (some x) none) 0
+-- the first points of one slice went to the front of another
+pub record Copied (from to₀ : List ℕ) (count : ℕ) (to₁ : List ℕ) : Type 0 where
+  pub points : pointsOf to₁ ≡ over (take count (pointsOf from)) (pointsOf to₀)
+  pub rest : restOf to₁ ≡ restOf to₀
 
--- the loop that copies: the first i numbers are there, the others as they were
+-- the loop that copies: the first i points are there, the others as they were
 pub record Copying (from to₀ : List ℕ) (count : ℕ) (to : List ℕ) (i : ℕ) : Type 0 where
-  pub room-from : count ≤ length from
-  pub room-to : count ≤ length to₀
+  pub room-from : count ≤ length (pointsOf from)
+  pub room-to : count ≤ length (pointsOf to₀)
   pub within : i ≤ count
-  pub copied : to ≡ paste to₀ 0 from i
+  pub copied : pointsOf to ≡ paste (pointsOf to₀) 0 (pointsOf from) i
+  pub rest : restOf to ≡ restOf to₀
 
 -- a refusal beside the formula that is 0 throughout
 abbrev pub refusedWith : ℕ → ℕ → Parsed
 refusedWith code place = record { formula = emptyFormula; answer = Refused code place }
 
--- n and C are within their limits
-pub record Limited (n total : ℕ) : Type 0 where
-  pub variables : n ≤ 64
-  pub few : total ≤ 4096
+-- the most clauses for which small arrays are made
+abbrev pub fewClauses : ℕ
+fewClauses = 256
 
--- both slices have room for C clauses
-pub record HasRoom (total : ℕ) (positive negative : List ℕ) : Type 0 where
-  pub room-positive : total ≤ length positive
-  pub room-negative : total ≤ length negative
+-- n and C are within their limits
+pub record Limited (z : Sizes) : Type 0 where
+  pub variables : z .variables ≤ maxVariables
+  pub few : z .total ≤ maxClauses
+
+-- the slices have room for C clauses
+pub record HasRoom (z : Sizes) (clauses : ClauseSlices) : Type 0 where
+  pub room : z .total ≤ clauseRoom clauses
 
 -- the answer and the slices at exit are those of a step to an input
-pub record ParsedAs (m : Step Input) (positive₀ negative₀ : List ℕ) (r : Parsed) (positive₁ negative₁ : List ℕ) : Type 0
-  where
-    pub reply : replyOfParse (r .answer) ≡ replyTo m
-    pub formula : r .formula ≡ formulaFrom m
-    pub positive : positive₁ ≡ sliceFrom positives m positive₀
-    pub negative : negative₁ ≡ sliceFrom negatives m negative₀
+pub record ParsedAs (m : Step Input) (clauses₀ : ClauseSlices) (r : Parsed) (clauses₁ : ClauseSlices) : Type 0 where
+  pub reply : replyOfParse (r .answer) ≡ replyTo m
+  pub formula : r .formula ≡ formulaFrom m
+  pub clauses : clauses₁ ≡ slicesFrom m clauses₀

@@ -1,221 +1,227 @@
 -- Laws of the reader's answer: the copy into the lent slices, the formula, and refusals. Assumes nothing.
+use mathlib.Core.Bool.{cond}
 use mathlib.Core.List.{List, [], _∷_, _++_}
+use mathlib.Core.Option.{Option·getD}
 use mathlib.Core.Path.{_≡_, refl, sym, ap, ap₂, _∙_, subst}
-use Prim.Native.Nat.{ℕ, _+_, _-_, _*_, _≤_, _<_, zero-le}
-use native.Mathlib.Nat.{zero-add, zero-mul, mul-le-mul-right}
+use Prim.Native.Nat.{ℕ, zero, suc, _+_, _-_, _*_, _≤_, _<_, min, zero-le}
+use native.Mathlib.Nat.{zero-add, zero-mul, mul-le-mul-right, le-trans, le-of-suc-le-suc, not-suc-le-zero}
 use native.Mathlib.Numerals.{add-one}
 use native.Mathlib.Omega.{arith}
 use lib.ListN.{length, getD, take, drop, set, replicate, take-append-drop, length-replicate}
-use lib.Seq.{paste, paste-zero, paste-suc, length-paste, length-take-le}
+use lib.Seq.{paste, paste-zero, paste-suc, length-take-le}
 use borrow.Author.Tests.{eq-eqb, ne-eqb}
 use Rattle.math.specs.Lists.{over}
-use Rattle.point_slices.specs.Slices.{clausesOf}
+use Rattle.point_slices.specs.Laws.SliceLaws.{points-blank}
+use Rattle.point_slices.specs.Slices.{ClauseSlices, pointsOf, restOf, clauseSlices, beside, clauseRoom}
 use Rattle.permutation_images.specs.Laws.LoopLaws.{length-permutations}
 use Rattle.permutation_theory.specs.Permutations.{permutationsIn}
+use Rattle.formula.specs.Limits.{maxVariables, maxPermutations, maxImages}
+use Rattle.formula.specs.declared.Checked.{Checked}
+use Rattle.formula.specs.declared.Checked.the-variants.{Passed, Refused}
 use Rattle.dimacs_lines.specs.declared.Parse.the-variants.{Accepted}
 use Rattle.dimacs_lines.specs.declared.Parsed.{Parsed}
-use Rattle.dimacs_comments.specs.declared.Advanced.{Advanced}
-use Rattle.dimacs_comments.specs.declared.Advanced.the-variants.{On, Refused}
-use Rattle.dimacs_comments.specs.declared.State.{State}
+use Rattle.dimacs_lines.specs.declared.State.{State}
 use Rattle.dimacs_format.specs.Input.{Input, imagesOf, padded, formulaOf, positives, negatives}
-use Rattle.dimacs_format.specs.Reader.{Step, goes, refuses, andThen, Sizes, inputOf, atEnd, replyTo, formulaFrom}
-use Rattle.dimacs_format.specs.Reader.{sliceFrom}
+use Rattle.dimacs_format.specs.Reader.{Step, goes, refuses, andThen, Sizes, Progress, inputOf, atEnd, replyTo}
+use Rattle.dimacs_format.specs.Reader.{formulaFrom}
+use Rattle.dimacs_format.specs.Reader.{slicesFrom}
+use Rattle.dimacs_format.specs.Laws.AnswerLaws.{stepTo}
 use Rattle.dimacs_clauses.specs.Laws.ClauseScans.{clausesFrom}
 use Rattle.dimacs_clauses.specs.Laws.ClauseScanLaws.{closed-length}
+use Rattle.dimacs_comments.specs.Laws.CommentScans.{wantedOf}
 use Rattle.dimacs_comments.specs.Laws.HandlerScans.{KeptImages}
-use Rattle.dimacs_lines.specs.Laws.LineScans.{progressFrom, advancedOf, Standing, nothingSaid}
 use Rattle.dimacs_comments.specs.Laws.HandlerLaws.{images-take}
-use Rattle.dimacs_lines.specs.Laws.ParsedAs.{wantedOr0, Copying, refusedWith, Limited, HasRoom, ParsedAs}
+use Rattle.dimacs_lines.specs.Laws.LineScans.{nothingSaid, progressFrom, Standing}
+use Rattle.dimacs_lines.specs.Laws.ParsedAs.{Copied, Copying, refusedWith, Limited, HasRoom, ParsedAs}
 
 -- ---- the copy
 
-module _ (from to₀ : List ℕ) (count : ℕ) where
-  pub copy-begins : count ≤ length from → count ≤ length to₀ → Copying from to₀ count to₀ 0
-  copy-begins hf ht = record { room-from = hf; room-to = ht; within = zero-le; copied = paste-zero to₀ 0 from }
+module _ {from to₀ : List ℕ} {count : ℕ} where
+  pub copy-begins : count ≤ length (pointsOf from) → count ≤ length (pointsOf to₀) → Copying from to₀ count to₀ 0
+  copy-begins hf ht =
+      record {
+        room-from = hf;
+        room-to = ht;
+        within = zero-le;
+        copied = paste-zero (pointsOf to₀) 0 (pointsOf from);
+        rest = refl;
+      }
 
-  module _ (to : List ℕ) (i : ℕ) (a : Copying from to₀ count to i) where
-    pub copy-length : length to ≡ length to₀
-    copy-length =
-        ap length (a .copied)
-        ∙ length-paste to₀ 0 from i (let w = a .within in let x = a .room-to in omega arith)
-        (let w = a .within in let x = a .room-from in omega arith)
-
-    pub copy-goes-on : i < count → (x : ℕ) (new : List ℕ) → x ≡ getD from i 0 → new ≡ set to i x
+  module _ {to : List ℕ} {i : ℕ} (a : Copying from to₀ count to i) where
+    pub copy-goes-on : {x : ℕ} {new : List ℕ} → i < count → x ≡ getD (pointsOf from) i 0
+        → pointsOf new ≡ set (pointsOf to) i x → restOf new ≡ restOf to
         → Copying from to₀ count new (i + 1)
-    copy-goes-on lt x new e f =
+    copy-goes-on lt e f g =
         record {
           room-from = a .room-from;
           room-to = a .room-to;
           within = omega arith;
           copied =
               f ∙ ap₂ (λ (l : List ℕ) (y : ℕ). set l i y) (a .copied) e
-              ∙ ap (λ j. set (paste to₀ 0 from i) j (getD from i 0)) (sym (zero-add i))
-              ∙ paste-suc to₀ 0 from i 0 (let x = a .room-to in omega arith) (let x = a .room-from in omega arith)
-              ∙ ap (paste to₀ 0 from) (sym (add-one i));
+              ∙ ap (λ j. set (paste (pointsOf to₀) 0 (pointsOf from) i) j (getD (pointsOf from) i 0)) (sym (zero-add i))
+              ∙ paste-suc (pointsOf to₀) 0 (pointsOf from) i 0 (let x = a .room-to in omega arith)
+              (let x = a .room-from in omega arith)
+              ∙ ap (paste (pointsOf to₀) 0 (pointsOf from)) (sym (add-one i));
+          rest = g ∙ a .rest;
         }
 
-    pub copy-ends : count ≤ i → to ≡ over (take count from) to₀
+    pub copy-ends : count ≤ i → Copied from to₀ count to
     unfolding over
     copy-ends h =
         let e : i ≡ count = let w = a .within in omega arith in
-        a .copied ∙ ap (paste to₀ 0 from) e
-        ∙ ap (λ j. take count from ++ drop j to₀) (zero-add count ∙ sym (length-take-le count from (a .room-from)))
+        record {
+          points =
+              a .copied ∙ ap (paste (pointsOf to₀) 0 (pointsOf from)) e
+              ∙ ap (λ j. take count (pointsOf from) ++ drop j (pointsOf to₀))
+              (zero-add count ∙ sym (length-take-le count (pointsOf from) (a .room-from)));
+          rest = a .rest;
+        }
 
 -- ---- the formula
 
 -- the images fill their bytes up to the unused ones
-pub images-padded : (n k : ℕ) (images : List ℕ) → n ≤ 64 → KeptImages n k images
-    → padded 1024 (imagesOf (permutationsIn n k images)) ≡ images
+images-padded : (n k : ℕ) (images : List ℕ) → n ≤ maxVariables → KeptImages n k images
+    → padded maxImages (imagesOf (permutationsIn n k images)) ≡ images
 unfolding padded
 images-padded n k images few t =
-    let room : k * n ≤ 16 * n = mul-le-mul-right n (t .few) in
+    let room : k * n ≤ maxPermutations * n = mul-le-mul-right n (t .few) in
     let p = t .places in
     let size : length (take (k * n) images) ≡ k * n = length-take-le (k * n) images (omega arith) in
-    ap (λ l. l ++ replicate (1024 - length l) 0) (images-take n k images)
-    ∙ ap (λ j. take (k * n) images ++ replicate (1024 - j) 0) size
+    ap (λ l. l ++ replicate (maxImages - length l) 0) (images-take n k images)
+    ∙ ap (λ j. take (k * n) images ++ replicate (maxImages - j) 0) size
     ∙ ap (λ l. take (k * n) images ++ l) (sym (t .unused)) ∙ take-append-drop (k * n) images
 
-pub positives-back : (ps ns : List ℕ) → length ps ≡ length ns → positives (clausesOf ps ns) ≡ ps
-unfolding clausesOf
-positives-back [] [] e = refl
-positives-back [] (n ∷ ns) e = refl
-positives-back (p ∷ ps) [] e = absurd (let z : ⊥ = omega arith in z)
-positives-back (p ∷ ps) (n ∷ ns) e = ap (λ l. p
-    ∷ l) (positives-back ps ns (let z : length ps ≡ length ns = omega arith in z))
+-- the sets of the first clauses are the first points of the slices
+positives-front : (k : ℕ) (ps ns : List ℕ) → k ≤ length ps → k ≤ length ns
+    → positives (take k (beside ps ns)) ≡ take k ps
+unfolding beside
+positives-front zero ps ns hp hn = refl
+positives-front (suc k) [] ns hp hn = absurd (not-suc-le-zero hp)
+positives-front (suc k) (p ∷ ps) [] hp hn = absurd (not-suc-le-zero hn)
+positives-front (suc k) (p ∷ ps) (n ∷ ns) hp hn =
+    ap (λ l. p ∷ l) (positives-front k ps ns (le-of-suc-le-suc hp) (le-of-suc-le-suc hn))
 
-pub negatives-back : (ps ns : List ℕ) → length ps ≡ length ns → negatives (clausesOf ps ns) ≡ ns
-unfolding clausesOf
-negatives-back [] [] e = refl
-negatives-back [] (n ∷ ns) e = absurd (let z : ⊥ = omega arith in z)
-negatives-back (p ∷ ps) [] e = refl
-negatives-back (p ∷ ps) (n ∷ ns) e = ap (λ l. n
-    ∷ l) (negatives-back ps ns (let z : length ps ≡ length ns = omega arith in z))
+negatives-front : (k : ℕ) (ps ns : List ℕ) → k ≤ length ps → k ≤ length ns
+    → negatives (take k (beside ps ns)) ≡ take k ns
+unfolding beside
+negatives-front zero ps ns hp hn = refl
+negatives-front (suc k) [] ns hp hn = absurd (not-suc-le-zero hp)
+negatives-front (suc k) (p ∷ ps) [] hp hn = absurd (not-suc-le-zero hn)
+negatives-front (suc k) (p ∷ ps) (n ∷ ns) hp hn =
+    ap (λ l. n ∷ l) (negatives-front k ps ns (le-of-suc-le-suc hp) (le-of-suc-le-suc hn))
 
 -- ---- refusals and the accepted text
 
-pub answers-refused : (m : Step Input) (code place : ℕ) (positive negative : List ℕ) (r : Parsed)
-    → m ≡ refuses code place → r ≡ refusedWith code place
-    → ParsedAs m positive negative r positive negative
-unfolding replyTo formulaFrom sliceFrom
-answers-refused m code place positive negative r e f =
-    subst (λ t. ParsedAs t positive negative r positive negative) (sym e)
-    (subst (λ x. ParsedAs (refuses code place) positive negative x positive negative) (sym f)
-    (record { reply = refl; formula = refl; positive = refl; negative = refl }))
+pub answers-refused : {m : Step Input} {code place : ℕ} {clauses : ClauseSlices} {r : Parsed} → m ≡ refuses code place
+    → r ≡ refusedWith code place → ParsedAs m clauses r clauses
+unfolding replyTo formulaFrom slicesFrom
+answers-refused {code = code} {place} {clauses} {r} e f =
+    subst (λ t. ParsedAs t clauses r clauses) (sym e)
+    (subst (λ x. ParsedAs (refuses code place) clauses x clauses) (sym f)
+    (record { reply = refl; formula = refl; clauses = refl }))
 
-pub answers-same : {m k : Step Input} {positive₀ negative₀ positive₁ negative₁ : List ℕ} {r : Parsed} → k ≡ m
-    → ParsedAs m positive₀ negative₀ r positive₁ negative₁
-    → ParsedAs k positive₀ negative₀ r positive₁ negative₁
-answers-same {positive₀ = positive₀} {negative₀} {positive₁} {negative₁} {r} e a = subst
-    (λ t. ParsedAs t positive₀ negative₀ r positive₁ negative₁) (sym e) a
+pub answers-same : {m k : Step Input} {clauses₀ clauses₁ : ClauseSlices} {r : Parsed} → k ≡ m
+    → ParsedAs m clauses₀ r clauses₁ → ParsedAs k clauses₀ r clauses₁
+answers-same {clauses₀ = clauses₀} {clauses₁} {r} e a = subst (λ t. ParsedAs t clauses₀ r clauses₁) (sym e) a
 
-module _ (size : ℕ) (z : Sizes) (s : State) (p q images : List ℕ) (st : Standing z s p q images) where
-  closed-size : length (clausesFrom p q (s .begun) .closed) ≡ s .begun .closed
-  closed-size =
-      closed-length z p q (s .begun) (let a = st .ready .closed in let b = st .ready .room-positive in omega arith)
-      (let a = st .ready .closed in let b = st .ready .room-negative in omega arith)
+-- as many clauses are closed as the number says
+closed-size : (z : Sizes) (s : State) (clauses : ClauseSlices) (images : List ℕ) → Standing z s clauses images
+    → length (clausesFrom clauses (s .begun) .closed) ≡ s .begun .closed
+closed-size z s clauses images st = closed-length clauses (s .begun) (le-trans (st .ready .closed) (st .ready .room))
 
-  pub end-refused : s .begun .closed < z .total
-      → atEnd size z (progressFrom (z .variables) p q images s) ≡ refuses 7 size
+module _ (size : ℕ) {z : Sizes} {s : State} {clauses : ClauseSlices} {images : List ℕ}
+    (st : Standing z s clauses images) {clauses₀ : ClauseSlices} where
+  -- R7: "or too few closed", 7 at the "text length"
+  pub end-refused : {r : Parsed} → s .begun .closed < z .total → r ≡ refusedWith 7 size
+      → ParsedAs (atEnd size z (progressFrom (z .variables) clauses images s)) clauses₀ r clauses₀
   unfolding atEnd
-  end-refused lt = rw (ne-eqb (length (clausesFrom p q (s .begun) .closed)) (z .total)
-      (λ e. let x : ⊥ = omega (arith, closed-size) in x))
+  end-refused lt e =
+      answers-refused (rw (ne-eqb (length (clausesFrom clauses (s .begun) .closed)) (z .total)
+      (λ e. let x : ⊥ = omega (arith, closed-size z s clauses images st) in x))) e
 
-  module _ (enough : z .total ≤ s .begun .closed) where
-    all-closed : s .begun .closed ≡ z .total
-    all-closed = let a = st .ready .closed in omega arith
-
-    pub end-goes : atEnd size z (progressFrom (z .variables) p q images s)
-        ≡ goes (inputOf (z .variables) (progressFrom (z .variables) p q images s))
-    unfolding atEnd
-    end-goes = rw (eq-eqb (length (clausesFrom p q (s .begun) .closed)) (z .total) (closed-size ∙ all-closed))
-
-    sizes-same : length (take (s .begun .closed) p) ≡ length (take (s .begun .closed) q)
-    sizes-same =
-        length-take-le (s .begun .closed) p (let a = st .ready .closed in let b = st .ready .room-positive in omega
-        arith)
-        ∙ sym (length-take-le (s .begun .closed) q (let a = st .ready .closed in let b = st .ready .room-negative in
-        omega arith))
-
-    pub answers-accepted : (x : ℕ) (positive₀ negative₀ positive₁ negative₁ : List ℕ)
-        → x ≡ wantedOr0 (s .targeted) (s .target)
-        → positive₁ ≡ over (take (z .total) p) positive₀ → negative₁ ≡ over (take (z .total) q) negative₀
-        → ParsedAs (atEnd size z (progressFrom (z .variables) p q images s)) positive₀ negative₀
-        (record {
-          formula = record {
-            variables = z .variables;
-            clauses = z .total;
-            target = x;
-            permutations = s .permutations;
-            images = images;
-          };
-          answer = Accepted;
-        })
-        positive₁ negative₁
-    unfolding replyTo formulaFrom sliceFrom formulaOf
-    answers-accepted x positive₀ negative₀ positive₁ negative₁ ex ep eq =
-        subst (λ m. ParsedAs m positive₀ negative₀ (record {
-          formula = record {
-            variables = z .variables;
-            clauses = z .total;
-            target = x;
-            permutations = s .permutations;
-            images = images;
-          };
-          answer = Accepted;
-        }) positive₁ negative₁)
-        (sym end-goes)
-        (record {
-          reply = refl;
-          formula = λ i. record {
-            variables = z .variables;
-            clauses = sym (closed-size ∙ all-closed) i;
-            target = ex i;
-            permutations = sym (length-permutations (z .variables) (s .permutations) images) i;
-            images = sym (images-padded (z .variables) (s .permutations) images (st .ready .variables) (st .kept)) i;
-          };
-          positive =
-              ep ∙ ap (λ l. over l positive₀) (ap (λ j. take j p) (sym all-closed)
-              ∙ sym (positives-back (take (s .begun .closed) p) (take (s .begun .closed) q) sizes-same));
-          negative =
-              eq ∙ ap (λ l. over l negative₀) (ap (λ j. take j q) (sym all-closed)
-              ∙ sym (negatives-back (take (s .begun .closed) p) (take (s .begun .closed) q) sizes-same));
-        })
+  pub answers-accepted : {x : ℕ} {clauses₁ : ClauseSlices} → z .total ≤ s .begun .closed
+      → x ≡ Option·getD (wantedOf (s .wanted)) 0
+      → clauses₁ .positive ≡ over (take (z .total) (clauses .positive)) (clauses₀ .positive)
+      → clauses₁ .negative ≡ over (take (z .total) (clauses .negative)) (clauses₀ .negative)
+      → clauses₁ .positiveRest ≡ clauses₀ .positiveRest → clauses₁ .negativeRest ≡ clauses₀ .negativeRest
+      → ParsedAs (atEnd size z (progressFrom (z .variables) clauses images s)) clauses₀
+      (record {
+        formula = record {
+          variables = z .variables;
+          clauses = z .total;
+          target = x;
+          permutations = s .permutations;
+          images = images;
+        };
+        answer = Accepted;
+      })
+      clauses₁
+  unfolding atEnd replyTo formulaFrom slicesFrom formulaOf
+  answers-accepted {x = x} enough ex ep en fp fn =
+      let closed : s .begun .closed ≡ z .total = let a = st .ready .closed in omega arith in
+      let full = closed-size z s clauses images st ∙ closed in
+      let room : s .begun .closed ≤ clauseRoom clauses = le-trans (st .ready .closed) (st .ready .room) in
+      answers-same
+      (ap (λ b. cond b (goes (inputOf (z .variables) (progressFrom (z .variables) clauses images s))) (refuses 7 size))
+      (eq-eqb (length (clausesFrom clauses (s .begun) .closed)) (z .total) full))
+      (record {
+        reply = refl;
+        formula = λ i. record {
+          variables = z .variables;
+          clauses = sym full i;
+          target = ex i;
+          permutations = sym (length-permutations (z .variables) (s .permutations) images) i;
+          images = sym (images-padded (z .variables) (s .permutations) images (st .ready .variables)
+              (st .kept .images-kept)) i;
+        };
+        clauses = λ i. record {
+          positive = (ep ∙ ap (λ l. over l (clauses₀ .positive)) (ap (λ j. take j (clauses .positive)) (sym closed)
+              ∙ sym (positives-front (s .begun .closed) (clauses .positive) (clauses .negative) (omega arith)
+              (omega arith)))) i;
+          negative = (en ∙ ap (λ l. over l (clauses₀ .negative)) (ap (λ j. take j (clauses .negative)) (sym closed)
+              ∙ sym (negatives-front (s .begun .closed) (clauses .positive) (clauses .negative) (omega arith)
+              (omega arith)))) i;
+          positiveRest = fp i;
+          negativeRest = fn i;
+        };
+      })
 
 -- the lines were read: on to the end, or refused
-module _ (n : ℕ) (z : Sizes) (size : ℕ) (p q images : List ℕ) (done : Advanced) (positive₀ negative₀ : List ℕ) where
-  pub finish-on : (s : State) → done ≡ On s → (r : Parsed) (positive₁ negative₁ : List ℕ)
-      → ParsedAs (atEnd size z (progressFrom n p q images s)) positive₀ negative₀ r positive₁ negative₁
-      → ParsedAs (andThen (advancedOf n p q images done) (atEnd size z)) positive₀ negative₀ r positive₁ negative₁
+module _ (z : Sizes) (size : ℕ) (s : Progress) {answer : Checked} {clauses₀ clauses₁ : ClauseSlices} {r : Parsed} where
+  pub finish-on : answer ≡ Passed → ParsedAs (atEnd size z s) clauses₀ r clauses₁
+      → ParsedAs (andThen (stepTo answer s) (atEnd size z)) clauses₀ r clauses₁
   unfolding andThen
-  finish-on s e r positive₁ negative₁ a = subst (λ d. ParsedAs (andThen (advancedOf n p q images d) (atEnd size z))
-      positive₀ negative₀ r positive₁ negative₁) (sym e) a
+  finish-on e a = answers-same (ap (λ b. andThen (stepTo b s) (atEnd size z)) e) a
 
-  pub finish-refused : (code place : ℕ) → done ≡ Refused code place
-      → andThen (advancedOf n p q images done) (atEnd size z) ≡ refuses code place
-  unfolding andThen
-  finish-refused code place e = ap (λ d. andThen (advancedOf n p q images d) (atEnd size z)) e
+pub finish-refused : (z : Sizes) (size : ℕ) (s : Progress) {answer : Checked} {clauses : ClauseSlices} {r : Parsed}
+    {code place : ℕ} → answer ≡ Refused code place → r ≡ refusedWith code place
+    → ParsedAs (andThen (stepTo answer s) (atEnd size z)) clauses r clauses
+unfolding andThen
+finish-refused z size s e f = answers-refused (ap (λ b. andThen (stepTo b s) (atEnd size z)) e) f
 
 -- ---- before the lines
 
 -- slices with room, and the images as they begin
-pub slices-stand : (z : Sizes) (p q images : List ℕ) → Limited (z .variables) (z .total) → HasRoom (z .total) p q
-    → images ≡ replicate 1024 0
-    → Standing z nothingSaid p q images
-slices-stand z p q images l room e =
+pub slices-stand : {z : Sizes} {clauses : ClauseSlices} {images : List ℕ} → Limited z → HasRoom z clauses
+    → images ≡ replicate maxImages 0 → Standing z nothingSaid clauses images
+slices-stand {z = z} {images = images} l has e =
     record {
-      ready =
-          record {
-            variables = l .variables;
-            few = l .few;
-            room-positive = room .room-positive;
-            room-negative = room .room-negative;
-            closed = zero-le;
-          };
+      ready = record { variables = l .variables; few = l .few; room = has .room; closed = zero-le };
       kept =
           record {
-            few = zero-le;
-            places = ap length e ∙ length-replicate {A = ℕ} 1024 0;
-            unused = ap (λ j. drop j images) (zero-mul (z .variables)) ∙ e
-                ∙ ap (λ j. replicate (1024 - j) 0) (sym (zero-mul (z .variables)));
+            variables = l .variables;
+            images-kept =
+                record {
+                  few = zero-le;
+                  places = ap length e ∙ length-replicate {A = ℕ} maxImages 0;
+                  unused = ap (λ j. drop j images) (zero-mul (z .variables)) ∙ e
+                      ∙ ap (λ j. replicate (maxImages - j) 0) (sym (zero-mul (z .variables)));
+                };
           };
     }
+
+-- arrays of zeros have room for as many clauses as they have places
+pub blank-room : (z : Sizes) (k : ℕ) → z .total ≤ k → HasRoom z (clauseSlices (replicate k 0) (replicate k 0))
+blank-room z k le =
+    let size : length (pointsOf (replicate k 0)) ≡ k = ap length (points-blank k) ∙ length-replicate {A = ℕ} k 0 in
+    record { room = subst (λ j. z .total ≤ min j j) (sym size) (omega arith) }

@@ -7,17 +7,18 @@ use native.Mathlib.Omega.{arith}
 use lib.ListN.{length, take, replicate}
 use lib.Seq.{take-all}
 use borrow.Author.Needs.{needs}
+use Rattle.formula.specs.Limits.{maxImages}
 use Rattle.math.specs.Lists.{over}
 use Rattle.export_words.specs.Words.{imagesFrom}
 use Rattle.export_words.proofs.images_from.Statement.{statement}
 use Rattle.export_words.proofs.images_from.Tie as tie
 
-whole : (bytes : List ℕ) (i : ℕ) → i ≡ min (length bytes) 1024 → take i bytes ≡ take 1024 bytes
-whole bytes i e = by (decLt 1024 (length bytes))
+whole : (bytes : List ℕ) (i : ℕ) → i ≡ min (length bytes) maxImages → take i bytes ≡ take maxImages bytes
+whole bytes i e = by (decLt maxImages (length bytes))
   where
-    by : Dec (1024 < length bytes) → take i bytes ≡ take 1024 bytes
-    by (yes lt) = ap (λ (j : ℕ). take j bytes) (let z : i ≡ 1024 = omega arith in z)
-    by (no ge) = take-all i bytes (omega arith) ∙ sym (take-all 1024 bytes (omega arith))
+    by : Dec (maxImages < length bytes) → take i bytes ≡ take maxImages bytes
+    by (yes lt) = ap (λ (j : ℕ). take j bytes) (let z : i ≡ maxImages = omega arith in z)
+    by (no ge) = take-all i bytes (omega arith) ∙ sym (take-all maxImages bytes (omega arith))
 
 least-requires : tie.Need-least-requires
 least-requires c κs = search needs
@@ -29,7 +30,7 @@ returns : tie.Need-returns
 unfolding imagesFrom over
 returns c =
     let bytes = c .before .before .before .before .before .args .bytes .now in
-    c .before .copy-bytes .ensures ∙ ap (λ l. over l (replicate 1024 0)) (whole bytes _ (c .before .before .before .least .ensures))
+    c .before .copy-bytes .ensures ∙ ap (λ l. over l (replicate maxImages 0)) (whole bytes _ (c .before .before .before .least .ensures))
 
 pub images-from-spec : {M : Type 1} → statement M
 images-from-spec = tie.close (tie.spec least-requires (λ c. search needs) copy-bytes-requires returns)

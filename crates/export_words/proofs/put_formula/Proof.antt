@@ -4,6 +4,7 @@ use native.Mathlib.Omega.{arith}
 use lib.ListN.{length}
 use lib.Seq.{take-all}
 use borrow.Author.Needs.{needs}
+use Rattle.formula.specs.Limits.{maxImages}
 use Rattle.math.specs.Lists.{over}
 use Rattle.export_words.proofs.put_formula.Statement.{statement}
 use Rattle.export_words.proofs.put_formula.Tie as tie
@@ -14,14 +15,14 @@ put-words-requires c κs = search needs
 copy-bytes-requires : tie.Need-copy-bytes-requires
 copy-bytes-requires c κs =
     let start = c .before .before .before .before .before .before .before .before .before .before .before .before in
-    let whole : length (start .args .f .images) ≡ 1024 = search needs in
+    let whole : length (start .args .f .images) ≡ maxImages = search needs in
     (start .pre .1, omega arith)
 
 returns : tie.Need-returns
 returns c =
     let a = c .before .before .before .before .before .before .before .before .before .before .before .before .before .before .before .args in
-    let whole : length (a .f .images) ≡ 1024 = search needs in
-    (c .before .before .before .before .before .before .before .put-words .ensures, c .before .before .copy-bytes .ensures ∙ ap (λ l. over l (a .images .now)) (take-all 1024 (a .f .images) (omega arith)))
+    let whole : length (a .f .images) ≡ maxImages = search needs in
+    (c .before .before .before .before .before .before .before .put-words .ensures, c .before .before .copy-bytes .ensures ∙ ap (λ l. over l (a .images .now)) (take-all maxImages (a .f .images) (omega arith)))
 
 pub put-formula-spec : {M : Type 1} → statement M
 put-formula-spec =

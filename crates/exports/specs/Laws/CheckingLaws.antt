@@ -8,13 +8,14 @@ use Prim.Native.Nat.{ℕ, _≤_, _<_}
 use lib.Dec.{leb}
 use lib.ListN.{length}
 use borrow.Author.Tests.{le-leb, lt-leb}
+use Rattle.point_slices.specs.Slices.{ClauseSlices}
 use Rattle.math.specs.Lists.{over}
 use Rattle.formula.specs.declared.Formula.{Formula}
 use Rattle.formula.specs.Reply.{Reply}
 use Rattle.certificate.specs.declared.Entry.{Entry}
 use Rattle.certificate.specs.declared.Opened.{Opened}
 use Rattle.certificate.specs.Certificate.{FileContents}
-use Rattle.certificate.specs.Contract.{handedOut, valueOf, OpenedAs, replyOfOpened}
+use Rattle.certificate.specs.Contract.{handedOut, entryOf, OpenedAs, replyOfOpened}
 use Rattle.checker.specs.declared.Verdict.{Verdict}
 use Rattle.checker.specs.Contract.{replyOfVerdict, CheckedAs}
 use Rattle.export_words.specs.Laws.RoomLaws.{with-room, without-room}
@@ -24,8 +25,8 @@ use Rattle.exports.specs.Checking.{CheckReturns, hasContentsRoom, OpenRe
 
 -- ---- the checker
 
-module _ (f : Formula) (positive negative file reply : List ℕ) where
-  pub tells-no-verdict : length reply < 4 → CheckReturns f positive negative file reply 0 reply
+module _ (f : Formula) (clauses : ClauseSlices) (file reply : List ℕ) where
+  pub tells-no-verdict : length reply < 4 → CheckReturns f clauses file reply 0 reply
   tells-no-verdict lt = record {
     returned = without-room (lt-leb 4 (length reply) lt) 1 0;
     reply = without-room
@@ -33,11 +34,11 @@ module _ (f : Formula) (positive negative file reply : List ℕ) where
   }
 
   pub tells-verdict : (g : Formula) (r : Verdict) (reply₁ : List ℕ) → 4 ≤ length reply → g ≡ f
-      → CheckedAs g positive negative file r
+      → CheckedAs g clauses file r
       → reply₁ ≡ over (wordsOf (replyOfVerdict r)) reply
-      → CheckReturns f positive negative file reply 1 reply₁
+      → CheckReturns f clauses file reply 1 reply₁
   tells-verdict g r reply₁ le same checked words =
-      let v = subst (λ h. CheckedAs h positive negative file r) same checked in
+      let v = subst (λ h. CheckedAs h clauses file r) same checked in
       record {
         returned = with-room (le-leb 4 (length reply) le) 1 0;
         reply = words ∙ ap (λ (a : Reply). over (wordsOf a) reply) (v .reply)
@@ -88,8 +89,8 @@ module _ (entry : Option ℕ) (reply : List ℕ) where
         (lt-leb 2 (length reply) lt) _ reply;
   }
 
-  pub tells-entry : (r : Entry) (reply₁ : List ℕ) → 2 ≤ length reply → valueOf r ≡ entry
-      → reply₁ ≡ over (entryWords (valueOf r)) reply → EntryReturns entry reply 1 reply₁
+  pub tells-entry : (r : Entry) (reply₁ : List ℕ) → 2 ≤ length reply → entryOf r ≡ entry
+      → reply₁ ≡ over (entryWords (entryOf r)) reply → EntryReturns entry reply 1 reply₁
   tells-entry r reply₁ le e words =
       record {
         returned = with-room (le-leb 2 (length reply) le) 1 0;

@@ -7,6 +7,8 @@ use Prim.Native.Nat.{ℕ, _≤_, _<_}
 use lib.Dec.{leb}
 use lib.ListN.{length}
 use borrow.Author.Tests.{le-leb, lt-leb}
+use Rattle.formula.specs.Limits.{maxImages}
+use Rattle.point_slices.specs.Slices.{ClauseSlices}
 use Rattle.math.specs.Lists.{over}
 use Rattle.formula.specs.declared.Formula.{Formula}
 use Rattle.formula.specs.Reply.{Reply}
@@ -17,50 +19,49 @@ use Rattle.exports.specs.Reading.{hasFormulaRoom, ReadReturns}
 use Rattle.export_words.specs.Laws.RoomLaws.{with-room, without-room}
 use Rattle.export_words.specs.Words.{wordsOf, hasRoom, numbersOf}
 
-module _ (text positive negative numbers images reply : List ℕ) where
-  rooms : {a b c : Bool} → hasRoom reply ≡ a → hasRoom numbers ≡ b → leb 1024 (length images) ≡ c
+module _ (text : List ℕ) (clauses : ClauseSlices) (numbers images reply : List ℕ) where
+  rooms : {a b c : Bool} → hasRoom reply ≡ a → hasRoom numbers ≡ b → leb maxImages (length images) ≡ c
       → hasFormulaRoom numbers images reply ≡ (a && b && c)
   rooms p q r = rw (p, q, r)
 
   nothing : hasFormulaRoom numbers images reply ≡ false
-      → ReadReturns text positive negative numbers images reply 0 positive negative numbers images reply
+      → ReadReturns text clauses numbers images reply 0 clauses numbers images reply
   nothing e =
       record {
         returned = without-room e 1 0;
         reply = without-room e _ reply;
         numbers = without-room e _ numbers;
         images = without-room e _ images;
-        positive = without-room e _ positive;
-        negative = without-room e _ negative;
+        clauses = without-room e _ clauses;
       }
 
   pub without-reply : length reply < 4
-      → ReadReturns text positive negative numbers images reply 0 positive negative numbers images reply
+      → ReadReturns text clauses numbers images reply 0 clauses numbers images reply
   without-reply lt = nothing (rooms (lt-leb 4 (length reply) lt) refl refl)
 
   pub without-numbers : 4 ≤ length reply → length numbers < 4
-      → ReadReturns text positive negative numbers images reply 0 positive negative numbers images reply
+      → ReadReturns text clauses numbers images reply 0 clauses numbers images reply
   without-numbers le lt = nothing (rooms (le-leb 4 (length reply) le) (lt-leb 4 (length numbers) lt) refl)
 
-  pub without-images : 4 ≤ length reply → 4 ≤ length numbers → length images < 1024
-      → ReadReturns text positive negative numbers images reply 0 positive negative numbers images reply
+  pub without-images : 4 ≤ length reply → 4 ≤ length numbers → length images < maxImages
+      → ReadReturns text clauses numbers images reply 0 clauses numbers images reply
   without-images le le′ lt = nothing (rooms (le-leb 4 (length reply) le) (le-leb 4 (length numbers) le′)
-      (lt-leb 1024 (length images) lt))
+      (lt-leb maxImages (length images) lt))
 
-  pub tells-reading : (r : Parsed) (positive₁ negative₁ numbers₁ images₁ reply₁ : List ℕ) → 4 ≤ length reply
-      → 4 ≤ length numbers → 1024 ≤ length images
-      → Read text positive negative r positive₁ negative₁
+  pub tells-reading : (r : Parsed) (clauses₁ : ClauseSlices) (numbers₁ images₁ reply₁ : List ℕ) → 4 ≤ length reply
+      → 4 ≤ length numbers → maxImages ≤ length images
+      → Read text clauses r clauses₁
       → numbers₁ ≡ over (numbersOf (r .formula)) numbers
       → images₁ ≡ over (r .formula .images) images
       → reply₁ ≡ over (wordsOf (replyOfParse (r .answer))) reply
-      → ReadReturns text positive negative numbers images reply 1 positive₁ negative₁ numbers₁ images₁ reply₁
-  tells-reading r positive₁ negative₁ numbers₁ images₁ reply₁ le le′ le″ s put-numbers put-images put-reply =
-      let e = rooms (le-leb 4 (length reply) le) (le-leb 4 (length numbers) le′) (le-leb 1024 (length images) le″) in
+      → ReadReturns text clauses numbers images reply 1 clauses₁ numbers₁ images₁ reply₁
+  tells-reading r clauses₁ numbers₁ images₁ reply₁ le le′ le″ s put-numbers put-images put-reply =
+      let e = rooms (le-leb 4 (length reply) le) (le-leb 4 (length numbers) le′) (le-leb maxImages (length images) le″)
+      in
       record {
         returned = with-room e 1 0;
         reply = put-reply ∙ ap (λ (a : Reply). over (wordsOf a) reply) (s .reply) ∙ with-room e _ reply;
         numbers = put-numbers ∙ ap (λ (f : Formula). over (numbersOf f) numbers) (s .formula) ∙ with-room e _ numbers;
         images = put-images ∙ ap (λ (f : Formula). over (f .images) images) (s .formula) ∙ with-room e _ images;
-        positive = s .positive ∙ with-room e _ positive;
-        negative = s .negative ∙ with-room e _ negative;
+        clauses = s .clauses ∙ with-room e _ clauses;
       }

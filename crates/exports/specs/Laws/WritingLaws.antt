@@ -5,6 +5,7 @@ use mathlib.Core.Path.{_≡_, ap, _∙_, subst}
 use Prim.Native.Nat.{ℕ, _≤_, _<_}
 use lib.ListN.{length}
 use borrow.Author.Tests.{le-leb, lt-leb}
+use Rattle.point_slices.specs.Slices.{ClauseSlices, SlotSlices}
 use Rattle.math.specs.Lists.{over}
 use Rattle.formula.specs.declared.Formula.{Formula}
 use Rattle.formula.specs.Reply.{Reply}
@@ -14,9 +15,9 @@ use Rattle.export_words.specs.Laws.RoomLaws.{with-room, without-room}
 use Rattle.export_words.specs.Words.{wordsOf}
 use Rattle.exports.specs.Writing.{WriteReturns}
 
-module _ (f : Formula) (positive negative points falsified depths : List ℕ) (filled : ℕ) (out reply : List ℕ) where
+module _ (f : Formula) (clauses : ClauseSlices) (slots : SlotSlices) (filled : ℕ) (out reply : List ℕ) where
   pub tells-nothing : length reply < 4
-      → WriteReturns f positive negative points falsified depths filled out reply 0 out reply
+      → WriteReturns f clauses slots filled out reply 0 out reply
   tells-nothing lt =
       record {
         returned = without-room (lt-leb 4 (length reply) lt) 1 0;
@@ -25,11 +26,11 @@ module _ (f : Formula) (positive negative points falsified depths : List ℕ) (f
       }
 
   pub tells-writing : (g : Formula) (r : Written) (out₁ reply₁ : List ℕ) → 4 ≤ length reply → g ≡ f
-      → Wrote g positive negative points falsified depths filled out r out₁
+      → Wrote g clauses slots filled out r out₁
       → reply₁ ≡ over (wordsOf (replyOfWritten r)) reply
-      → WriteReturns f positive negative points falsified depths filled out reply 1 out₁ reply₁
+      → WriteReturns f clauses slots filled out reply 1 out₁ reply₁
   tells-writing g r out₁ reply₁ le same wrote words =
-      let w = subst (λ h. Wrote h positive negative points falsified depths filled out r out₁) same wrote in
+      let w = subst (λ h. Wrote h clauses slots filled out r out₁) same wrote in
       record {
         returned = with-room (le-leb 4 (length reply) le) 1 0;
         reply = words ∙ ap (λ (a : Reply). over (wordsOf a) reply) (w .reply)

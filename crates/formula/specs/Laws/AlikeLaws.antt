@@ -7,7 +7,7 @@ use native.Mathlib.Nat.{suc-mul, add-comm}
 use lib.ListN.{take, drop}
 use Rattle.math.specs.Laws.QueueLaws.{same-front}
 use Rattle.points.specs.Points.{numbered}
-use Rattle.point_slices.specs.Slices.{clausesOf}
+use Rattle.point_slices.specs.Slices.{clausesOf, ClauseSlices}
 use Rattle.permutation_theory.specs.Permutations.{Permutation, permutationsIn}
 use Rattle.formula.specs.declared.Formula.{Formula}
 use Rattle.formula.specs.Laws.Alike.{Alike}
@@ -23,8 +23,8 @@ permutations-front n (suc k) a b e =
     ap₂ (λ i l. let p : Permutation = record { images = i } in p ∷ l) (w .0)
     (permutations-front n k (drop n a) (drop n b) (w .1))
 
-module _ (f g : Formula) (positive negative : List ℕ) where
-  pub same-problem : Alike f g → problemOf f positive negative ≡ problemOf g positive negative
+module _ (f g : Formula) (clauses : ClauseSlices) where
+  pub same-problem : Alike f g → problemOf f clauses ≡ problemOf g clauses
   unfolding problemOf
   same-problem a =
       let perms : permutationsIn (f .variables) (f .permutations) (f .images)
@@ -36,5 +36,5 @@ module _ (f g : Formula) (positive negative : List ℕ) where
         total = a .clauses i;
         target = a .target i;
         permutations = perms i;
-        clauses = numbered (clausesOf positive negative);
+        clauses = numbered (clausesOf clauses);
       }

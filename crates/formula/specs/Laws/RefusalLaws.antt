@@ -10,9 +10,9 @@ use borrow.Author.Tests.{leb-true, le-leb, lt-leb, ltb-true, lt-ltb, eqb-true, e
 use Rattle.math.specs.Laws.ListLaws.{and-split, all-at, all-of, map-in}
 use Rattle.math.specs.Laws.PartLaws.{none-failing, all-passing}
 use Rattle.math.specs.Lists.{_∈_, firstFailing}
-use Rattle.points.specs.Points.{Numbered, numbered}
+use Rattle.points.specs.Points.{pointDigits, Numbered, numbered}
 use Rattle.point_slices.specs.Laws.SliceLaws.{clause-sets}
-use Rattle.point_slices.specs.Slices.{clausesOf}
+use Rattle.point_slices.specs.Slices.{clausesOf, ClauseSlices}
 use Rattle.point_theory.specs.Laws.Notions.{ClausesBelow}
 use Rattle.permutation_images.specs.Laws.Contracts.{Movable, Listed}
 use Rattle.permutation_images.specs.Laws.LoopLaws.{length-permutations, clausesIn-numbered}
@@ -21,7 +21,7 @@ use Rattle.permutation_theory.specs.Laws.PermutationLaws.{keeps-complete, permu
 use Rattle.permutation_theory.specs.Permutations.{Permutation, IsPermutation, isPermutation, Keeps, keeps}
 use Rattle.permutation_theory.specs.Permutations.{permutationsIn}
 use Rattle.formula.specs.declared.Formula.{Formula}
-use Rattle.formula.specs.Limits.{maxVariables, maxClauses, maxPermutations}
+use Rattle.formula.specs.Limits.{maxVariables, maxClauses, maxPermutations, maxImages}
 use Rattle.formula.specs.Refusals.{allBelow, Fits, fits, formulaFault, permutationFault, symmetryFault}
 use Rattle.formula.specs.Refusals.{problemFault}
 use Rattle.formula.specs.Reply.{Fault, no-fault, fault, faultAt}
@@ -38,48 +38,49 @@ pub allBelow-complete : (n : ℕ) (xs : List ℕ) → ((x : ℕ) → x ∈ xs �
 unfolding allBelow
 allBelow-complete n xs h = all-of (λ x. ltb x (2 ^ n)) xs (λ x m. lt-ltb x (2 ^ n) (h x m))
 
-module _ (n m : ℕ) (positive negative : List ℕ) where
-  pub fits-sound : fits n m positive negative ≡ true → Fits n m positive negative
+module _ (n m : ℕ) (clauses : ClauseSlices) where
+  pub fits-sound : fits n m clauses ≡ true → Fits n m clauses
   unfolding fits
   fits-sound h =
-      let g = and-split (leb 1 n && leb n maxVariables && leb m maxClauses && eqb (length positive) m
-      && eqb (length negative) m && allBelow n positive) (allBelow n negative) h in
-      let f = and-split (leb 1 n && leb n maxVariables && leb m maxClauses && eqb (length positive) m
-      && eqb (length negative) m) (allBelow n positive) (g .0) in
-      let e = and-split (leb 1 n && leb n maxVariables && leb m maxClauses && eqb (length positive) m)
-      (eqb (length negative) m) (f .0) in
-      let d = and-split (leb 1 n && leb n maxVariables && leb m maxClauses) (eqb (length positive) m) (e .0) in
+      let g = and-split (leb 1 n && leb n maxVariables && leb m maxClauses && eqb (length (clauses .positive)) m
+      && eqb (length (clauses .negative)) m && allBelow n (clauses .positive)) (allBelow n (clauses .negative)) h in
+      let f = and-split (leb 1 n && leb n maxVariables && leb m maxClauses && eqb (length (clauses .positive)) m
+      && eqb (length (clauses .negative)) m) (allBelow n (clauses .positive)) (g .0) in
+      let e = and-split (leb 1 n && leb n maxVariables && leb m maxClauses && eqb (length (clauses .positive)) m)
+      (eqb (length (clauses .negative)) m) (f .0) in
+      let d = and-split (leb 1 n && leb n maxVariables && leb m maxClauses) (eqb (length (clauses .positive)) m) (e .0)
+      in
       let c = and-split (leb 1 n && leb n maxVariables) (leb m maxClauses) (d .0) in
       let b = and-split (leb 1 n) (leb n maxVariables) (c .0) in
       record {
         some-variable = leb-true 1 n (b .0);
         few-variables = leb-true n maxVariables (b .1);
         few-clauses = leb-true m maxClauses (c .1);
-        positive-length = eqb-true (length positive) m (d .1);
-        negative-length = eqb-true (length negative) m (e .1);
-        positive-below = allBelow-sound n positive (f .1);
-        negative-below = allBelow-sound n negative (g .1);
+        positive-length = eqb-true (length (clauses .positive)) m (d .1);
+        negative-length = eqb-true (length (clauses .negative)) m (e .1);
+        positive-below = allBelow-sound n (clauses .positive) (f .1);
+        negative-below = allBelow-sound n (clauses .negative) (g .1);
       }
 
-  pub fits-complete : Fits n m positive negative → fits n m positive negative ≡ true
+  pub fits-complete : Fits n m clauses → fits n m clauses ≡ true
   unfolding fits
   fits-complete f =
       rw (
         le-leb 1 n (f .some-variable),
         le-leb n maxVariables (f .few-variables),
         le-leb m maxClauses (f .few-clauses),
-        eq-eqb (length positive) m (f .positive-length),
-        eq-eqb (length negative) m (f .negative-length),
-        allBelow-complete n positive (f .positive-below),
-        allBelow-complete n negative (f .negative-below),
+        eq-eqb (length (clauses .positive)) m (f .positive-length),
+        eq-eqb (length (clauses .negative)) m (f .negative-length),
+        allBelow-complete n (clauses .positive) (f .positive-below),
+        allBelow-complete n (clauses .negative) (f .negative-below),
       )
 
 -- clauses that refusal 10 lets pass list none but the variables below n
-pub fits-below : (n m : ℕ) (positive negative : List ℕ) → Fits n m positive negative
-    → ClausesBelow n (numbered (clausesOf positive negative))
-fits-below n m positive negative f c k =
-    let w = clause-sets positive negative (c .clause) (subst (λ l. c .clause ∈ l)
-    (clausesIn-numbered 1 (clausesOf positive negative)) (map-in (λ (c : Numbered). c .clause) k)) in
+pub fits-below : (n m : ℕ) (clauses : ClauseSlices) → Fits n m clauses
+    → ClausesBelow n (numbered (clausesOf clauses))
+fits-below n m clauses f c k =
+    let w = clause-sets (clauses .positive) (clauses .negative) (c .clause) (subst (λ l. c .clause ∈ l)
+    (clausesIn-numbered 1 (clausesOf clauses)) (map-in (λ (c : Numbered). c .clause) k)) in
     record {
       positive-below = f .positive-below (c .clause .positive) (w .0);
       negative-below = f .negative-below
@@ -139,6 +140,10 @@ pub passes-few : (n k : ℕ) (bytes : List ℕ) → permutationFault n (permutat
 passes-few n k bytes h = le-trans (le-of-eq (sym (length-permutations n k bytes)))
     (permutation-passes n (permutationsIn n k bytes) h .0)
 
+-- a point has a digit for each variable
+pub digits-suffice : {n : ℕ} → n ≤ maxVariables → n ≤ pointDigits
+digits-suffice few = few
+
 pub passes-listed : (n k : ℕ) (bytes : List ℕ) → n ≤ maxVariables → k * n ≤ length bytes
     → permutationFault n (permutationsIn n k bytes) ≡ no-fault → Listed n k bytes
 passes-listed n k bytes few room h =
@@ -148,13 +153,13 @@ passes-listed n k bytes few room h =
     movable : (e : Permutation) → IsPermutation n e → Movable (e .images)
     movable e q =
         record {
-          size = le-trans (le-of-eq (q .size)) few;
-          within = λ v m. let w = permutation-within n e q v m in (w .0, le-trans (w .1) few);
+          size = le-trans (le-of-eq (q .size)) (digits-suffice few);
+          within = λ v m. let w = permutation-within n e q v m in (w .0, le-trans (w .1) (digits-suffice few));
         }
 
 -- ---- 10, 11 and 12 in order
 
-module _ (f : Formula) (positive negative : List ℕ) where
+module _ (f : Formula) (clauses : ClauseSlices) where
   -- the permutations and the clauses that 11 and 12 look at
   abbrev perms : List Permutation
   perms = permutationsIn (f .variables) (f .permutations) (f .images)
@@ -163,50 +168,50 @@ module _ (f : Formula) (positive negative : List ℕ) where
   eleven = permutationFault (f .variables) perms
 
   abbrev twelve : Fault
-  twelve = symmetryFault (numbered (clausesOf positive negative)) perms
+  twelve = symmetryFault (numbered (clausesOf clauses)) perms
 
-  pub stops-10 : (r : Fault) → r ≡ formulaFault f positive negative → IsFault r → r ≡ problemFault f positive negative
+  pub stops-10 : (r : Fault) → r ≡ formulaFault f clauses → IsFault r → r ≡ problemFault f clauses
   unfolding problemFault
-  stops-10 r e h = answers-first r (formulaFault f positive negative) (eleven ∷ twelve ∷ []) e h
+  stops-10 r e h = answers-first r (formulaFault f clauses) (eleven ∷ twelve ∷ []) e h
 
-  pub stops-11 : (r : Fault) → formulaFault f positive negative ≡ no-fault → r ≡ eleven → IsFault r
-      → r ≡ problemFault f positive negative
+  pub stops-11 : (r : Fault) → formulaFault f clauses ≡ no-fault → r ≡ eleven → IsFault r
+      → r ≡ problemFault f clauses
   unfolding problemFault
-  stops-11 r ten e h = answers-rest r (formulaFault f positive negative) (eleven ∷ twelve ∷ []) ten
+  stops-11 r ten e h = answers-rest r (formulaFault f clauses) (eleven ∷ twelve ∷ []) ten
       (answers-first r eleven (twelve ∷ []) e h)
 
-  pub ends-12 : formulaFault f positive negative ≡ no-fault → eleven ≡ no-fault
-      → twelve ≡ problemFault f positive negative
+  pub ends-12 : formulaFault f clauses ≡ no-fault → eleven ≡ no-fault
+      → twelve ≡ problemFault f clauses
   unfolding problemFault
   ends-12 ten el =
-      answers-rest twelve (formulaFault f positive negative) (eleven ∷ twelve ∷ []) ten
+      answers-rest twelve (formulaFault f clauses) (eleven ∷ twelve ∷ []) ten
       (answers-rest twelve eleven (twelve ∷ []) el (sym (first-last twelve)))
 
   -- what is known once 10 has passed
-  pub formula-passes : formulaFault f positive negative ≡ no-fault
-      → Fits (f .variables) (f .clauses) positive negative × (f .target < 2 ^ f .variables)
+  pub formula-passes : formulaFault f clauses ≡ no-fault
+      → Fits (f .variables) (f .clauses) clauses × (f .target < 2 ^ f .variables)
   unfolding formulaFault
-  formula-passes h = by (fits (f .variables) (f .clauses) positive negative && ltb (f .target) (2 ^ f .variables)) refl
+  formula-passes h = by (fits (f .variables) (f .clauses) clauses && ltb (f .target) (2 ^ f .variables)) refl
       h
     where
-      by : (b : Bool) → fits (f .variables) (f .clauses) positive negative && ltb (f .target) (2 ^ f .variables) ≡ b
+      by : (b : Bool) → fits (f .variables) (f .clauses) clauses && ltb (f .target) (2 ^ f .variables) ≡ b
           → cond b no-fault (fault 10 0) ≡ no-fault
-          → Fits (f .variables) (f .clauses) positive negative × (f .target < 2 ^ f .variables)
+          → Fits (f .variables) (f .clauses) clauses × (f .target < 2 ^ f .variables)
       by true e h =
-          let both = and-split (fits (f .variables) (f .clauses) positive negative) (ltb (f .target) (2 ^ f .variables))
+          let both = and-split (fits (f .variables) (f .clauses) clauses) (ltb (f .target) (2 ^ f .variables))
           e in (
-            fits-sound (f .variables) (f .clauses) positive negative (both .0),
+            fits-sound (f .variables) (f .clauses) clauses (both .0),
             ltb-true (f .target) (2 ^ f .variables)
                 (both .1),
           )
       by false e h = absurd (fault-not-none 10 0 h)
 
-  -- at most 16 permutations of at most 64 variables lie in 1,024 bytes
-  pub images-room : f .variables ≤ maxVariables → length (f .images) ≡ 1024 → f .permutations ≤ maxPermutations
+  -- the images of the most permutations of the most variables
+  pub images-room : f .variables ≤ maxVariables → length (f .images) ≡ maxImages → f .permutations ≤ maxPermutations
       → f .permutations * f .variables ≤ length (f .images)
   images-room few size h = le-trans (mul-le-mul h few) (le-of-eq (sym size))
 
-  pub formula-listed : formulaFault f positive negative ≡ no-fault → eleven ≡ no-fault → length (f .images) ≡ 1024
+  pub formula-listed : formulaFault f clauses ≡ no-fault → eleven ≡ no-fault → length (f .images) ≡ maxImages
       → Listed (f .variables) (f .permutations) (f .images)
   formula-listed ten el size =
       let few = formula-passes ten .0 .few-variables in

@@ -3,6 +3,7 @@ use mathlib.Core.Path.{refl, sym}
 use Prim.Native.Nat.{ℕ}
 use native.Mathlib.Nat.{le-refl}
 use lib.ListN.{length-replicate}
+use Rattle.program_text.specs.Report.{longestText}
 use Rattle.nearest.proofs.main.Statement.{statement}
 use Rattle.nearest.proofs.main.Tie as tie
 
@@ -13,7 +14,7 @@ slice-aggregate-respond-2 : tie.Need-slice-aggregate-respond-2
 slice-aggregate-respond-2 c = refl
 
 respond-requires : tie.Need-respond-requires
-respond-requires c κs = le-refl 312
+respond-requires c κs = le-refl longestText
 
 returns : tie.Need-returns
 returns c = tt

@@ -1,6 +1,9 @@
 -- `permutation_coverage::flip_images` meets its contract: before index i the images are those of the flipped point.
 -- Assumes nothing.
+use mathlib.Core.Path.{_≡_, refl, _∙_}
 use Prim.Native.Nat.{_-_}
+use lib.ListN.{length}
+use Rattle.point_slices.specs.Slices.{pointsOf}
 use Rattle.permutation_coverage.specs.Laws.Coverage.{Turning}
 use Rattle.permutation_coverage.specs.Laws.CoverageLaws.{flip-sends, turning-begins, turning-goes-on}
 use Rattle.permutation_coverage.specs.Laws.CoverageLaws.{turning-ends}
@@ -9,13 +12,13 @@ use Rattle.permutation_coverage.proofs.flip_images.Statement.{statement
 use Rattle.permutation_coverage.proofs.flip_images.Tie as tie
 
 abbrev Inv-loop : tie.InvT-loop
-Inv-loop moved₀ images n permutations v size i₀ moved i = Turning n permutations images v moved₀ i moved
+Inv-loop images n permutations moved₀ v size i₀ moved i = (length moved ≡ length moved₀) × Turning n permutations images v (pointsOf moved₀) i (pointsOf moved)
 
 abbrev μ-loop : tie.MeasureT-loop
-μ-loop moved₀ images n permutations v size i₀ moved i = permutations - i
+μ-loop images n permutations moved₀ v size i₀ moved i = permutations - i
 
 loop-holds : tie.Need-loop-holds Inv-loop μ-loop
-loop-holds c = turning-begins _ _ _ _ _
+loop-holds c = (refl, turning-begins _ _ _ _ _)
 
 flipped-image-requires : tie.Need-flipped-image-requires Inv-loop μ-loop
 flipped-image-requires c κs = flip-sends (c .before .before .before .before .before .pre .0) _ (c .before .before .before .before .before .pre .2) _ (c .before .loop-test .taken)
@@ -24,13 +27,16 @@ put-point-requires : tie.Need-put-point-requires Inv-loop μ-loop
 put-point-requires c κs = search needs
 
 loop-again : tie.Need-loop-again Inv-loop μ-loop
-loop-again c = turning-goes-on _ _ _ _ _ (c .before .before .before .before .before .before .before .before .before .before .pre .0) (c .before .before .before .before .before .before .before .before .before .before .pre .2) (c .before .before .before .before .before .before .before .before .before .before .pre .1) (c .before .before .before .before .before .before .before .loop .inv) (c .before .before .before .before .before .before .loop-test .taken) _ (c .before .before .before .before .flipped-image .ensures) _ (c .before .before .put-point .ensures)
+loop-again c = (
+  c .before .before .put-point .kept .0 ∙ c .before .before .before .before .before .before .before .loop .inv .0,
+  turning-goes-on _ _ _ _ _ (c .before .before .before .before .before .before .before .before .before .before .pre .0) (c .before .before .before .before .before .before .before .before .before .before .pre .2) (c .before .before .before .before .before .before .before .before .before .before .pre .1) (c .before .before .before .before .before .before .before .loop .inv .1) (c .before .before .before .before .before .before .loop-test .taken) _ (c .before .before .before .before .flipped-image .ensures) _ (c .before .before .put-point .ensures .0),
+)
 
 same-length : tie.Need-same-length Inv-loop μ-loop
-same-length c = c .before .loop .inv .lengths
+same-length c = c .before .loop .inv .0
 
 returns : tie.Need-returns Inv-loop μ-loop
-returns c = turning-ends _ _ _ _ _ (c .before .loop .inv) (c .loop-test .left)
+returns c = turning-ends _ _ _ _ _ (c .before .loop .inv .1) (c .loop-test .left)
 
 pub flip-images-spec : {M : Type 1} → statement M
 flip-images-spec =

@@ -4,6 +4,8 @@ use mathlib.Core.Path.{_≡_, refl, sym, _∙_}
 use native.Mathlib.Nat.{le-of-eq, le-trans, lt-of-lt-of-le}
 use lib.ListN.{length}
 use Rattle.math.specs.Bits.{members}
+use Rattle.point_slices.specs.Slices.{pointsOf}
+use Rattle.point_slices.specs.Laws.SliceLaws.{same-count}
 use Rattle.permutation_coverage.specs.Laws.Coverage.{Moving}
 use Rattle.permutation_coverage.specs.Laws.CoverageLaws.{moving-begins, moving-less, moving-goes-on, moving-ends}
 use borrow.Author.Needs.{needs}
@@ -11,10 +13,10 @@ use Rattle.permutation_coverage.proofs.move_images.Statement.{statement
 use Rattle.permutation_coverage.proofs.move_images.Tie as tie
 
 abbrev Inv-loop : tie.InvT-loop
-Inv-loop moved₀ images n permutations x y left₀ v₀ moved left v = (length moved ≡ length moved₀) × Moving n permutations images y left v moved
+Inv-loop images n permutations moved₀ x y left₀ v₀ moved left v = (length moved ≡ length moved₀) × Moving n permutations images y left v (pointsOf moved)
 
 abbrev μ-loop : tie.MeasureT-loop
-μ-loop moved₀ images n permutations x y left₀ v₀ moved left v = length (members n left)
+μ-loop images n permutations moved₀ x y left₀ v₀ moved left v = length (members n left)
 
 differing-requires : tie.Need-differing-requires Inv-loop μ-loop
 differing-requires c κs = search needs
@@ -26,7 +28,7 @@ loop-holds : tie.Need-loop-holds Inv-loop μ-loop
 loop-holds c = (refl, moving-begins (c .before .before .before .before .pre .0 .few) _ (c .before .before .before .before .pre .2) _ _ _ _ (c .before .before .before .before .pre .1) (c .before .differing .ensures) (c .next-variable .ensures))
 
 flip-images-requires : tie.Need-flip-images-requires Inv-loop μ-loop
-flip-images-requires c κs = (c .before .before .before .before .before .before .before .pre .0, le-trans (c .before .before .before .before .before .before .before .pre .1 .enough) (le-of-eq (sym (c .before .before .loop .inv .0))), c .before .loop-test .taken)
+flip-images-requires c κs = (c .before .before .before .before .before .before .before .pre .0, le-trans (c .before .before .before .before .before .before .before .pre .1 .enough) (le-of-eq (sym (same-count _ _ (c .before .before .loop .inv .0)))), c .before .loop-test .taken)
 
 flip-requires : tie.Need-flip-requires Inv-loop μ-loop
 flip-requires c κs = lt-of-lt-of-le (c .before .before .before .before .loop-test .taken) (c .before .before .before .before .before .before .before .before .before .before .pre .0 .few)
@@ -39,7 +41,7 @@ loop-less c = moving-less (c .before .before .before .before .before .before .be
 
 loop-again : tie.Need-loop-again Inv-loop μ-loop
 loop-again c = (
-  c .before .before .before .before .flip-images .kept .0 ∙ c .before .before .before .before .before .before .before .loop .inv .0,
+  c .before .before .before .before .flip-images .kept .1 .1 .1 .0 ∙ c .before .before .before .before .before .before .before .loop .inv .0,
   moving-goes-on (c .before .before .before .before .before .before .before .before .before .before .before .before .pre .0 .few) _ (c .before .before .before .before .before .before .before .before .before .before .before .before .pre .2) (c .before .before .before .before .before .before .before .loop .inv .1) (c .before .before .before .before .before .before .loop-test .taken) (c .before .before .before .before .flip-images .ensures) _ _ (c .before .flip .ensures) (c .next-variable2 .ensures),
 )
 
@@ -47,7 +49,7 @@ same-length : tie.Need-same-length Inv-loop μ-loop
 same-length c = c .before .loop .inv .0
 
 returns : tie.Need-returns Inv-loop μ-loop
-returns c = moving-ends (c .before .before .before .before .before .before .pre .0 .few) _ (c .before .before .before .before .before .before .pre .2) (c .before .loop .inv .1) (c .loop-test .left) (le-trans (c .before .before .before .before .before .before .pre .1 .enough) (le-of-eq (sym (c .before .loop .inv .0))))
+returns c = moving-ends (c .before .before .before .before .before .before .pre .0 .few) _ (c .before .before .before .before .before .before .pre .2) (c .before .loop .inv .1) (c .loop-test .left) (le-trans (c .before .before .before .before .before .before .pre .1 .enough) (le-of-eq (sym (same-count _ _ (c .before .loop .inv .0)))))
 
 pub move-images-spec : {M : Type 1} → statement M
 move-images-spec =

@@ -6,6 +6,7 @@ use Prim.Native.Nat.{ℕ, _+_, _*_, _≤_, _<_, _^_}
 use lib.ListN.{length, getD, take}
 use Rattle.math.specs.Bits.{bit, flip}
 use Rattle.math.specs.Lists.{_∈_, over}
+use Rattle.points.specs.Points.{pointDigits}
 use Rattle.points.specs.Laws.Contracts.{NextVariable}
 use Rattle.permutation_theory.specs.Permutations.{Permutation, IsPermutation, imageOfPoint, permutationsIn}
 use Rattle.permutation_images.specs.Laws.Contracts.{Listed}
@@ -15,9 +16,9 @@ use Rattle.point_index.specs.Laws.Looking.{Askable}
 abbrev pub imagesOf : List Permutation → ℕ → List ℕ
 imagesOf es x = map (λ (e : Permutation). imageOfPoint e x) es
 
--- the images hold `permutations` permutations of n variables, which are those of a word at most
+-- the images hold `permutations` permutations of n variables, which a point has digits for
 pub record Permuting (n permutations : ℕ) (images : List ℕ) : Type 0 where
-  pub few : n ≤ 64
+  pub few : n ≤ pointDigits
   pub listed : Listed n permutations images
   pub proper : (e : Permutation) → e ∈ permutationsIn n permutations images → IsPermutation n e
 
@@ -56,9 +57,9 @@ pub record Moving (n permutations : ℕ) (images : List ℕ) (y left v : ℕ) (m
   pub differ : (i : ℕ) → bit left i ≡ xor (bit reached i) (bit y i)
   pub imaged : take permutations moved ≡ imagesOf (permutationsIn n permutations images) reached
 
--- v is a variable of a word, and its byte in permutation i is there and is the number of one
+-- v is a digit of a point, and its byte in permutation i is there and is the number of one
 pub record Sends (n i v : ℕ) (images : List ℕ) : Type 0 where
-  pub within : v < 64
+  pub within : v < pointDigits
   pub room : i * n + v < length images
   pub low : 1 ≤ getD images (i * n + v) 0
-  pub high : getD images (i * n + v) 0 ≤ 64
+  pub high : getD images (i * n + v) 0 ≤ pointDigits

@@ -19,6 +19,7 @@ use Rattle.math.specs.Laws.OverLaws.{over-none, over-take-next}
 use Rattle.math.specs.Laws.PartLaws.{over-front, take-replicate}
 use Rattle.math.specs.Laws.ScanLaws.{any-ends, any-stops, any-goes-on}
 use Rattle.math.specs.Laws.SetLaws.{members-next}
+use Rattle.points.specs.Points.{pointDigits}
 use Rattle.points.specs.Laws.Contracts.{NextVariable}
 use Rattle.points.specs.Laws.NextLaws.{next-lowest, next-empty}
 use Rattle.permutation_theory.specs.Laws.ImageLaws.{image-flip, image-sound, moved-none, sent-range}
@@ -173,7 +174,7 @@ no-difference true false e = sym e
 no-difference false true e = e
 no-difference false false e = refl
 
-module _ {n permutations : ℕ} {images : List ℕ} (few : n ≤ 64) (y : ℕ) (small : y < 2 ^ n) where
+module _ {n permutations : ℕ} {images : List ℕ} (few : n ≤ pointDigits) (y : ℕ) (small : y < 2 ^ n) where
   pub moving-begins : (x left v : ℕ) (moved : List ℕ) → Imaged n permutations images x moved → left ≡ bitXor x y
       → NextVariable left v → Moving n permutations images y left v moved
   moving-begins x left v moved m is next =

@@ -8,6 +8,7 @@ use native.Mathlib.Omega.{arith}
 use lib.ListN.{length, getD, drop}
 use lib.Seq.{drop-length}
 use borrow.Author.Needs.{needs}
+use Rattle.points.specs.Points.{pointDigits}
 use Rattle.math.specs.Laws.ListLaws.{getD-in}
 use Rattle.permutation_images.specs.Laws.LoopLaws.{moved-step}
 use Rattle.permutation_theory.specs.Permutations.{moved}
@@ -24,16 +25,16 @@ loop-holds : tie.Need-loop-holds Inv-loop μ-loop
 unfolding moved
 loop-holds c = (le-refl _, sym (ap (λ l. moved l (c .before .args .s / 2 ^ length (c .before .args .e .now))) (drop-length (c .before .args .e .now))))
 
--- the number read is one of 1 to 64
+-- the number read is that of a digit of a point
 read : (c : tie.After-shared-slice-known2 Inv-loop μ-loop)
     → (1 ≤ getD (c .before .before .before .before .args .e .now) (c .before .before .loop .i - 1) 0)
-    × (getD (c .before .before .before .before .args .e .now) (c .before .before .loop .i - 1) 0 ≤ 64)
+    × (getD (c .before .before .before .before .args .e .now) (c .before .before .loop .i - 1) 0 ≤ pointDigits)
 read c =
     let start = c .before .before .before .before in
     start .pre .within _ (getD-in (start .args .e .now) (c .before .before .loop .i - 1) 0 (omega arith))
 
 -- and so is its variable's
-index : (c : tie.After-shared-slice-known2 Inv-loop μ-loop) → c .before .before .loop .i - 1 < 64
+index : (c : tie.After-shared-slice-known2 Inv-loop μ-loop) → c .before .before .loop .i - 1 < pointDigits
 index c = omega (arith, c .before .before .before .before .pre .size)
 
 sub-image : tie.Need-sub-image Inv-loop μ-loop

@@ -6,12 +6,13 @@ use lib.Dec.{leb}
 use lib.ListN.{length}
 use Rattle.math.specs.Bits.{bit}
 use Rattle.math.specs.Lists.{_∈_}
+use Rattle.points.specs.Points.{pointDigits}
 use Rattle.permutation_theory.specs.Permutations.{Permutation, permutationsIn}
 
--- at most 64 numbers, each of 1 to 64: every permutation that refusal 11 lets pass is so
+-- no more numbers than a point has digits, each the number of one: every permutation that refusal 11 lets pass is so
 pub record Movable (es : List ℕ) : Type 0 where
-  pub size : length es ≤ 64
-  pub within : (v : ℕ) → v ∈ es → (1 ≤ v) × (v ≤ 64)
+  pub size : length es ≤ pointDigits
+  pub within : (v : ℕ) → v ∈ es → (1 ≤ v) × (v ≤ pointDigits)
 
 -- k such permutations of n numbers each lie in the bytes: refusals 10 and 11 see to it
 pub record Listed (n k : ℕ) (bytes : List ℕ) : Type 0 where

@@ -3,6 +3,7 @@ use mathlib.Core.Path.{sym, _∙_}
 use Prim.Native.Nat.{_<_, _-_}
 use native.Mathlib.Omega.{arith}
 use borrow.Author.Needs.{needs}
+use Rattle.point_slices.specs.Slices.{pointsOf}
 use Rattle.point_index.specs.Laws.IndexLaws.{seeking-begins, seeking-ends, seeking-within, seeking-stops}
 use Rattle.point_index.specs.Laws.IndexLaws.{seeking-less, seeking-goes-on}
 use Rattle.point_index.specs.Laws.Looking.{Seeking}
@@ -10,10 +11,10 @@ use Rattle.point_index.proofs.find.Statement.{statement}
 use Rattle.point_index.proofs.find.Tie as tie
 
 abbrev Inv-loop : tie.InvT-loop
-Inv-loop links heads points n k x link₀ depth₀ value₀ link depth value = Seeking heads n k points links x link depth value
+Inv-loop n points links heads k x link₀ depth₀ value₀ link depth value = Seeking heads n k (pointsOf points) links x link depth value
 
 abbrev μ-loop : tie.MeasureT-loop
-μ-loop links heads points n k x link₀ depth₀ value₀ link depth value = n - depth
+μ-loop n points links heads k x link₀ depth₀ value₀ link depth value = n - depth
 
 head-of-requires : tie.Need-head-of-requires Inv-loop μ-loop
 head-of-requires c κs = c .before .before .pre .indexed .headed

@@ -6,6 +6,7 @@ use mathlib.Core.Path.{_≡_}
 use Prim.Native.Nat.{ℕ, suc, _+_, _*_, _≤_, _<_, _^_}
 use lib.ListN.{length, set, take}
 use Rattle.math.specs.Lists.{has}
+use Rattle.points.specs.Points.{pointDigits}
 use Rattle.point_index.specs.Laws.Index.{headOf, entry, MayStand, Finds, Indexes, Indexed}
 
 -- every link is 0
@@ -32,9 +33,9 @@ pub record Seeking (heads n k : ℕ) (points links : List ℕ) (x s d value : �
   pub read : value ≡ entry links s
   pub small : value < 4294967296
 
--- a point that is to be looked up in an index of points of n digits, which are those of a word at most
+-- a point that is to be looked up in an index of points of n digits, which a point has room for
 pub record Askable (heads n : ℕ) (points links : List ℕ) (x : ℕ) : Type 0 where
-  pub few : n ≤ 64
+  pub few : n ≤ pointDigits
   pub indexed : Indexed heads n points links
   pub narrow : x < 2 ^ n
 

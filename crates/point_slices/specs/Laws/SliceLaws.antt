@@ -1,4 +1,5 @@
--- Laws of clauses in two parallel slices, and of scanning them for the first falsified one. Assumes nothing.
+-- Laws of points and clauses in lent slices, and of scanning clauses for the first falsified one. Those of the first
+-- part alone know how many words a point has. Assumes nothing.
 use mathlib.Core.Bool.{Bool, true, false, cond}
 use mathlib.Core.List.{List, [], _∷_, List·Memᴰ·head, List·Memᴰ·tail, List·Memᴰ·not-nil}
 use mathlib.Core.Logic.{_⊎_, inl, inr}
@@ -9,40 +10,94 @@ use native.Mathlib.Nat.{zero-min, min-zero, suc-min-suc, min-le-left, min-le-rig
 use native.Mathlib.Nat.{le-of-suc-le-suc, not-suc-le-zero}
 use native.Mathlib.Omega.{arith}
 use native.Mathlib.Numerals.{add-one}
-use lib.ListN.{length, getD, drop, drop-of-length-le, List·getD-eq-default}
+use lib.ListN.{length, getD, take, drop, replicate, drop-of-length-le, List·getD-eq-default}
 use lib.Seq.{drop-cons}
 use Rattle.math.specs.Lists.{_∈_}
 use Rattle.points.specs.Points.{Clause, satisfies, numberedFrom, firstFalsified, numberOf}
-use Rattle.point_slices.specs.Slices.{clausesOf, noLiterals}
+use Rattle.point_slices.specs.Slices.{pointsOf, restOf, clauseSlices, wholeClauses, firstClauses, clauseRoom}
+use Rattle.point_slices.specs.Slices.{beside, noLiterals}
 
-pub length-clauses : (ps ns : List ℕ) → length (clausesOf ps ns) ≡ min (length ps) (length ns)
-unfolding clausesOf
+-- ---- words
+
+-- the points of a local array that is 0 throughout
+pub points-blank : (k : ℕ) → pointsOf (replicate k 0) ≡ replicate k 0
+unfolding pointsOf
+points-blank k = refl
+
+pub rest-blank : (k : ℕ) → restOf (replicate k 0) ≡ []
+unfolding restOf
+rest-blank k = refl
+
+-- slices of one length hold equally many points
+pub same-count : (s t : List ℕ) → length s ≡ length t → length (pointsOf s) ≡ length (pointsOf t)
+unfolding pointsOf
+same-count s t e = e
+
+-- the first k clauses, of slices that were handed on in part
+pub first-clauses : (k : ℕ) (p q p′ q′ : List ℕ) → (pointsOf p′ ≡ take k (pointsOf p)) × (restOf p′ ≡ [])
+    → (pointsOf q′ ≡ take k (pointsOf q)) × (restOf q′ ≡ [])
+    → clauseSlices p′ q′ ≡ firstClauses k (clauseSlices p q)
+first-clauses k p q p′ q′ a b = λ i. record {
+  positive = a .0 i;
+  negative = b .0 i;
+  positiveRest = a .1 i;
+  negativeRest = b .1 i;
+}
+
+-- local arrays for k clauses, 0 throughout
+pub clauses-blank : (k : ℕ)
+    → clauseSlices (replicate k 0) (replicate k 0) ≡ wholeClauses (replicate k 0) (replicate k 0)
+clauses-blank k = λ i. record {
+  positive = points-blank k i;
+  negative = points-blank k i;
+  positiveRest = rest-blank k i;
+  negativeRest = rest-blank k i;
+}
+
+-- slices of one length have room for equally many clauses
+pub room-kept : {m : ℕ} (p q p′ q′ : List ℕ) → m ≤ clauseRoom (clauseSlices p q) → length p′ ≡ length p
+    → length q′ ≡ length q → m ≤ clauseRoom (clauseSlices p′ q′)
+room-kept p q p′ q′ few a b = rw (same-count p′ p a, same-count q′ q b) few
+
+-- one word is one point, for the functions that copy points out of structs and back
+pub one-word : (s : List ℕ) → pointsOf s ≡ s
+unfolding pointsOf
+one-word s = refl
+
+pub no-rest : (s : List ℕ) → restOf s ≡ []
+unfolding restOf
+no-rest s = refl
+
+-- ---- clauses side by side
+
+pub length-clauses : (ps ns : List ℕ) → length (beside ps ns) ≡ min (length ps) (length ns)
+unfolding beside
 length-clauses [] ns = sym (zero-min (length ns))
 length-clauses (p ∷ ps) [] = sym (min-zero (suc (length ps)))
 length-clauses (p ∷ ps) (n ∷ ns) = ap suc (length-clauses ps ns) ∙ sym (suc-min-suc (length ps) (length ns))
 
-pub clauses-le : (ps ns : List ℕ) → length (clausesOf ps ns) ≤ length ps
+pub clauses-le : (ps ns : List ℕ) → length (beside ps ns) ≤ length ps
 clauses-le ps ns = le-trans (le-of-eq (length-clauses ps ns)) (min-le-left (length ps) (length ns))
 
 pub clause-at : (ps ns : List ℕ) (i : ℕ) → i < length ps → i < length ns
-    → getD (clausesOf ps ns) i noLiterals ≡ record { positive = getD ps i 0; negative = getD ns i 0 }
-unfolding clausesOf
+    → getD (beside ps ns) i noLiterals ≡ record { positive = getD ps i 0; negative = getD ns i 0 }
+unfolding beside
 clause-at [] ns i hp hn = absurd (not-suc-le-zero hp)
 clause-at (p ∷ ps) [] i hp hn = absurd (not-suc-le-zero hn)
 clause-at (p ∷ ps) (n ∷ ns) zero hp hn = refl
 clause-at (p ∷ ps) (n ∷ ns) (suc i) hp hn = clause-at ps ns i (le-of-suc-le-suc hp) (le-of-suc-le-suc hn)
 
 pub clause-past : (ps ns : List ℕ) (i : ℕ) → (length ps ≤ i) ⊎ (length ns ≤ i)
-    → noLiterals ≡ getD (clausesOf ps ns) i noLiterals
-clause-past ps ns i h = sym (List·getD-eq-default (clausesOf ps ns) noLiterals (past h))
+    → noLiterals ≡ getD (beside ps ns) i noLiterals
+clause-past ps ns i h = sym (List·getD-eq-default (beside ps ns) noLiterals (past h))
   where
-    past : (length ps ≤ i) ⊎ (length ns ≤ i) → length (clausesOf ps ns) ≤ i
+    past : (length ps ≤ i) ⊎ (length ns ≤ i) → length (beside ps ns) ≤ i
     past (inl h) = le-trans (clauses-le ps ns) h
     past (inr h) = le-trans (le-of-eq (length-clauses ps ns)) (le-trans (min-le-right (length ps) (length ns)) h)
 
 -- the two sets of a clause stand in the two slices
-pub clause-sets : (ps ns : List ℕ) (c : Clause) → c ∈ clausesOf ps ns → (c .positive ∈ ps) × (c .negative ∈ ns)
-unfolding clausesOf
+pub clause-sets : (ps ns : List ℕ) (c : Clause) → c ∈ beside ps ns → (c .positive ∈ ps) × (c .negative ∈ ns)
+unfolding beside
 clause-sets [] ns c m = absurd (List·Memᴰ·not-nil m)
 clause-sets (p ∷ ps) [] c m = absurd (List·Memᴰ·not-nil m)
 clause-sets (p ∷ ps) (n ∷ ns) c (List·Memᴰ·head e) = (

@@ -9,6 +9,7 @@ use native.Mathlib.Omega.{arith}
 use Rattle.math.specs.Laws.BitLaws.{bit-above}
 use Rattle.math.specs.Bits.{members, Lowest}
 use Rattle.math.specs.Laws.SetLaws.{members-none}
+use Rattle.points.specs.Points.{pointDigits}
 use Rattle.points.specs.Laws.Contracts.{NextVariable}
 
 -- where the lowest is not below n, a set of numbers below n is empty
@@ -19,9 +20,9 @@ next-empty n left v next within ge = by (ℕ-discrete left 0)
     by (yes e) = e
     by (no ne) = absurd (true≢false (sym (next .lowest ne .member) ∙ bit-above n left v within ge))
 
-module _ (n left v : ℕ) (few : n ≤ 64) (next : NextVariable left v) where
+module _ (n left v : ℕ) (few : n ≤ pointDigits) (next : NextVariable left v) where
   pub next-lowest : v < n → Lowest left v
-  next-lowest lt = next .lowest (λ e. let z : v ≡ 64 = next .empty e in omega arith)
+  next-lowest lt = next .lowest (λ e. let z : v ≡ pointDigits = next .empty e in omega arith)
 
   pub next-none : left < 2 ^ n → n ≤ v → members n left ≡ []
   next-none within ge = ap (members n) (next-empty n left v next within ge) ∙ members-none n

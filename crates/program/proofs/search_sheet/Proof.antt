@@ -1,8 +1,8 @@
--- `program::search_sheet` meets its contract: 4,096 slots are lent. Assumes nothing.
+-- `program::search_sheet` meets its contract: the slots are lent. Assumes nothing.
 use mathlib.Core.Path.{subst}
 use Prim.Native.Nat.{ℕ}
-use lib.ListN.{take}
 use borrow.Author.Needs.{needs}
+use Rattle.point_slices.specs.Slices.{clauseSlices, firstClauses}
 use Rattle.search.specs.Search.{searchReply}
 use Rattle.program_text.specs.Report.{reportOf}
 use Rattle.program_text.specs.Laws.Putting.{Printed}
@@ -17,7 +17,7 @@ returns : tie.Need-returns
 returns c =
     let called = c .before .before .before .before .before .search-with in
     let a = c .before .before .before .before .before .before .before .before .before .before .before .before .before .args in
-    subst (λ (k : ℕ). Printed (reportOf (a .f .variables) (searchReply (a .f) (take (a .f .clauses) (a .positive .now)) (take (a .f .clauses) (a .negative .now)) k)) (a .out .now) (called .result) (called .last .1 .1 .1 .1 .1 .1 .0)) slots-lent (called .ensures)
+    subst (λ (k : ℕ). Printed (reportOf (a .f .variables) (searchReply (a .f) (firstClauses (a .f .clauses) (clauseSlices (a .positive .now) (a .negative .now))) k)) (a .out .now) (called .result) (called .last .1 .1 .1 .1 .1 .1 .0)) slots-lent (called .ensures)
 
 pub search-sheet-spec : {M : Type 1} → statement M
 search-sheet-spec =

@@ -4,7 +4,7 @@ use mathlib.Core.Path.{_≡_, refl}
 use Prim.Native.Nat.{ℕ}
 use Rattle.formula.specs.Reply.{refused, unsatisfiable, unknown}
 use Rattle.dimacs_format.specs.Laws.Example.{satisfiable-text}
-use Rattle.dimacs_format.specs.Reader.{readReply, readFormula, readPositive, readNegative}
+use Rattle.dimacs_format.specs.Reader.{readReply, readFormula, readClauses}
 use Rattle.search.specs.Search.{searchReply}
 use Rattle.solver.specs.Solver.{blank}
 use Rattle.program_text.specs.Report.{reportOf}
@@ -19,7 +19,7 @@ satisfiable-printed =
 
 -- P2: "For `p cnf 3 2`, `c wish 000`, `1 2 0`, `-1 3 0` on four lines it prints just"
 pub prints-example : printed satisfiable-text ≡ satisfiable-printed
-unfolding printed blank readReply readFormula readPositive readNegative searchReply
+unfolding printed blank readReply readFormula readClauses searchReply
 prints-example = refl
 
 -- P4: `s UNSATISFIABLE` and `c slots 10`

@@ -3,75 +3,67 @@ use mathlib.Core.Bool.{Bool, cond}
 use mathlib.Core.List.{List}
 use mathlib.Core.Path.{_≡_, sym, ap, subst}
 use Prim.Native.Nat.{ℕ, _≤_, _<_}
-use lib.ListN.{length, take, replicate, length-replicate}
+use lib.ListN.{length, replicate, length-replicate}
 use borrow.Author.Tests.{lt-ltb, le-ltb}
+use Rattle.point_slices.specs.Laws.SliceLaws.{points-blank, clauses-blank}
+use Rattle.point_slices.specs.Slices.{ClauseSlices, clauseSlices, firstClauses, slotSlices}
 use Rattle.formula.specs.declared.Formula.{Formula}
-use Rattle.formula.specs.Limits.{capacity}
+use Rattle.formula.specs.Limits.{maxVariables, maxClauses, capacity}
 use Rattle.formula.specs.Reply.{Reply, refused, parsed}
 use Rattle.dimacs_format.specs.Laws.Handed.{accepted-handed}
-use Rattle.dimacs_format.specs.Reader.{readReply, readFormula, readPositive, readNegative}
-use Rattle.search.specs.Search.{lentBy, searchReply}
-use Rattle.claims.specs.Claim.{formulaIn, positiveIn, negativeIn}
+use Rattle.dimacs_format.specs.Reader.{readReply, readFormula, readClauses}
+use Rattle.dimacs_lines.specs.declared.Parsed.{Parsed}
+use Rattle.dimacs.specs.Contract.{Read}
+use Rattle.search.specs.Search.{searchReply}
+use Rattle.claims.specs.Claim.{formulaIn, clausesIn}
 use Rattle.solver.specs.Solver.{blank, afterReading, sheetReply}
 use Rattle.program_text.specs.Report.{refusedText, reportOf}
 use Rattle.program_text.specs.Laws.Putting.{Printed}
 use Rattle.program.specs.Program.{slots, maxInput, sheetIn, replyTo, printed}
 
--- 4,096 places in each slot slice are 4,096 slots
-pub slots-lent : lentBy (replicate 4096 0) (replicate 4096 0) (replicate 4096 0) ≡ slots
+-- as many places in each slot slice are as many slots
+pub slots-lent : capacity (slotSlices (replicate slots 0) (replicate slots 0) (replicate slots 0)) ≡ slots
 unfolding capacity
-slots-lent = rw (length-replicate {A = ℕ} 4096 0)
+slots-lent = rw (points-blank slots, length-replicate {A = ℕ} slots 0)
+
+-- the reader is lent arrays of zeros
+pub read-blank : (text : List ℕ) {r : Parsed} {clauses : ClauseSlices}
+    → Read text (clauseSlices (replicate maxClauses 0) (replicate maxClauses 0)) r clauses → Read text blank r clauses
+unfolding blank
+read-blank text {r} {clauses} v = subst (λ lent. Read text lent r clauses) (clauses-blank maxClauses) v
 
 -- ---- a text that is refused
 
 -- the reader's refusal is the reply
-pub reply-refused : (text : List ℕ) (code place : ℕ) → refused code place ≡ readReply text blank blank
+pub reply-refused : (text : List ℕ) (code place : ℕ) → refused code place ≡ readReply text blank
     → sheetReply (sheetIn text) slots ≡ refused code place
 unfolding sheetReply
 reply-refused text code place e =
     let s = sheetIn text in
-    ap (λ (a : Reply). afterReading a a (searchReply (formulaIn s) (positiveIn s) (negativeIn s) slots)) (sym e)
+    ap (λ (a : Reply). afterReading a a (searchReply (formulaIn s) (clausesIn s) slots)) (sym e)
 
 -- ---- a text that is accepted
 
-module _ (text : List ℕ) (e : parsed ≡ readReply text blank blank) (f : Formula)
-    (same : f ≡ readFormula text blank blank) where
-  -- there are at most 64 variables, and room for the clauses
-  pub few-variables : f .variables ≤ 64
-  few-variables = subst (λ (g : Formula). g .variables ≤ 64) (sym same)
-      (accepted-handed text blank blank (sym e) .fits .few-variables)
-
-  pub few-clauses : f .clauses ≤ 4096
-  few-clauses = subst (λ (g : Formula). g .clauses ≤ 4096) (sym same)
-      (accepted-handed text blank blank (sym e) .fits .few-clauses)
+module _ (text : List ℕ) (e : parsed ≡ readReply text blank) (f : Formula) (same : f ≡ readFormula text blank) where
+  -- n is within its limit
+  pub few-variables : f .variables ≤ maxVariables
+  few-variables = subst (λ (g : Formula). g .variables ≤ maxVariables) (sym same)
+      (accepted-handed text blank (sym e) .fits .few-variables)
 
   -- the builder's answer is the reply
-  reply-read : sheetReply (sheetIn text) slots
-      ≡ searchReply (formulaIn (sheetIn text)) (positiveIn (sheetIn text)) (negativeIn (sheetIn text)) slots
-  unfolding sheetReply
-  reply-read =
-      let s = sheetIn text in
-      ap (λ (a : Reply). afterReading a a (searchReply (formulaIn s) (positiveIn s) (negativeIn s) slots)) (sym e)
-
-  pub prints-read : (positive negative : List ℕ) → positive ≡ readPositive text blank blank
-      → negative ≡ readNegative text blank blank → (out₀ : List ℕ) (r : ℕ) (out₁ : List ℕ)
-      → Printed (reportOf (f .variables) (searchReply f (take (f .clauses) positive) (take (f .clauses) negative)
-      slots)) out₀ r out₁
+  pub prints-read : (clauses : ClauseSlices) → clauses ≡ readClauses text blank → (out₀ : List ℕ) (r : ℕ)
+      (out₁ : List ℕ)
+      → Printed (reportOf (f .variables) (searchReply f (firstClauses (f .clauses) clauses) slots)) out₀ r out₁
       → Printed (reportOf (formulaIn (sheetIn text) .variables) (sheetReply (sheetIn text) slots)) out₀ r out₁
-  prints-read positive negative p n out₀ r out₁ q =
-      subst (λ (a : Reply). Printed (reportOf (formulaIn (sheetIn text) .variables) a) out₀ r out₁) (sym reply-read)
-      (subst (λ l. Printed (reportOf (formulaIn (sheetIn text) .variables)
-      (searchReply (formulaIn (sheetIn text)) (positiveIn (sheetIn text)) (take (formulaIn (sheetIn text) .clauses) l)
-      slots)) out₀ r out₁) n
-      (subst (λ l. Printed (reportOf (formulaIn (sheetIn text) .variables)
-      (searchReply (formulaIn (sheetIn text)) (take (formulaIn (sheetIn text) .clauses) l)
-      (take (formulaIn (sheetIn text) .clauses) negative) slots)) out₀ r out₁) p
-      (subst (λ (g : Formula). Printed (reportOf (g .variables)
-      (searchReply g (take (g .clauses) positive) (take (g .clauses) negative) slots)) out₀ r out₁) same q)))
+  unfolding sheetReply
+  prints-read clauses c out₀ r out₁ q =
+      subst (λ l. Printed l out₀ r out₁)
+      (λ i. reportOf (same i .variables) (afterReading (e i) (e i)
+      (searchReply (same i) (firstClauses (same i .clauses) (c i)) slots))) q
 
 -- ---- what is printed
 
-pub prints-refused : (text : List ℕ) (code place : ℕ) → refused code place ≡ readReply text blank blank
+pub prints-refused : (text : List ℕ) (code place : ℕ) → refused code place ≡ readReply text blank
     → (out₀ : List ℕ) (r : ℕ) (out₁ : List ℕ)
     → Printed (refusedText code place) out₀ r out₁
     → Printed (reportOf (formulaIn (sheetIn text) .variables) (sheetReply (sheetIn text) slots)) out₀ r out₁

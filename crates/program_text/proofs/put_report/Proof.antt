@@ -11,8 +11,8 @@ use Rattle.program_text.proofs.put_report.Statement.{statement}
 use Rattle.program_text.proofs.put_report.Tie as tie
 
 -- of equal answers the texts are equal
-printed-for : {r s : Outcome} (n : ℕ) (out₀ : List ℕ) (count : ℕ) (out₁ : List ℕ) → r ≡ s → Printed (reportOf n (replyOfOutcome s)) out₀ count out₁ → Printed (reportOf n (replyOfOutcome r)) out₀ count out₁
-printed-for n out₀ count out₁ e p = subst (λ (q : Outcome). Printed (reportOf n (replyOfOutcome q)) out₀ count out₁) (sym e) p
+printed-for : {r s : Outcome} (n x : ℕ) (out₀ : List ℕ) (count : ℕ) (out₁ : List ℕ) → r ≡ s → Printed (reportOf n (replyOfOutcome x s)) out₀ count out₁ → Printed (reportOf n (replyOfOutcome x r)) out₀ count out₁
+printed-for n x out₀ count out₁ e p = subst (λ (q : Outcome). Printed (reportOf n (replyOfOutcome x q)) out₀ count out₁) (sym e) p
 
 put-satisfiable-requires : tie.Need-put-satisfiable-requires
 put-satisfiable-requires c κs = search needs
@@ -28,19 +28,19 @@ put-refused-requires c κs = search needs
 
 returns : tie.Need-returns
 unfolding reportOf
-returns c = printed-for _ _ _ _ (c .before .before .before .before .before .r .given .1) (c .before .before .put-satisfiable .ensures)
+returns c = printed-for _ _ _ _ _ (c .before .before .before .before .before .answer .given .1) (c .before .before .put-satisfiable .ensures)
 
 returns-2 : tie.Need-returns-2
 unfolding reportOf
-returns-2 c = printed-for _ _ _ _ (c .before .before .before .before .before .r2 .given .1) (c .before .before .put-unsatisfiable .ensures)
+returns-2 c = printed-for _ _ _ _ _ (c .before .before .before .before .before .answer2 .given .1) (c .before .before .put-unsatisfiable .ensures)
 
 returns-3 : tie.Need-returns-3
 unfolding reportOf
-returns-3 c = printed-for _ _ _ _ (c .before .before .before .before .before .r3 .given .1) (c .before .before .put-unknown .ensures)
+returns-3 c = printed-for _ _ _ _ _ (c .before .before .before .before .before .answer3 .given .1) (c .before .before .put-unknown .ensures)
 
 returns-4 : tie.Need-returns-4
 unfolding reportOf
-returns-4 c = printed-for _ _ _ _ (c .before .before .before .before .before .r4 .given .1) (c .before .before .put-refused .ensures)
+returns-4 c = printed-for _ _ _ _ _ (c .before .before .before .before .before .answer4 .given .1) (c .before .before .put-refused .ensures)
 
 pub put-report-spec : {M : Type 1} → statement M
 put-report-spec =

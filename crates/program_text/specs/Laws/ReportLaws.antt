@@ -6,6 +6,7 @@ use Prim.Native.Nat.{ℕ, zero, suc, _+_, _*_, _^_, _≤_, _<_}
 use native.Mathlib.Numerals.{add-one}
 use native.Mathlib.Omega.{arith}
 use lib.ListN.{length, drop, length-append}
+use Rattle.formula.specs.Limits.{maxVariables}
 use Rattle.math.specs.Bits.{bit}
 use Rattle.math.specs.Lists.{over}
 use Rattle.math.specs.Laws.SpliceLaws.{spliced-front}
@@ -14,6 +15,7 @@ use Rattle.program_text.specs.Laws.DecimalLaws.{numeral-length, line-len
 use Rattle.program_text.specs.Laws.Putting.{Put}
 use Rattle.program_text.specs.Report.{sign, literal, literals, satisfiableHead, valuesEnd, changesHead}
 use Rattle.program_text.specs.Report.{slotsBetween, unsatisfiableHead, space, satisfiableText, unsatisfiableText}
+use Rattle.program_text.specs.Report.{longestText}
 use Rattle.program_text.specs.Laws.Putting.{Printed}
 
 -- put at the front of the output
@@ -47,8 +49,8 @@ unfolding sign
 sign-length true = omega arith
 sign-length false = omega arith
 
--- of at most 64 names each takes four bytes at most
-pub literals-length : (x n : ℕ) → n ≤ 64 → length (literals x n) ≤ 4 * n
+-- each name takes four bytes at most
+pub literals-length : (x n : ℕ) → n ≤ maxVariables → length (literals x n) ≤ 4 * n
 unfolding literals
 literals-length x zero le = omega arith
 literals-length x (suc n) le =
@@ -62,7 +64,7 @@ literals-length x (suc n) le =
     )
 
 -- there is room for the next one
-pub literal-room : (at x i n : ℕ) (out : List ℕ) → n ≤ 64 → at + 4 * n ≤ length out → i < n
+pub literal-room : (at x i n : ℕ) (out : List ℕ) → n ≤ maxVariables → at + 4 * n ≤ length out → i < n
     → at + length (literals x i ++ literal x i) ≤ length out
 literal-room at x i n out few room more = omega (
   arith,
@@ -71,10 +73,11 @@ literal-room at x i n out few room more = omega (
       (literals-next x i),
 )
 
--- ---- no text is longer than 312 bytes where there are at most 64 names
+-- ---- no text is longer than the bound
 
 -- 15 in front of the names, four a name, 3 behind them, 38 in the last line
-pub satisfiable-length : (n x d k : ℕ) → n ≤ 64 → d < 10 ^ 10 → k < 10 ^ 10 → length (satisfiableText n x d k) ≤ 312
+pub satisfiable-length : (n x d k : ℕ) → n ≤ maxVariables → d < 10 ^ 10 → k < 10 ^ 10 → length (satisfiableText n x d k)
+    ≤ longestText
 unfolding satisfiableText
 satisfiable-length n x d k few p q =
     omega (
@@ -86,7 +89,7 @@ satisfiable-length n x d k few p q =
       line-length changesHead slotsBetween 9 9 d k p q,
     )
 
-pub unsatisfiable-length : (k : ℕ) → k < 10 ^ 10 → length (unsatisfiableText k) ≤ 312
+pub unsatisfiable-length : (k : ℕ) → k < 10 ^ 10 → length (unsatisfiableText k) ≤ longestText
 unfolding unsatisfiableText
 unsatisfiable-length k p =
     omega (
@@ -97,6 +100,6 @@ unsatisfiable-length k p =
     )
 
 -- there is room for a line with two numbers and a short head
-pub line-room : (head out : List ℕ) (a b : ℕ) → length head ≤ 100 → a < 10 ^ 10 → b < 10 ^ 20 → 312 ≤ length out
+pub line-room : (head out : List ℕ) (a b : ℕ) → length head ≤ 100 → a < 10 ^ 10 → b < 10 ^ 20 → longestText ≤ length out
     → 0 + length (line head a space b) ≤ length out
 line-room head out a b short p q room = omega (arith, line-length head space 9 19 a b p q)

@@ -4,8 +4,9 @@ use mathlib.Core.List.{List, [], _∷_}
 use mathlib.Core.Path.{_≡_, sym, _∙_, subst}
 use Prim.Native.Nat.{ℕ, zero, suc, _≤_, zero-le, suc-le-suc}
 use native.Mathlib.Omega.{arith}
+use lib.ListN.{length}
 use Rattle.points.specs.Points.{numbered}
-use Rattle.point_slices.specs.Slices.{clausesOf}
+use Rattle.point_slices.specs.Slices.{ClauseSlices, SlotSlices, clausesOf}
 use Rattle.permutation_theory.specs.Permutations.{Permutation, permutationsIn}
 use Rattle.permutation_theory.specs.Laws.Symmetries.{symmetry-automorphism}
 use Rattle.formula.specs.declared.Formula.{Formula}
@@ -28,18 +29,18 @@ lent-slot (suc k) e = suc-le-suc zero-le
 
 -- ---- "The number of slots P is the shortest length lent, at most 65,536 used."
 
-pub lent-few : (points falsified depths : ℕ) → capacity points falsified depths ≤ maxSlots
+pub lent-few : (slots : SlotSlices) → capacity slots ≤ maxSlots
 unfolding capacity
-lent-few points falsified depths = omega arith
+lent-few slots = omega arith
 
-pub lent-enough : (k points falsified depths : ℕ) → k ≤ maxSlots → k ≤ points → k ≤ falsified → k ≤ depths
-    → k ≤ capacity points falsified depths
+pub lent-enough : (k : ℕ) (slots : SlotSlices) → k ≤ maxSlots → k ≤ length (slots .points)
+    → k ≤ length (slots .falsified) → k ≤ length (slots .depths) → k ≤ capacity slots
 unfolding capacity
-lent-enough k points falsified depths few a b c = omega arith
+lent-enough k slots few a b c = omega arith
 
 -- ---- no refusal
 
-module _ (f : Formula) (positive negative : List ℕ) (lent : ℕ) where
+module _ (f : Formula) (clauses : ClauseSlices) (lent : ℕ) where
   abbrev perms : List Permutation
   perms = permutationsIn (f .variables) (f .permutations) (f .images)
 
@@ -47,48 +48,48 @@ module _ (f : Formula) (positive negative : List ℕ) (lent : ℕ) where
   row11 = permutationFault (f .variables) perms
 
   abbrev row12 : Fault
-  row12 = symmetryFault (numbered (clausesOf positive negative)) perms
+  row12 = symmetryFault (numbered (clausesOf clauses)) perms
 
-  pub rows : searchFault f positive negative lent ≡ no-fault
-      → (formulaFault f positive negative ≡ no-fault) × (row11 ≡ no-fault) × (row12 ≡ no-fault)
+  pub rows : searchFault f clauses lent ≡ no-fault
+      → (formulaFault f clauses ≡ no-fault) × (row11 ≡ no-fault) × (row12 ≡ no-fault)
       × (slotFault lent ≡ no-fault)
   unfolding searchFault
   rows h =
-      let a = first-split (formulaFault f positive negative) (row11 ∷ row12 ∷ slotFault lent ∷ []) h in
+      let a = first-split (formulaFault f clauses) (row11 ∷ row12 ∷ slotFault lent ∷ []) h in
       let b = first-split row11 (row12 ∷ slotFault lent ∷ []) (a .1) in
       let c = first-split row12 (slotFault lent ∷ []) (b .1) in
       (a .0, b .0, c .0, sym (first-last (slotFault lent)) ∙ c .1)
 
   -- "In the mission an accepted sheet is one that neither reader nor builder refuses"
-  pub ready-of-faults : searchFault f positive negative lent ≡ no-fault → Ready (problemOf f positive negative)
+  pub ready-of-faults : searchFault f clauses lent ≡ no-fault → Ready (problemOf f clauses)
   unfolding problemOf
   ready-of-faults h =
       let r = rows h in
-      let g = formula-passes f positive negative (r .0) in
-      let below = fits-below (f .variables) (f .clauses) positive negative (g .0) in
+      let g = formula-passes f clauses (r .0) in
+      let below = fits-below (f .variables) (f .clauses) clauses (g .0) in
       record {
         target-below = g .1;
         clauses-below = below;
-        symmetric = λ e m. symmetry-automorphism (f .variables) e (numbered (clausesOf positive negative))
+        symmetric = λ e m. symmetry-automorphism (f .variables) e (numbered (clausesOf clauses))
             (permutation-passes (f .variables) perms (r .1) .1 e m)
-            (symmetry-passes (numbered (clausesOf positive negative)) perms (r .2) e m) below;
+            (symmetry-passes (numbered (clausesOf clauses)) perms (r .2) e m) below;
       }
 
-  pub lent-of-faults : searchFault f positive negative lent ≡ no-fault → 1 ≤ lent
+  pub lent-of-faults : searchFault f clauses lent ≡ no-fault → 1 ≤ lent
   lent-of-faults h = lent-slot lent (rows h .3)
 
   -- a reply that is no refusal is the search's
-  pub answered : (r : Reply) → searchReply f positive negative lent ≡ r
-      → ((code place : ℕ) → r ≡ refused code place → ⊥) → WalkAnswers f positive negative lent r
+  pub answered : (r : Reply) → searchReply f clauses lent ≡ r
+      → ((code place : ℕ) → r ≡ refused code place → ⊥) → WalkAnswers f clauses lent r
   unfolding searchReply searchSlots
   answered r e ok =
-      let pb = problemOf f positive negative in
-      let s = not-refused (searchFault f positive negative lent) (walked pb lent .reply) r e ok in
+      let pb = problemOf f clauses in
+      let s = not-refused (searchFault f clauses lent) (walked pb lent .reply) r e ok in
       let room = lent-of-faults s in
       record {
         ready = ready-of-faults s;
         room = room;
         walks = subst (λ r. Walks pb lent (start pb) r (walked pb lent .slots))
-            (sym (unless-none (searchFault f positive negative lent) s (walked pb lent .reply)) ∙ e)
+            (sym (unless-none (searchFault f clauses lent) s (walked pb lent .reply)) ∙ e)
             (walked-walks pb lent room);
       }

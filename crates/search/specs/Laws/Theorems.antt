@@ -8,9 +8,9 @@ use native.Mathlib.Omega.{arith}
 use lib.ListN.{length}
 use Rattle.math.specs.Lists.{_∈_, Distinct}
 use Rattle.points.specs.Points.{distance}
-use Rattle.point_slices.specs.Slices.{pointsOf}
+use Rattle.point_slices.specs.Slices.{ClauseSlices, SlotSlices}
 use Rattle.formula.specs.declared.Formula.{Formula}
-use Rattle.formula.specs.Limits.{maxSlots}
+use Rattle.formula.specs.Limits.{maxSlots, capacity}
 use Rattle.formula.specs.Laws.AlikeLaws.{same-problem}
 use Rattle.formula.specs.Problem.{Problem, problemOf, Unsatisfiable}
 use Rattle.formula.specs.Reply.{Reply, refused, satisfiable, unsatisfiable, unknown}
@@ -19,11 +19,11 @@ use Rattle.search_theory.specs.Laws.Promised.{LowerBound, Nearest, HandedBack, 
 use Rattle.search.specs.Laws.WalkAnswers.{WalkAnswers}
 use Rattle.formula.specs.Laws.Alike.{Alike}
 use Rattle.search_theory.specs.Laws.Bound.{unknown-bound}
-use Rattle.search.specs.Search.{lentBy, searchReply, searchSlots, searchSlice}
+use Rattle.search.specs.Search.{searchReply, searchSlots, searchSlices}
 use Rattle.search_theory.specs.Laws.Closed.{refuted-closed}
 use Rattle.search_theory.specs.Laws.Complete.{refuted, unsatisfiable-exactly}
 use Rattle.search_theory.specs.Laws.Ends.{search-ends, ended-filled, ended-family, walks-reported}
-use Rattle.search.specs.Laws.Inputs.{same-reply, same-slots, same-slice}
+use Rattle.search.specs.Laws.Inputs.{same-reply, same-slots, same-slices}
 use Rattle.search_theory.specs.Laws.Invariants.{Ready, slotAt, Parent, Filled}
 use Rattle.search_theory.specs.Laws.Nearest.{found-nearest, found-slot}
 use Rattle.search_theory.specs.Laws.Room.{never-unknown}
@@ -68,7 +68,7 @@ module _ (pb : Problem) (capacity : ℕ) (ready : Ready pb) (room : 1 ≤ capaci
   depth-bound = invariants .depth-index
 
   -- so it is below the limit of slots, which the number lent respects (lent-few of Accepted)
-  pub depth-small : capacity ≤ maxSlots → (i : ℕ) → i < length l → slotAt l i .depth < 65536
+  pub depth-small : capacity ≤ maxSlots → (i : ℕ) → i < length l → slotAt l i .depth < maxSlots
   depth-small few i lt = lt-of-le-of-lt (depth-bound i lt) (lt-of-lt-of-le lt (le-trans slots-filled few))
 
   -- each slot but the first was filled from an earlier one: by a flip of a variable of that one's clause, one deeper
@@ -78,60 +78,60 @@ module _ (pb : Problem) (capacity : ℕ) (ready : Ready pb) (room : 1 ≤ capaci
 
 -- ---- the builder's reply
 
-module _ (f : Formula) (positive negative : List ℕ) (lent : ℕ) where
+module _ (f : Formula) (clauses : ClauseSlices) (lent : ℕ) where
   abbrev pb : Problem
-  pb = problemOf f positive negative
+  pb = problemOf f clauses
 
   abbrev slots : List Slot
-  slots = searchSlots f positive negative lent
+  slots = searchSlots f clauses lent
 
-  satisfiable-answered : (x d filled : ℕ) → searchReply f positive negative lent ≡ satisfiable x d filled
-      → WalkAnswers f positive negative lent (satisfiable x d filled)
-  satisfiable-answered x d filled e = answered f positive negative lent (satisfiable x d filled) e
+  satisfiable-answered : (x d filled : ℕ) → searchReply f clauses lent ≡ satisfiable x d filled
+      → WalkAnswers f clauses lent (satisfiable x d filled)
+  satisfiable-answered x d filled e = answered f clauses lent (satisfiable x d filled) e
       (λ code place p. let z : _≡_ {A = ℕ} 0 1 = cc in omega arith)
 
-  unsatisfiable-answered : (filled : ℕ) → searchReply f positive negative lent ≡ unsatisfiable filled
-      → WalkAnswers f positive negative lent (unsatisfiable filled)
-  unsatisfiable-answered filled e = answered f positive negative lent (unsatisfiable filled) e
+  unsatisfiable-answered : (filled : ℕ) → searchReply f clauses lent ≡ unsatisfiable filled
+      → WalkAnswers f clauses lent (unsatisfiable filled)
+  unsatisfiable-answered filled e = answered f clauses lent (unsatisfiable filled) e
       (λ code place p. let z : _≡_ {A = ℕ} 0 1 = cc in omega arith)
 
-  unknown-answered : (b filled : ℕ) → searchReply f positive negative lent ≡ unknown b filled
-      → WalkAnswers f positive negative lent (unknown b filled)
-  unknown-answered b filled e = answered f positive negative lent (unknown b filled) e
+  unknown-answered : (b filled : ℕ) → searchReply f clauses lent ≡ unknown b filled
+      → WalkAnswers f clauses lent (unknown b filled)
+  unknown-answered b filled e = answered f clauses lent (unknown b filled) e
       (λ code place p. let z : _≡_ {A = ℕ} 0 1 = cc in omega arith)
 
   -- D3.1: "A choice handed back meets the rules, and every other choice that meets them differs from the client's wish
   -- in at least as many names."
   -- D3.2: "The reported changes are the number of names in which the one handed back differs."
-  pub search-nearest : (x d filled : ℕ) → searchReply f positive negative lent ≡ satisfiable x d filled
-      → Nearest (problemOf f positive negative) x d
+  pub search-nearest : (x d filled : ℕ) → searchReply f clauses lent ≡ satisfiable x d filled
+      → Nearest (problemOf f clauses) x d
   search-nearest x d filled e = let a = satisfiable-answered x d filled e in found-nearest pb lent (a .ready) (a .room)
       (a .walks)
 
   -- the depth of its slot equals its distance
-  pub search-slot : (x d filled : ℕ) → searchReply f positive negative lent ≡ satisfiable x d filled
-      → HandedBack (searchSlots f positive negative lent) x d
+  pub search-slot : (x d filled : ℕ) → searchReply f clauses lent ≡ satisfiable x d filled
+      → HandedBack (searchSlots f clauses lent) x d
   search-slot x d filled e = let a = satisfiable-answered x d filled e in found-slot pb lent (a .ready) (a .room)
       (a .walks)
 
   -- D3.3: "Unless 'no room' is said, 'cannot be met' is said exactly when none of the 2^n choices meets the rules."
-  pub search-exactly : (r : Reply) → searchReply f positive negative lent ≡ r
+  pub search-exactly : (r : Reply) → searchReply f clauses lent ≡ r
       → ((code place : ℕ) → r ≡ refused code place → ⊥) → ((b filled : ℕ) → r ≡ unknown b filled → ⊥)
-      → ((filled : ℕ) → r ≡ unsatisfiable filled → Unsatisfiable (problemOf f positive negative))
-      × (Unsatisfiable (problemOf f positive negative)
-      → r ≡ unsatisfiable (length (searchSlots f positive negative lent)))
+      → ((filled : ℕ) → r ≡ unsatisfiable filled → Unsatisfiable (problemOf f clauses))
+      × (Unsatisfiable (problemOf f clauses)
+      → r ≡ unsatisfiable (length (searchSlots f clauses lent)))
   search-exactly r e ok known =
-      let a = answered f positive negative lent r e ok in unsatisfiable-exactly pb lent (a .ready) (a .room) (a .walks)
+      let a = answered f clauses lent r e ok in unsatisfiable-exactly pb lent (a .ready) (a .room) (a .walks)
       known
 
-  pub search-refutes : (filled : ℕ) → searchReply f positive negative lent ≡ unsatisfiable filled
-      → Unsatisfiable (problemOf f positive negative)
+  pub search-refutes : (filled : ℕ) → searchReply f clauses lent ≡ unsatisfiable filled
+      → Unsatisfiable (problemOf f clauses)
   search-refutes filled e = let a = unsatisfiable-answered filled e in refuted pb lent (a .ready) (a .room) (a .walks)
 
   -- the slots are then a stable set, and as many as reported
-  pub search-closed : (filled : ℕ) → searchReply f positive negative lent ≡ unsatisfiable filled
-      → ClosedSlots (problemOf f positive negative) (searchSlots f positive negative lent)
-      × (filled ≡ length (searchSlots f positive negative lent))
+  pub search-closed : (filled : ℕ) → searchReply f clauses lent ≡ unsatisfiable filled
+      → ClosedSlots (problemOf f clauses) (searchSlots f clauses lent)
+      × (filled ≡ length (searchSlots f clauses lent))
   search-closed filled e =
       let a = unsatisfiable-answered filled e in (
         refuted-closed pb lent (a .ready) (a .room) (a .walks),
@@ -141,38 +141,35 @@ module _ (f : Formula) (positive negative : List ℕ) (lent : ℕ) where
 
   -- D3.7: "'No room' carries a number d, and every choice that meets the rules differs from the wish in at least d
   -- names."
-  pub search-bound : (b filled : ℕ) → searchReply f positive negative lent ≡ unknown b filled
-      → LowerBound (problemOf f positive negative) b
+  pub search-bound : (b filled : ℕ) → searchReply f clauses lent ≡ unknown b filled
+      → LowerBound (problemOf f clauses) b
   search-bound b filled e = let a = unknown-answered b filled e in unknown-bound pb lent (a .ready) (a .room) (a .walks)
 
   -- with a slot for each of the 2 ^ n points it is never said
-  pub search-room : 2 ^ (problemOf f positive negative .variables) ≤ lent → (b filled : ℕ)
-      → searchReply f positive negative lent ≡ unknown b filled → ⊥
+  pub search-room : 2 ^ (problemOf f clauses .variables) ≤ lent → (b filled : ℕ)
+      → searchReply f clauses lent ≡ unknown b filled → ⊥
   search-room large b filled e = let a = unknown-answered b filled e in never-unknown pb lent (a .ready) (a .room) large
       (a .walks) b filled refl
 
 -- D3.8: "Where 2^n is at most 65,536 and at least 2^n slots are lent, it is never said.": in each of the three lent
 -- slices
-pub search-room-lent : (f : Formula) (positive negative points falsified depths : List ℕ)
-    → 2 ^ (problemOf f positive negative .variables) ≤ maxSlots
-    → 2 ^ (problemOf f positive negative .variables) ≤ length (pointsOf points)
-    → 2 ^ (problemOf f positive negative .variables) ≤ length falsified
-    → 2 ^ (problemOf f positive negative .variables) ≤ length depths → (b filled : ℕ)
-    → searchReply f positive negative (lentBy points falsified depths) ≡ unknown b filled → ⊥
-search-room-lent f positive negative points falsified depths few a b c =
-    search-room f positive negative (lentBy points falsified depths)
-    (lent-enough (2 ^ (problemOf f positive negative .variables)) (length (pointsOf points)) (length falsified)
-    (length depths) few a b c)
+pub search-room-lent : (f : Formula) (clauses : ClauseSlices) (slots : SlotSlices)
+    → 2 ^ (problemOf f clauses .variables) ≤ maxSlots
+    → 2 ^ (problemOf f clauses .variables) ≤ length (slots .points)
+    → 2 ^ (problemOf f clauses .variables) ≤ length (slots .falsified)
+    → 2 ^ (problemOf f clauses .variables) ≤ length (slots .depths) → (b filled : ℕ)
+    → searchReply f clauses (capacity slots) ≡ unknown b filled → ⊥
+search-room-lent f clauses slots few a b c =
+    search-room f clauses (capacity slots) (lent-enough (2 ^ (problemOf f clauses .variables)) slots few a b c)
 
 -- "the reader makes unused bytes 0 and nothing else reads them": the reply and the slots depend on n, C, the target and
 -- the listed permutations alone
-module _ (f g : Formula) (positive negative : List ℕ) (lent : ℕ) (a : Alike f g) where
-  pub search-same-reply : searchReply f positive negative lent ≡ searchReply g positive negative lent
-  search-same-reply = same-reply f g positive negative lent (same-problem f g positive negative a)
+module _ (f g : Formula) (clauses : ClauseSlices) (a : Alike f g) where
+  pub search-same-reply : (lent : ℕ) → searchReply f clauses lent ≡ searchReply g clauses lent
+  search-same-reply lent = same-reply f g clauses (same-problem f g clauses a) lent
 
-  pub search-same-slots : searchSlots f positive negative lent ≡ searchSlots g positive negative lent
-  search-same-slots = same-slots f g positive negative lent (same-problem f g positive negative a)
+  pub search-same-slots : (lent : ℕ) → searchSlots f clauses lent ≡ searchSlots g clauses lent
+  search-same-slots lent = same-slots f g clauses (same-problem f g clauses a) lent
 
-  pub search-same-slice : (part : Slot → ℕ) (old : List ℕ)
-      → searchSlice part f positive negative lent old ≡ searchSlice part g positive negative lent old
-  search-same-slice = same-slice f g positive negative lent (same-problem f g positive negative a)
+  pub search-same-slices : (slots : SlotSlices) → searchSlices f clauses slots ≡ searchSlices g clauses slots
+  search-same-slices = same-slices f g clauses (same-problem f g clauses a)

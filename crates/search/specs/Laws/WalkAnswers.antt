@@ -1,6 +1,6 @@
 -- A reply that is no refusal is the search's. Definition alone; Accepted shows that it holds. Assumes nothing.
-use mathlib.Core.List.{List}
 use Prim.Native.Nat.{ℕ, _≤_}
+use Rattle.point_slices.specs.Slices.{ClauseSlices}
 use Rattle.formula.specs.declared.Formula.{Formula}
 use Rattle.formula.specs.Problem.{problemOf}
 use Rattle.formula.specs.Reply.{Reply}
@@ -9,8 +9,8 @@ use Rattle.search_theory.specs.Walk.{start, Walks}
 use Rattle.search.specs.Search.{searchSlots}
 
 -- the reply r for a formula by value is the search's, over a problem that is ready for it and with at least one slot
-pub record WalkAnswers (f : Formula) (positive negative : List ℕ) (lent : ℕ) (r : Reply) : Type 0 where
-  pub ready : Ready (problemOf f positive negative)
+pub record WalkAnswers (f : Formula) (clauses : ClauseSlices) (lent : ℕ) (r : Reply) : Type 0 where
+  pub ready : Ready (problemOf f clauses)
   pub room : 1 ≤ lent
-  pub walks : Walks (problemOf f positive negative) lent (start (problemOf f positive negative)) r
-      (searchSlots f positive negative lent)
+  pub walks : Walks (problemOf f clauses) lent (start (problemOf f clauses)) r
+      (searchSlots f clauses lent)

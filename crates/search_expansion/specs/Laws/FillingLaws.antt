@@ -1,8 +1,8 @@
 -- Laws of filling flips: it begins, one flip is covered, fills a slot or finds no room, and such steps follow one
 -- another. Assumes nothing.
 use mathlib.Core.Bool.{Bool, true, false, true≢false}
-use mathlib.Core.List.{List, [], _∷_, _++_, map, append-assoc}
-use mathlib.Core.Path.{_≡_, refl, sym, ap, _∙_, subst}
+use mathlib.Core.List.{List, [], map, append-assoc, _∷_, _++_}
+use mathlib.Core.Path.{refl, sym, ap, subst, _≡_, _∙_}
 use Prim.Native.Nat.{ℕ, suc, _+_, _^_, _≤_, _<_}
 use native.Mathlib.Nat.{le-trans, le-of-eq}
 use native.Mathlib.Numerals.{add-one}
@@ -16,39 +16,59 @@ use Rattle.math.specs.Laws.OverLaws.{over-none, over-snoc}
 use Rattle.math.specs.Laws.PartLaws.{over-front}
 use Rattle.math.specs.Laws.QueueLaws.{length-snoc}
 use Rattle.math.specs.Laws.SplitLaws.{map-append}
+use Rattle.point_slices.specs.Laws.SliceLaws.{same-count}
 use Rattle.permutation_theory.specs.Laws.PermutationLaws.{covered-sound, covered-complete}
 use Rattle.permutation_theory.specs.Permutations.{Permutation, Covered, covered}
 use Rattle.point_index.specs.Laws.Index.{Indexed}
 use Rattle.point_index.specs.Laws.IndexLaws.{index-stored}
 use Rattle.point_index.specs.Laws.Looking.{Addable, Adds}
-use Rattle.search_expansion.specs.Laws.Filling.{Fillable, Headed, Follows, Reaches, Advances}
-use Rattle.search_expansion.specs.Laws.Memory.{Memory, Holds, Lends, SameLengths, Stored}
+use Rattle.search_expansion.specs.declared.Frame.{Frame}
+use Rattle.search_expansion.specs.declared.Visit.{Visit}
+use Rattle.search_expansion.specs.Laws.Filling.{visited, SlotsIndexed, Fillable, Headed, Follows, Reaches}
+use Rattle.search_expansion.specs.Laws.Filling.{Advances}
+use Rattle.point_slices.specs.Slices.{SlotSlices, slotSlices}
+use Rattle.search_expansion.specs.Laws.Memory.{Holds, Lends, SameSizes, Stored}
+use Rattle.search_theory.specs.Slots.{filledWith}
 use Rattle.search_theory.specs.Walk.{Slot, slot, pointsIn, Expansion, complete, full, Fills, no-more, skipped}
 use Rattle.search_theory.specs.Walk.{filled-next, no-room}
 
 -- ---- the memory
 
-pub lengths-refl : (m : Memory) → SameLengths m m
-lengths-refl m = record { points-length = refl; falsified-length = refl; depths-length = refl }
+pub sizes-refl : (points falsified depths links : List ℕ)
+    → SameSizes points falsified depths links points falsified depths links
+sizes-refl points falsified depths links = record {
+  points-size = refl;
+  falsified-size = refl;
+  depths-size = refl;
+  links-size = refl;
+}
 
-pub lengths-trans : {m₀ m m′ : Memory} → SameLengths m₀ m → SameLengths m m′ → SameLengths m₀ m′
-lengths-trans a b =
+pub sizes-trans : {points₀ falsified₀ depths₀ links₀ points falsified depths links points′ falsified′ depths′
+    links′ : List ℕ} → SameSizes points₀ falsified₀ depths₀ links₀ points falsified depths links
+    → SameSizes points falsified depths links points′ falsified′ depths′ links′
+    → SameSizes points₀ falsified₀ depths₀ links₀ points′ falsified′ depths′ links′
+sizes-trans a b =
     record {
-      points-length = b .points-length ∙ a .points-length;
-      falsified-length = b .falsified-length ∙ a .falsified-length;
-      depths-length = b .depths-length ∙ a .depths-length;
+      points-size = b .points-size ∙ a .points-size;
+      falsified-size = b .falsified-size ∙ a .falsified-size;
+      depths-size = b .depths-size ∙ a .depths-size;
+      links-size = b .links-size ∙ a .links-size;
     }
 
-pub lends-still : {filled : ℕ} {m₀ m : Memory} → Lends filled m₀ → SameLengths m₀ m → Lends filled m
-lends-still a b =
+-- slices of as many words have room for as many slots
+pub lends-still : {k : ℕ} {falsified₀ depths₀ falsified depths : List ℕ} (points₀ points : List ℕ)
+    → Lends k (slotSlices points₀ falsified₀ depths₀) → length points ≡ length points₀
+    → length falsified ≡ length falsified₀ → length depths ≡ length depths₀
+    → Lends k (slotSlices points falsified depths)
+lends-still points₀ points a p f d =
     record {
-      points-room = le-trans (a .points-room) (le-of-eq (sym (b .points-length)));
-      falsified-room = le-trans (a .falsified-room) (le-of-eq (sym (b .falsified-length)));
-      depths-room = le-trans (a .depths-room) (le-of-eq (sym (b .depths-length)));
+      points-room = le-trans (a .points-room) (le-of-eq (same-count points₀ points (sym p)));
+      falsified-room = le-trans (a .falsified-room) (le-of-eq (sym f));
+      depths-room = le-trans (a .depths-room) (le-of-eq (sym d));
     }
 
 -- fewer slots have room too
-pub lends-fewer : {j filled : ℕ} {m : Memory} → j ≤ filled → Lends filled m → Lends j m
+pub lends-fewer : {j filled : ℕ} {m : SlotSlices} → j ≤ filled → Lends filled m → Lends j m
 lends-fewer le r = record {
   points-room = le-trans le (r .points-room);
   falsified-room = le-trans le
@@ -57,7 +77,7 @@ lends-fewer le r = record {
 }
 
 -- the points of the slots are the first of the slice
-pub held-points : {old : Memory} {l : List Slot} {m : Memory} (filled : ℕ) → Holds old l m → length l ≡ filled
+pub held-points : {old : SlotSlices} {l : List Slot} {m : SlotSlices} (filled : ℕ) → Holds old l m → length l ≡ filled
     → take filled (m .points) ≡ pointsIn l
 held-points {old} {l} filled h e = ap (take filled) (h .points-held)
     ∙ over-front filled (pointsIn l) (old .points) (length-map l (λ (s : Slot). s .point) ∙ e)
@@ -86,7 +106,7 @@ slice-more part l s old now filled e n lt =
     ∙ ap (λ xs. over xs old) (sym (map-append part l (s ∷ [])))
 
 -- a slot stored behind those held is held too
-pub held-more : {old : Memory} {l : List Slot} {m m′ : Memory} {s : Slot} (filled : ℕ) → Holds old l m
+pub held-more : {old : SlotSlices} {l : List Slot} {m m′ : SlotSlices} {s : Slot} (filled : ℕ) → Holds old l m
     → length l ≡ filled → Lends (suc filled) m → Stored m filled s m′
     → Holds old (l ++ s ∷ []) m′
 held-more {old} {l} {m} {s = s} filled h n room st =
@@ -94,6 +114,7 @@ held-more {old} {l} {m} {s = s} filled h n room st =
       points-held = st .points-stored
           ∙ slice-more (λ (s : Slot). s .point) l s (old .points) (m .points) filled (h .points-held) n
           (room .points-room);
+      rest-held = st .rest-stored ∙ h .rest-held;
       falsified-held = st .falsified-stored
           ∙ slice-more (λ (s : Slot). s .falsified) l s (old .falsified) (m .falsified) filled (h .falsified-held) n
           (room .falsified-room);
@@ -103,14 +124,30 @@ held-more {old} {l} {m} {s = s} filled h n room st =
     }
 
 -- the first slot stored, nothing is held but it
-pub held-first : {m m′ : Memory} {s : Slot} → Lends 1 m → Stored m 0 s m′ → Holds m (s ∷ []) m′
+pub held-first : {m m′ : SlotSlices} {s : Slot} → Lends 1 m → Stored m 0 s m′ → Holds m (s ∷ []) m′
 held-first {m} room st =
     held-more {l = []} 0 (record {
       points-held = sym (over-none (m .points));
-      falsified-held = sym
-          (over-none (m .falsified));
+      rest-held = refl;
+      falsified-held = sym (over-none (m .falsified));
       depths-held = sym (over-none (m .depths));
     }) refl room st
+
+-- the memory as the definition has it
+pub held-with : {old : SlotSlices} {l : List Slot} {m : SlotSlices} → Holds old l m → m ≡ filledWith l old
+held-with {old} {l} {m} h =
+    ap (λ (x : List ℕ). whole x (m .pointsRest) (m .falsified) (m .depths)) (h .points-held)
+    ∙ ap (λ (x : List ℕ). whole (filledWith l old .points) x (m .falsified) (m .depths)) (h .rest-held)
+    ∙ ap (λ (x : List ℕ). whole (filledWith l old .points) (old .pointsRest) x (m .depths)) (h .falsified-held)
+    ∙ ap (whole (filledWith l old .points) (old .pointsRest) (filledWith l old .falsified)) (h .depths-held)
+  where
+    whole : List ℕ → List ℕ → List ℕ → List ℕ → SlotSlices
+    whole points rest falsified depths = record {
+      points = points;
+      pointsRest = rest;
+      falsified = falsified;
+      depths = depths;
+    }
 
 -- ---- the index
 
@@ -119,31 +156,34 @@ uncovered-new : (es : List Permutation) (ps : List ℕ) (y : ℕ) → covered es
 unfolding covered
 uncovered-new es ps y c = not-true-false (has y ps) (λ h. true≢false (sym (or-left (has y ps) _ h) ∙ c))
 
-module _ (heads n filled : ℕ) (points links : List ℕ) where
-  -- nothing filled, the links are an index of the same points
-  pub follows-same : Indexed heads n (take filled points) links → Follows heads n filled filled points links
-  follows-same t = record { indexed = t; one = omega arith }
+-- nothing filled, the links are an index of the same points
+pub follows-same : {g : Frame} {filled : ℕ} {slots : SlotSlices} {links : List ℕ} → SlotsIndexed g slots links filled
+    → Follows g filled slots links filled
+follows-same t = record { indexed = t; one = omega arith }
 
-  -- a point that is not covered, added to the links and stored behind the points
-  pub follows-added : (es : List Permutation) (y : ℕ) → covered es (take filled points) y ≡ false
-      → filled < length points → (held : Bool) (points′ links′ : List ℕ)
-      → Adds heads n (take filled points) links y held links′ → points′ ≡ set points filled y
-      → Follows heads n filled (filled + 1) points′ links′
-  follows-added es y new lt held points′ links′ a stored =
-      record {
-        indexed = subst (λ (l : List ℕ). Indexed heads n (take (filled + 1) l) links′) (sym stored)
-            (index-stored heads n filled points links′ y lt
-            (a .grown (a .tells ∙ uncovered-new es (take filled points) y new)));
-        one = omega arith;
-      }
+-- a point that is not covered, added to the links and stored behind the points
+pub follows-added : {g : Frame} {filled : ℕ} {slots slots′ : SlotSlices} {s : Slot} {held : Bool}
+    {links links′ : List ℕ}
+    (es : List Permutation) → covered es (take filled (slots .points)) (s .point) ≡ false
+    → filled < length (slots .points)
+    → Adds (g .lookup .heads) (g .lookup .variables) (take filled (slots .points)) links (s .point) held links′
+    → Stored slots filled s slots′ → Follows g filled slots′ links′ (filled + 1)
+follows-added {g} {filled} {slots} {s = s} {links′ = links′} es new lt a stored =
+    record {
+      indexed = subst (λ (l : List ℕ). Indexed (g .lookup .heads) (g .lookup .variables) (take (filled + 1) l) links′)
+          (sym (stored .points-stored))
+          (index-stored (g .lookup .heads) (g .lookup .variables) filled (slots .points) links′ (s .point) lt
+          (a .grown (a .tells ∙ uncovered-new es (take filled (slots .points)) (s .point) new)));
+      one = omega arith;
+    }
 
 -- what lets the flip be added: a slot that there is has a head
-pub fillable-addable : {n permutations : ℕ} {images moved : List ℕ} {capacity x d filled heads : ℕ} {links : List ℕ}
-    {m : Memory} → Fillable n permutations images moved capacity x d filled heads links m
-    → Headed (filled + 1) capacity heads → filled < capacity → (v y : ℕ) → v < n → y ≡ flip x v
-    → Addable heads n filled (m .points) links y
-fillable-addable {n = n} {x = x} {filled = filled} {heads = heads} {links = links} {m = m} f headed lt v y small q =
-    let few : filled < heads = headed filled (omega arith) lt in
+pub fillable-addable : {g : Frame} {images : List ℕ} {slots : SlotSlices} {links moved : List ℕ} {filled : ℕ}
+    {from : Visit} → Fillable g images slots links moved filled from
+    → Headed g (filled + 1) → filled < g .room → (v y : ℕ) → v < g .lookup .variables → y ≡ flip (from .point) v
+    → Addable (g .lookup .heads) (g .lookup .variables) filled (slots .points) links y
+fillable-addable {g} {links = links} {filled = filled} {from = from} f headed lt v y small q =
+    let few : filled < g .lookup .heads = headed filled (omega arith) lt in
     let linked = f .linked in
     let most = f .most in
     let long = f .room .points-room in
@@ -151,8 +191,8 @@ fillable-addable {n = n} {x = x} {filled = filled} {heads = heads} {links = link
       askable = record {
         few = f .coverable .askable .few;
         indexed = f .coverable .askable .indexed;
-        narrow = subst
-            (λ (z : ℕ). z < 2 ^ n) (sym q) (flip-lt n x v (f .coverable .askable .narrow) small);
+        narrow = subst (λ (z : ℕ). z < 2 ^ g .lookup .variables) (sym q)
+            (flip-lt (g .lookup .variables) (from .point) v (f .coverable .askable .narrow) small);
       };
       enough = omega arith;
       small = omega arith;
@@ -166,14 +206,15 @@ abbrev pub ended : Bool → List Slot → Expansion
 ended true w = complete w
 ended false w = full w
 
-module _ (es : List Permutation) (capacity x d : ℕ) where
-  pub advances-begins : (vs : List ℕ) (filled : ℕ) (m : Memory) → Advances es capacity x d vs filled m true vs filled m
+module _ (es : List Permutation) (capacity : ℕ) (from : Visit) where
+  pub advances-begins : (vs : List ℕ) (filled : ℕ) (m : SlotSlices)
+      → Advances es capacity from vs filled m true vs filled m
   advances-begins vs filled m old known w₀ h e = record { waiting = w₀; holds = h; number = e; onward = λ r f. f }
 
-  pub advances-on : {vs₀ vs vs′ : List ℕ} {filled₀ filled filled′ : ℕ} {m₀ m m′ : Memory} {enough : Bool}
-      → Advances es capacity x d vs₀ filled₀ m₀ true vs filled m
-      → Advances es capacity x d vs filled m enough vs′ filled′ m′
-      → Advances es capacity x d vs₀ filled₀ m₀ enough vs′ filled′ m′
+  pub advances-on : {vs₀ vs vs′ : List ℕ} {filled₀ filled filled′ : ℕ} {m₀ m m′ : SlotSlices} {enough : Bool}
+      → Advances es capacity from vs₀ filled₀ m₀ true vs filled m
+      → Advances es capacity from vs filled m enough vs′ filled′ m′
+      → Advances es capacity from vs₀ filled₀ m₀ enough vs′ filled′ m′
   advances-on a b old known w₀ h e =
       let first = a old known w₀ h e in
       let then = b old known (first .waiting) (first .holds) (first .number) in
@@ -185,40 +226,42 @@ module _ (es : List Permutation) (capacity x d : ℕ) where
             (then .onward r f);
       }
 
-  module _ (v : ℕ) (vs : List ℕ) (filled : ℕ) (m : Memory) where
+  module _ (v : ℕ) (vs : List ℕ) (filled : ℕ) (m : SlotSlices) where
     -- W7: ".. if not covered by the filled slots"
-    pub flip-covered : covered es (take filled (m .points)) (flip x v) ≡ true
-        → Advances es capacity x d (v ∷ vs) filled m true vs filled m
+    pub flip-covered : covered es (take filled (m .points)) (flip (from .point) v) ≡ true
+        → Advances es capacity from (v ∷ vs) filled m true vs filled m
     flip-covered c old known w₀ h e =
         record {
           waiting = w₀;
           holds = h;
           number = e;
-          onward = λ r f. skipped (subst (λ ps. Covered es ps (flip x v)) (held-points filled h e)
-              (covered-sound es (take filled (m .points)) (flip x v) c)) f;
+          onward = λ r f. skipped (subst (λ ps. Covered es ps (flip (from .point) v)) (held-points filled h e)
+              (covered-sound es (take filled (m .points)) (flip (from .point) v) c)) f;
         }
 
     uncovered : (l : List Slot) → take filled (m .points) ≡ pointsIn l
-        → covered es (take filled (m .points)) (flip x v) ≡ false → Covered es (pointsIn l) (flip x v) → ⊥
-    uncovered l e c h = true≢false (sym (covered-complete es (take filled (m .points)) (flip x v)
-        (subst (λ ps. Covered es ps (flip x v)) (sym e) h)) ∙ c)
+        → covered es (take filled (m .points)) (flip (from .point) v) ≡ false
+        → Covered es (pointsIn l) (flip (from .point) v) → ⊥
+    uncovered l e c h = true≢false (sym (covered-complete es (take filled (m .points)) (flip (from .point) v)
+        (subst (λ ps. Covered es ps (flip (from .point) v)) (sym e) h)) ∙ c)
 
     -- W8: "If P are filled already: answer no room"
-    pub flip-full : covered es (take filled (m .points)) (flip x v) ≡ false → capacity ≤ filled
-        → Advances es capacity x d (v ∷ vs) filled m false vs filled m
+    pub flip-full : covered es (take filled (m .points)) (flip (from .point) v) ≡ false → capacity ≤ filled
+        → Advances es capacity from (v ∷ vs) filled m false vs filled m
     flip-full c none old known w₀ h e =
         record {
           waiting = w₀;
           holds = h;
           number = e;
-          onward = λ r f. subst (Fills es capacity known x d (v ∷ vs) w₀) (sym f)
+          onward = λ r f. subst (Fills es capacity known (from .point) (from .depth) (v ∷ vs) w₀) (sym f)
               (no-room (uncovered (known ++ w₀) (held-points filled h e) c) (le-trans none (le-of-eq (sym e))));
         }
 
     -- W7: ".. fills the next slot with rule 0 and depth one more"
-    pub flip-filled : {m′ : Memory} (y : ℕ) → covered es (take filled (m .points)) (flip x v) ≡ false
-        → filled < capacity → Lends capacity m → y ≡ flip x v
-        → Stored m filled (slot y 0 (d + 1)) m′ → Advances es capacity x d (v ∷ vs) filled m true vs (filled + 1) m′
+    pub flip-filled : {m′ : SlotSlices} (y : ℕ) → covered es (take filled (m .points)) (flip (from .point) v) ≡ false
+        → filled < capacity → Lends capacity m → y ≡ flip (from .point) v
+        → Stored m filled (visited (record { point = y; depth = from .depth + 1 })) m′
+        → Advances es capacity from (v ∷ vs) filled m true vs (filled + 1) m′
     flip-filled {m′} y c lt room q given old known w₀ h e =
         record {
           waiting = w₀ ++ new ∷ [];
@@ -231,20 +274,21 @@ module _ (es : List Permutation) (capacity x d : ℕ) where
         }
       where
         new : Slot
-        new = slot (flip x v) 0 (suc d)
+        new = slot (flip (from .point) v) 0 (suc (from .depth))
 
-        same : Stored m filled (slot y 0 (d + 1)) m′ → Stored m filled new m′
+        same : Stored m filled (visited (record { point = y; depth = from .depth + 1 })) m′ → Stored m filled new m′
         same st =
             record {
               points-stored = st .points-stored ∙ ap (set (m .points) filled) q;
+              rest-stored = st .rest-stored;
               falsified-stored = st .falsified-stored;
-              depths-stored = st .depths-stored ∙ ap (set (m .depths) filled) (add-one d);
+              depths-stored = st .depths-stored ∙ ap (set (m .depths) filled) (add-one (from .depth));
             }
 
   -- once a flip found no room, those to come do not matter
-  pub advances-stuck : {vs₀ vs : List ℕ} {filled₀ filled : ℕ} {m₀ m : Memory} (vs′ : List ℕ)
-      → Advances es capacity x d vs₀ filled₀ m₀ false vs filled m
-      → Advances es capacity x d vs₀ filled₀ m₀ false vs′ filled m
+  pub advances-stuck : {vs₀ vs : List ℕ} {filled₀ filled : ℕ} {m₀ m : SlotSlices} (vs′ : List ℕ)
+      → Advances es capacity from vs₀ filled₀ m₀ false vs filled m
+      → Advances es capacity from vs₀ filled₀ m₀ false vs′ filled m
   advances-stuck vs′ a old known w₀ h e =
       let b = a old known w₀ h e in record {
         waiting = b .waiting;
@@ -255,8 +299,9 @@ module _ (es : List Permutation) (capacity x d : ℕ) where
 
   -- ---- the end of the flips
 
-  pub advances-ends : {vs₀ : List ℕ} {filled : ℕ} {m : Memory} {enough : Bool} {old : Memory} {known w₀ : List Slot}
-      → (a : Reaches es capacity x d old known w₀ vs₀ enough [] filled m)
-      → Fills es capacity known x d vs₀ w₀ (ended enough (a .waiting))
+  pub advances-ends : {vs₀ : List ℕ} {filled : ℕ} {m : SlotSlices} {enough : Bool} {old : SlotSlices}
+      {known w₀ : List Slot}
+      → (a : Reaches es capacity from old known w₀ vs₀ enough [] filled m)
+      → Fills es capacity known (from .point) (from .depth) vs₀ w₀ (ended enough (a .waiting))
   advances-ends {enough = true} a = a .onward (complete (a .waiting)) no-more
   advances-ends {enough = false} a = a .onward (full (a .waiting)) refl

@@ -9,10 +9,10 @@ use Rattle.search_loop.proofs.outgrown.Statement.{statement}
 use Rattle.search_loop.proofs.outgrown.Tie as tie
 
 returns : tie.Need-returns
-returns c = let a = c .before .before .before .args in sym (ap (λ b. b && ltb (a .heads) (a .filled + a .g .variables)) (lt-ltb (a .heads) (a .g .room) (c .before .if1 .taken)))
+returns c = let a = c .before .before .before .args in sym (ap (λ b. b && ltb (a .g .lookup .heads) (a .filled + a .g .lookup .variables)) (lt-ltb (a .g .lookup .heads) (a .g .room) (c .before .if1 .taken)))
 
 returns-2 : tie.Need-returns-2
-returns-2 c = let a = c .before .before .args in sym (ap (λ b. b && ltb (a .heads) (a .filled + a .g .variables)) (le-ltb (a .heads) (a .g .room) (c .if1 .left)))
+returns-2 c = let a = c .before .before .args in sym (ap (λ b. b && ltb (a .g .lookup .heads) (a .filled + a .g .lookup .variables)) (le-ltb (a .g .lookup .heads) (a .g .room) (c .if1 .left)))
 
 pub outgrown-spec : {M : Type 1} → statement M
 outgrown-spec = tie.close (tie.spec (λ c. search needs) (λ c. search needs) returns returns-2)

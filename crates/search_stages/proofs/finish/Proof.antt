@@ -2,6 +2,8 @@
 -- nothing.
 use mathlib.Core.Path.{refl}
 use borrow.Author.Tests.{leb-true}
+use Prim.Native.Nat.{_*_}
+use Rattle.formula.specs.Limits.{maxSlots}
 use Rattle.check_distinct.specs.Laws.IndexingLaws.{zeros-links}
 use Rattle.search_stages.specs.Laws.StageLaws.{stage-answered, stage-last}
 use borrow.Author.Needs.{needs}
@@ -9,13 +11,13 @@ use Rattle.search_stages.proofs.finish.Statement.{statement}
 use Rattle.search_stages.proofs.finish.Tie as tie
 
 explore-with-requires : tie.Need-explore-with-requires
-explore-with-requires c κs = let pre = c .before .before .before .before .before .before .before .before .before .before .pre in (pre .0, pre .1, pre .2, zeros-links 65536 196608 refl)
+explore-with-requires c κs = let pre = c .before .before .before .before .before .before .before .before .before .before .pre in (pre .0, pre .1, pre .2, zeros-links maxSlots (3 * maxSlots) refl)
 
 returns : tie.Need-returns
-returns c = stage-answered _ _ _ _ (c .before .before .before .before .before .before .before .before .before .before .before .before .before .before .before .before .before .before .before .before .before .pre .0) _ _ _ _ _ _ (c .before .before .before .before .before .before .before .before .before .before .explore-with .ensures) _ (c .before .stage .given .1)
+returns c = stage-answered _ _ _ (c .before .before .before .before .before .before .before .before .before .before .before .before .before .before .before .before .before .before .before .before .before .pre .0) _ _ _ _ _ _ (c .before .before .before .before .before .before .before .before .before .before .explore-with .ensures) _ (c .before .stage .given .1)
 
 returns-2 : tie.Need-returns-2
-returns-2 c = absurd (stage-last _ _ _ _ (c .before .before .before .before .before .before .before .before .before .before .before .before .before .before .before .before .before .before .before .before .before .pre .0) _ _ _ _ _ _ (c .before .before .before .before .before .before .before .before .before .before .explore-with .ensures) _ _ (c .before .stage2 .given .1) (leb-true 65536 65536 refl))
+returns-2 c = absurd (stage-last _ _ _ (c .before .before .before .before .before .before .before .before .before .before .before .before .before .before .before .before .before .before .before .before .before .pre .0) _ _ _ _ _ _ (c .before .before .before .before .before .before .before .before .before .before .explore-with .ensures) _ (c .before .stage2 .given .1) (leb-true maxSlots maxSlots refl))
 
 pub finish-spec : {M : Type 1} → statement M
 finish-spec =

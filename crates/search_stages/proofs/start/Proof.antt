@@ -1,13 +1,15 @@
 -- `search_stages::start` meets its contract: the first slot holds the target, in front of what was there, and the
 -- stages answer from it. Assumes nothing.
 use mathlib.Core.List.{[], _∷_}
-use mathlib.Core.Path.{refl}
-use Rattle.search_expansion.specs.Laws.FillingLaws.{lends-still, lends-fewer, lengths-trans, held-first}
-use Rattle.search_expansion.specs.Laws.Memory.{memory, Holds, SameLengths}
+use mathlib.Core.Path.{refl, _∙_}
+use Prim.Native.Nat.{_*_}
+use Rattle.point_slices.specs.Slices.{slotSlices}
+use Rattle.search_expansion.specs.Laws.FillingLaws.{lends-still, lends-fewer, held-first}
+use Rattle.search_expansion.specs.Laws.Memory.{Holds, Lends}
 use Rattle.search_theory.specs.Walk.{slot}
 use Rattle.check_distinct.specs.Laws.IndexingLaws.{zeros-links}
-use Rattle.search_stages.specs.Laws.StageLaws.{stage-answered, stage-midway, stage-followed, begun-midway}
-use Rattle.search_stages.specs.Laws.StageLaws.{begun-ends}
+use Rattle.search_stages.specs.Laws.StageLaws.{fewHeads, stage-answered, stage-midway, stage-followed}
+use Rattle.search_stages.specs.Laws.StageLaws.{begun-midway, begun-ends}
 use borrow.Author.Needs.{needs}
 use Rattle.search_stages.proofs.start.Statement.{statement}
 use Rattle.search_stages.proofs.start.Tie as tie
@@ -15,19 +17,19 @@ use Rattle.search_stages.proofs.start.Tie as tie
 fill-requires : tie.Need-fill-requires
 fill-requires c κs = search needs
 
--- the target is stored, and the slices are as long as they were
+-- the target is stored, and the slices have room for the others
 stored : (c : tie.After-fill)
     → let a = c .before .before .before .before .before .before .before .before .before .before .args in
-    Holds (memory (a .points .now) (a .falsified .now) (a .depths .now)) (slot (a .g .target) 0 0 ∷ []) (memory (c .fill .last .0) (c .fill .last .1 .0) (c .fill .last .1 .1 .0))
-    × SameLengths (memory (a .points .now) (a .falsified .now) (a .depths .now)) (memory (c .fill .last .0) (c .fill .last .1 .0) (c .fill .last .1 .1 .0))
+    Holds (slotSlices (a .points .now) (a .falsified .now) (a .depths .now)) (slot (a .g .target) 0 0 ∷ []) (slotSlices (c .fill .last .0) (c .fill .last .1 .0) (c .fill .last .1 .1 .0))
+    × Lends (a .g .room) (slotSlices (c .fill .last .0) (c .fill .last .1 .0) (c .fill .last .1 .1 .0))
 stored c =
-    (held-first (lends-fewer (c .before .before .before .before .before .before .before .before .before .before .pre .0 .some) (c .before .before .before .before .before .before .before .before .before .before .pre .1)) (c .fill .ensures), record { points-length = c .fill .kept .0; falsified-length = c .fill .kept .1 .0; depths-length = c .fill .kept .1 .1 .0 })
+    (held-first (lends-fewer (c .before .before .before .before .before .before .before .before .before .before .pre .0 .some) (c .before .before .before .before .before .before .before .before .before .before .pre .1)) (c .fill .ensures), lends-still _ _ (c .before .before .before .before .before .before .before .before .before .before .pre .1) (c .fill .kept .0) (c .fill .kept .1 .0) (c .fill .kept .1 .1 .0))
 
 explore-with-requires : tie.Need-explore-with-requires
 explore-with-requires c κs =
     let pre = c .before .before .before .before .before .before .before .before .before .before .before .before .before .before .before .before .before .before .before .before .pre in
     let first = stored (c .before .before .before .before .before .before .before .before .before .before) in
-    (pre .0, lends-still (pre .1) (first .1), begun-midway _ _ _ _ (pre .0) (first .0), zeros-links 512 1536 refl)
+    (pre .0, first .1, begun-midway _ _ _ (pre .0) (first .0), zeros-links fewHeads (3 * fewHeads) refl)
 
 resume-requires : tie.Need-resume-requires
 resume-requires c κs =
@@ -35,19 +37,28 @@ resume-requires c κs =
     let first = stored (c .before .before .before .before .before .before .before .before .before .before .before .before .before .before .before .before .before .before .before .before .before .before .before .before) in
     let kept = c .before .before .before .before .before .before .before .before .before .before .before .before .before .explore-with .kept .1 .1 .1 .1 in (
       pre .0,
-      lends-still (pre .1) (lengths-trans (first .1) (record { points-length = kept .0; falsified-length = kept .1 .0; depths-length = kept .1 .1 .0 })),
-      stage-midway _ _ _ _ (pre .0) _ _ _ _ _ _ (c .before .before .before .before .before .before .before .before .before .before .before .before .before .explore-with .ensures) _ _ (c .before .before .before .before .stage2 .given .1) (begun-midway _ _ _ _ (pre .0) (first .0)),
+      lends-still _ _ (first .1) (kept .0) (kept .1 .0) (kept .1 .1 .0),
+      stage-midway _ _ _ (pre .0) _ _ _ _ _ _ (c .before .before .before .before .before .before .before .before .before .before .before .before .before .explore-with .ensures) _ (c .before .before .before .before .stage2 .given .1) (begun-midway _ _ _ (pre .0) (first .0)),
     )
 
 returns : tie.Need-returns
 returns c =
     let first = stored (c .before .before .before .before .before .before .before .before .before .before .before .before .before .before .before .before .before .before .before .before .before) in
-    begun-ends _ _ _ _ (c .before .before .before .before .before .before .before .before .before .before .before .before .before .before .before .before .before .before .before .before .before .before .before .before .before .before .before .before .before .before .before .pre .0) (first .0) (stage-answered _ _ _ _ (c .before .before .before .before .before .before .before .before .before .before .before .before .before .before .before .before .before .before .before .before .before .before .before .before .before .before .before .before .before .before .before .pre .0) _ _ _ _ _ _ (c .before .before .before .before .before .before .before .before .before .before .explore-with .ensures) _ (c .before .stage .given .1))
+    begun-ends _ _ _ (c .before .before .before .before .before .before .before .before .before .before .before .before .before .before .before .before .before .before .before .before .before .before .before .before .before .before .before .before .before .before .before .pre .0) (first .0) (stage-answered _ _ _ (c .before .before .before .before .before .before .before .before .before .before .before .before .before .before .before .before .before .before .before .before .before .before .before .before .before .before .before .before .before .before .before .pre .0) _ _ _ _ _ _ (c .before .before .before .before .before .before .before .before .before .before .explore-with .ensures) _ (c .before .stage .given .1))
+
+same-length-4 : tie.Need-same-length-4
+same-length-4 c = c .before .before .before .before .before .before .resume .kept .1 .1 .1 .1 .0 ∙ c .before .before .before .before .before .before .before .before .before .before .before .before .before .before .before .before .before .before .before .before .explore-with .kept .1 .1 .1 .1 .0 ∙ c .before .before .before .before .before .before .before .before .before .before .before .before .before .before .before .before .before .before .before .before .before .before .before .before .before .before .before .before .before .before .before .fill .kept .0
+
+same-length-5 : tie.Need-same-length-5
+same-length-5 c = c .before .before .before .before .before .before .resume .kept .1 .1 .1 .1 .1 .0 ∙ c .before .before .before .before .before .before .before .before .before .before .before .before .before .before .before .before .before .before .before .before .explore-with .kept .1 .1 .1 .1 .1 .0 ∙ c .before .before .before .before .before .before .before .before .before .before .before .before .before .before .before .before .before .before .before .before .before .before .before .before .before .before .before .before .before .before .before .fill .kept .1 .0
+
+same-length-6 : tie.Need-same-length-6
+same-length-6 c = c .before .before .before .before .before .before .resume .kept .1 .1 .1 .1 .1 .1 .0 ∙ c .before .before .before .before .before .before .before .before .before .before .before .before .before .before .before .before .before .before .before .before .explore-with .kept .1 .1 .1 .1 .1 .1 .0 ∙ c .before .before .before .before .before .before .before .before .before .before .before .before .before .before .before .before .before .before .before .before .before .before .before .before .before .before .before .before .before .before .before .fill .kept .1 .1 .0
 
 returns-2 : tie.Need-returns-2
 returns-2 c =
     let first = stored (c .before .before .before .before .before .before .before .before .before .before .before .before .before .before .before .before .before .before .before .before .before .before .before .before .before .before .before .before .before .before .before) in
-    begun-ends _ _ _ _ (c .before .before .before .before .before .before .before .before .before .before .before .before .before .before .before .before .before .before .before .before .before .before .before .before .before .before .before .before .before .before .before .before .before .before .before .before .before .before .before .before .before .pre .0) (first .0) (stage-followed _ _ _ _ (c .before .before .before .before .before .before .before .before .before .before .before .before .before .before .before .before .before .before .before .before .before .before .before .before .before .before .before .before .before .before .before .before .before .before .before .before .before .before .before .before .before .pre .0) _ _ _ _ _ _ (c .before .before .before .before .before .before .before .before .before .before .before .before .before .before .before .before .before .before .before .before .explore-with .ensures) _ _ (c .before .before .before .before .before .before .before .before .before .before .before .stage2 .given .1) (c .before .before .before .before .before .before .resume .ensures))
+    begun-ends _ _ _ (c .before .before .before .before .before .before .before .before .before .before .before .before .before .before .before .before .before .before .before .before .before .before .before .before .before .before .before .before .before .before .before .before .before .before .before .before .before .before .before .before .before .pre .0) (first .0) (stage-followed _ _ _ (c .before .before .before .before .before .before .before .before .before .before .before .before .before .before .before .before .before .before .before .before .before .before .before .before .before .before .before .before .before .before .before .before .before .before .before .before .before .before .before .before .before .pre .0) _ _ _ _ _ _ (c .before .before .before .before .before .before .before .before .before .before .before .before .before .before .before .before .before .before .before .before .explore-with .ensures) _ (c .before .before .before .before .before .before .before .before .before .before .before .stage2 .given .1) (c .before .before .before .before .before .before .resume .ensures))
 
 pub start-spec : {M : Type 1} → statement M
 start-spec =
@@ -63,7 +74,7 @@ start-spec =
     (λ c. search needs)
     (λ c. search needs)
     returns
-    (λ c. search needs)
-    (λ c. search needs)
-    (λ c. search needs)
+    same-length-4
+    same-length-5
+    same-length-6
     returns-2)

@@ -4,8 +4,7 @@ use native.Mathlib.Omega.{arith}
 use lib.ListN.{getD, length-set}
 use Rattle.points.specs.Laws.Contracts.{clauseOf}
 use Rattle.point_slices.specs.Laws.SliceLaws.{falsified-le}
-use Rattle.point_slices.specs.Slices.{clausesOf}
-use Rattle.search_expansion.specs.Laws.Memory.{memory}
+use Rattle.point_slices.specs.Slices.{slotSlices, clauseSlices, clausesOf}
 use Rattle.search_step.specs.Laws.SteppingLaws.{Read, step-met, read-fillable, read-below, read-room, read-goes}
 use Rattle.search_step.specs.Laws.SteppingLaws.{read-stuck}
 use borrow.Author.Needs.{needs}
@@ -22,12 +21,12 @@ distance-requires : tie.Need-distance-requires
 distance-requires c κs = search needs
 
 returns : tie.Need-returns
-returns c = (λ old p w st. step-met _ _ _ _ (c .before .before .before .before .before .before .before .before .before .before .before .before .before .before .pre .0) _ _ (c .before .before .before .before .point-at .ensures) (c .before .before .first-falsified .ensures) (c .before .before .before .before .before .before .before .before .before .before .before .before .before .before .pre .2) w _ (c .before .if1 .taken) (c .distance .ensures) st, tt)
+returns c = (λ old p w st. step-met _ _ _ (c .before .before .before .before .before .before .before .before .before .before .before .before .before .before .pre .0) _ _ (c .before .before .before .before .point-at .ensures) (c .before .before .first-falsified .ensures) (c .before .before .before .before .before .before .before .before .before .before .before .before .before .before .pre .2) w _ (c .before .if1 .taken) (c .distance .ensures) st, tt)
 
 cast-stored : tie.Need-cast-stored
 cast-stored c =
     let a = c .before .before .before .before .before .before .before .before .before .before .before .before .before .args in
-    omega (arith, c .before .first-falsified .ensures, falsified-le (clausesOf (a .positive .now) (a .negative .now)) (c .before .before .before .point-at .result) 0, c .before .before .before .before .before .before .before .before .before .before .before .before .before .pre .0 .clauses)
+    omega (arith, c .before .first-falsified .ensures, falsified-le (clausesOf (clauseSlices (a .positive .now) (a .negative .now))) (c .before .before .before .point-at .result) 0, c .before .before .before .before .before .before .before .before .before .before .before .before .before .pre .0 .few-clauses)
 
 clause-at-requires : tie.Need-clause-at-requires
 clause-at-requires c κs = search needs
@@ -38,8 +37,8 @@ listed-requires c κs = search needs
 -- what is known when the flips are tried
 read : (c : tie.After-listed)
     → let a = c .before .before .before .before .before .before .before .before .before .before .before .before .before .before .before .args in
-    Read (a .g) (a .images .now) (a .positive .now) (a .negative .now) (c .before .before .before .before .before .before .before .before .before .before .before .before .before .before .before .pre .0) (a .at) (c .before .before .before .before .before .point-at .result) (getD (a .depths .now) (a .at) 0)
-    (c .before .before .before .first-falsified .result) (c .listed .result) (clauseOf (c .before .clause-at .result)) (memory (a .points .now) (a .falsified .now) (a .depths .now))
+    Read (a .g) (a .images .now) (clauseSlices (a .positive .now) (a .negative .now)) (c .before .before .before .before .before .before .before .before .before .before .before .before .before .before .before .pre .0) (slotSlices (a .points .now) (a .falsified .now) (a .depths .now)) (a .position)
+    (record { point = c .before .before .before .before .before .point-at .result; depth = getD (a .depths .now) (a .position .at) 0 }) (c .before .before .before .first-falsified .result) (c .listed .result) (clauseOf (c .before .clause-at .result))
 read c =
     record {
       point-read = c .before .before .before .before .before .point-at .ensures;
@@ -54,25 +53,25 @@ expand-requires : tie.Need-expand-requires
 expand-requires c κs =
     let pre = c .before .before .before .before .before .before .before .before .before .before .before .before .before .before .before .before .before .before .before .pre in
     let a = read (c .before .before .before .before) in
-    (read-fillable _ _ _ _ (pre .0) (pre .2) a (pre .3) (pre .4) (pre .1) (pre .6), pre .5, read-below _ _ _ _ (pre .0) (pre .2) a (pre .3))
+    (read-fillable _ _ _ (pre .0) (pre .2) a (pre .3) (pre .4) (pre .1) (pre .6), pre .5, read-below _ _ _ (pre .0) (pre .2) a (pre .3))
 
 same-length-3 : tie.Need-same-length-3
-same-length-3 c = simp length-set at (c .before .before .before .before .before .before .before .before .before .expand .kept .1 .1 .1 .1 .0)
+same-length-3 c = simp length-set at (c .before .before .before .before .before .before .before .before .before .expand .kept .1 .1 .1 .0)
 
 returns-2 : tie.Need-returns-2
 returns-2 c =
     let flips = c .before .before .before .before .before .before .before .before .before .expand .ensures in
-    (read-goes _ _ _ _ (c .before .before .before .before .before .before .before .before .before .before .before .before .before .before .before .before .before .before .before .before .before .before .before .before .before .before .before .before .before .pre .0) (c .before .before .before .before .before .before .before .before .before .before .before .before .before .before .before .before .before .before .before .before .before .before .before .before .before .before .before .before .before .pre .2) (read (c .before .before .before .before .before .before .before .before .before .before .before .before .before .before)) (flips .0) (c .if2 .taken), flips .1)
+    (read-goes _ _ _ (c .before .before .before .before .before .before .before .before .before .before .before .before .before .before .before .before .before .before .before .before .before .before .before .before .before .before .before .before .before .pre .0) (c .before .before .before .before .before .before .before .before .before .before .before .before .before .before .before .before .before .before .before .before .before .before .before .before .before .before .before .before .before .pre .2) (read (c .before .before .before .before .before .before .before .before .before .before .before .before .before .before)) (flips .0) (c .if2 .taken), flips .1)
 
 cast-filled-2 : tie.Need-cast-filled-2
 cast-filled-2 c =
-    omega (arith, read-room _ _ _ _ (c .before .before .before .before .before .before .before .before .before .before .before .before .before .before .before .before .before .before .before .before .before .before .before .before .before .before .before .before .before .pre .0) (c .before .before .before .before .before .before .before .before .before .before .before .before .before .before .before .before .before .before .before .before .before .before .before .before .before .before .before .before .before .pre .2) (read (c .before .before .before .before .before .before .before .before .before .before .before .before .before .before)) (c .before .before .before .before .before .before .before .before .before .expand .ensures .0) (c .before .before .before .before .before .before .before .before .before .before .before .before .before .before .before .before .before .before .before .before .before .before .before .before .before .before .before .before .before .pre .3), c .before .before .before .before .before .before .before .before .before .before .before .before .before .before .before .before .before .before .before .before .before .before .before .before .before .before .before .before .before .pre .0 .most)
+    omega (arith, read-room _ _ _ (c .before .before .before .before .before .before .before .before .before .before .before .before .before .before .before .before .before .before .before .before .before .before .before .before .before .before .before .before .before .pre .0) (c .before .before .before .before .before .before .before .before .before .before .before .before .before .before .before .before .before .before .before .before .before .before .before .before .before .before .before .before .before .pre .2) (read (c .before .before .before .before .before .before .before .before .before .before .before .before .before .before)) (c .before .before .before .before .before .before .before .before .before .expand .ensures .0) (c .before .before .before .before .before .before .before .before .before .before .before .before .before .before .before .before .before .before .before .before .before .before .before .before .before .before .before .before .before .pre .3), c .before .before .before .before .before .before .before .before .before .before .before .before .before .before .before .before .before .before .before .before .before .before .before .before .before .before .before .before .before .pre .0 .most)
 
 same-length-7 : tie.Need-same-length-7
-same-length-7 c = simp length-set at (c .before .before .before .before .before .before .before .before .before .expand .kept .1 .1 .1 .1 .0)
+same-length-7 c = simp length-set at (c .before .before .before .before .before .before .before .before .before .expand .kept .1 .1 .1 .0)
 
 returns-3 : tie.Need-returns-3
-returns-3 c = (read-stuck _ _ _ _ (c .before .before .before .before .before .before .before .before .before .before .before .before .before .before .before .before .before .before .before .before .before .before .before .before .before .before .before .before .before .pre .0) (c .before .before .before .before .before .before .before .before .before .before .before .before .before .before .before .before .before .before .before .before .before .before .before .before .before .before .before .before .before .pre .2) (read (c .before .before .before .before .before .before .before .before .before .before .before .before .before .before)) (c .before .before .before .before .before .before .before .before .before .expand .ensures .0) (c .if2 .left), tt)
+returns-3 c = (read-stuck _ _ _ (c .before .before .before .before .before .before .before .before .before .before .before .before .before .before .before .before .before .before .before .before .before .before .before .before .before .before .before .before .before .pre .0) (c .before .before .before .before .before .before .before .before .before .before .before .before .before .before .before .before .before .before .before .before .before .before .before .before .before .before .before .before .before .pre .2) (read (c .before .before .before .before .before .before .before .before .before .before .before .before .before .before)) (c .before .before .before .before .before .before .before .before .before .expand .ensures .0) (c .if2 .left), tt)
 
 pub process-spec : {M : Type 1} → statement M
 process-spec =

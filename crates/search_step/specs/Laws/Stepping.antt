@@ -1,13 +1,10 @@
 -- What one step of the search does to the memory: the contract of `process`.
 -- Assumes nothing.
-use mathlib.Core.List.{List, _++_}
 use mathlib.Core.Path.{_≡_}
+use mathlib.Core.List.{List, _++_}
 use Prim.Native.Nat.{ℕ, _+_, _*_, _≤_}
-use lib.ListN.{length, getD, take}
+use lib.ListN.{length, getD}
 use Rattle.points.specs.Points.{numbered}
-use Rattle.point_slices.specs.Slices.{clausesOf}
-use Rattle.point_index.specs.Laws.Index.{Indexed}
-use Rattle.permutation_theory.specs.Permutations.{permutationsIn}
 use Rattle.permutation_coverage.specs.Laws.Coverage.{Permuting, Imaged}
 use Rattle.formula.specs.Limits.{maxVariables, maxClauses, maxPermutations, maxSlots}
 use Rattle.formula.specs.Problem.{Problem}
@@ -15,88 +12,100 @@ use Rattle.formula.specs.Reply.{Reply, satisfiable, unsatisfiable, unknown}
 use Rattle.search_step.specs.declared.Conclusion.{Conclusion}
 use Rattle.search_step.specs.declared.Conclusion.the-variants.{Satisfiable, Unsatisfiable, Unknown}
 use Rattle.search_expansion.specs.declared.Frame.{Frame}
+use Rattle.search_step.specs.declared.Position.{Position}
 use Rattle.search_step.specs.declared.Step.{Step}
 use Rattle.search_step.specs.declared.Step.the-variants.{Ends, Goes}
-use Rattle.search_expansion.specs.Laws.Memory.{Memory, Holds}
+use Rattle.search_expansion.specs.Laws.Filling.{listedIn, SlotsIndexed}
+use Rattle.point_slices.specs.Slices.{ClauseSlices, clausesOf, SlotSlices}
+use Rattle.search_expansion.specs.Laws.Memory.{Holds}
 use Rattle.search_theory.specs.Laws.Invariants.{Ready, Invariants}
 use Rattle.search_theory.specs.Walk.{Slot, state, Walks}
 
--- F10: what the code's answer says in document 01's terms
-abbrev pub replyOfConclusion : Conclusion → Reply
-replyOfConclusion (Satisfiable x d filled) = satisfiable x d filled
-replyOfConclusion (Unsatisfiable filled) = unsatisfiable filled
-replyOfConclusion (Unknown b filled) = unknown b filled
+-- F10: what the code's answer says in document 01's terms, beside the point processed last
+abbrev pub replyOfConclusion : ℕ → Conclusion → Reply
+replyOfConclusion x (Satisfiable d filled) = satisfiable x d filled
+replyOfConclusion x (Unsatisfiable filled) = unsatisfiable filled
+replyOfConclusion x (Unknown b filled) = unknown b filled
 
 -- the problem that the frame, the images and the clause slices make
-abbrev pub framed : Frame → List ℕ → List ℕ → List ℕ → Problem
-framed g images positive negative =
+abbrev pub framed : Frame → List ℕ → ClauseSlices → Problem
+framed g images clauses =
     record {
-      variables = g .variables;
-      total = length positive;
+      variables = g .lookup .variables;
+      total = length (clauses .positive);
       target = g .target;
-      permutations = permutationsIn (g .variables) (g .permutations) images;
-      clauses = numbered (clausesOf positive negative);
+      permutations = listedIn g images;
+      clauses = numbered (clausesOf clauses);
     }
 
 -- what is known of it once refusals 10 to 13 have passed
-pub record Searchable (g : Frame) (images positive negative : List ℕ) : Type 0 where
-  pub few : g .variables ≤ maxVariables
-  pub few-permutations : g .permutations ≤ maxPermutations
-  pub permuting : Permuting (g .variables) (g .permutations) images
-  pub clauses : length (clausesOf positive negative) ≤ maxClauses
-  pub ready : Ready (framed g images positive negative)
+pub record Searchable (g : Frame) (images : List ℕ) (clauses : ClauseSlices) : Type 0 where
+  pub few : g .lookup .variables ≤ maxVariables
+  pub few-permutations : g .lookup .permutations ≤ maxPermutations
+  pub permuting : Permuting (g .lookup .variables) (g .lookup .permutations) images
+  pub few-clauses : length (clausesOf clauses) ≤ maxClauses
+  pub ready : Ready (framed g images clauses)
   pub some : 1 ≤ g .room
   pub most : g .room ≤ maxSlots
 
 -- the links are an index of the points of the slots filled, with two links for each head
-pub record Linked (n heads filled : ℕ) (points links : List ℕ) : Type 0 where
-  pub indexed : Indexed heads n (take filled points) links
-  pub linked : heads + 2 * heads ≤ length links
+pub record Linked (g : Frame) (slots : SlotSlices) (links : List ℕ) (filled : ℕ) : Type 0 where
+  pub indexed : SlotsIndexed g slots links filled
+  pub linked : g .lookup .heads + 2 * g .lookup .heads ≤ length links
 
 -- where the step goes on, the links are an index of the points of those filled then
-abbrev pub StillLinked : ℕ → ℕ → Step → List ℕ → List ℕ → Type 0
-StillLinked n heads (Ends a) points links = Unit {0}
-StillLinked n heads (Goes filled) points links = Indexed heads n (take filled points) links
+abbrev pub StillLinked : Frame → SlotSlices → List ℕ → Step → Type 0
+StillLinked g slots links (Ends a) = Unit {0}
+StillLinked g slots links (Goes filled) = SlotsIndexed g slots links filled
 
--- `moved` has the images of the point of the slot of index i, which is the next that is processed
-abbrev pub Next : ℕ → ℕ → List ℕ → List ℕ → ℕ → List ℕ → Type 0
-Next n permutations images points i moved = Imaged n permutations images (getD points i 0) moved
+-- a position: the slot of index i is next, `filled` slots are filled
+abbrev pub position : ℕ → ℕ → Position
+position i filled = record { at = i; filled = filled }
+
+-- the point of the slot that is next
+abbrev pub nextPoint : SlotSlices → Position → ℕ
+nextPoint slots q = getD (slots .points) (q .at) 0
+
+-- `moved` has the images of that point
+abbrev pub Next : Frame → List ℕ → SlotSlices → List ℕ → Position → Type 0
+Next g images slots moved q = Imaged (g .lookup .variables) (g .lookup .permutations) images (nextPoint slots q) moved
 
 module _ (pb : Problem) (capacity : ℕ) where
-  -- the search has come to the slot of index i: in front of what the memory `old` has, m holds the processed slots p, i
-  -- of them, and the waiting slots w, `filled` together
-  pub record Stands (old : Memory) (p w : List Slot) (i filled : ℕ) (m : Memory) : Type 0 where
+  -- the search has come to the position q: in front of what `old` has, m holds the processed slots p, and the waiting
+  -- slots w, the next one first
+  pub record Stands (old : SlotSlices) (p w : List Slot) (m : SlotSlices) (q : Position) : Type 0 where
     pub holds : Holds old (p ++ w) m
-    pub processed : length p ≡ i
-    pub number : length (p ++ w) ≡ filled
+    pub processed : length p ≡ q .at
+    pub number : length (p ++ w) ≡ q .filled
     pub invariants : Invariants pb capacity p w
 
   -- there are slots at which the search stands
-  pub record Midway (i filled : ℕ) (m : Memory) : Type 0 where
-    pub old : Memory
+  pub record Midway (m : SlotSlices) (q : Position) : Type 0 where
+    pub old : SlotSlices
     pub front : List Slot
     pub back : List Slot
-    pub stands : Stands old front back i filled m
+    pub stands : Stands old front back m q
 
   -- it goes on from the state p w, to a state from which it answers what it answers from there
-  pub record GoesOn (old : Memory) (p w : List Slot) (i filled : ℕ) (m : Memory) : Type 0 where
+  pub record GoesOn (old : SlotSlices) (p w : List Slot) (m : SlotSlices) (q : Position) : Type 0 where
     pub front : List Slot
     pub back : List Slot
-    pub stands : Stands old front back i filled m
+    pub stands : Stands old front back m q
     pub onward : (r : Reply) (l : List Slot) → Walks pb capacity (state front back) r l
         → Walks pb capacity (state p w) r l
 
   -- it ends, with an answer, and the memory holds the slots that it leaves
-  pub record Ended (old : Memory) (p w : List Slot) (r : Reply) (m : Memory) : Type 0 where
+  pub record Ended (old : SlotSlices) (p w : List Slot) (r : Reply) (m : SlotSlices) : Type 0 where
     pub slots : List Slot
     pub holds : Holds old slots m
     pub walks : Walks pb capacity (state p w) r slots
 
-  -- what a step answers
-  abbrev pub After : Memory → List Slot → List Slot → ℕ → Step → Memory → Type 0
-  After old p w i (Ends a) m = Ended old p w (replyOfConclusion a) m
-  After old p w i (Goes filled) m = GoesOn old p w (i + 1) filled m
+  -- what a step answers that processed the slot of index i, with the point x
+  abbrev pub After : SlotSlices → List Slot → List Slot → ℕ → ℕ → Step → SlotSlices → Type 0
+  After old p w x i (Ends a) m = Ended old p w (replyOfConclusion x a) m
+  After old p w x i (Goes filled) m = GoesOn old p w m (position (i + 1) filled)
 
-  -- one step from the slot of index i, whichever slots are filled
-  abbrev pub Steps : ℕ → ℕ → Memory → Step → Memory → Type 0
-  Steps i filled m₀ step m = (old : Memory) (p w : List Slot) → Stands old p w i filled m₀ → After old p w i step m
+  -- one step from a position, whichever slots are filled
+  abbrev pub Steps : SlotSlices → Position → Step → SlotSlices → Type 0
+  Steps m₀ q step m = (old : SlotSlices) (p w : List Slot) → Stands old p w m₀ q
+      → After old p w (nextPoint m₀ q) (q .at) step m

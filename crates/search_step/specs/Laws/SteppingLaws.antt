@@ -1,8 +1,8 @@
 -- Laws of one step of the search: it answers 'satisfiable', it has found the clause and tries its flips, and then it
 -- goes on or answers 'unknown'. Assumes nothing.
 use mathlib.Core.Bool.{Bool, true, false}
-use mathlib.Core.List.{List, [], _∷_, _++_, map, append-nil, Memᴰ·append-right}
-use mathlib.Core.Path.{_≡_, refl, sym, ap, _∙_, subst}
+use mathlib.Core.List.{List, [], map, append-nil, Memᴰ·append-right, _∷_, _++_}
+use mathlib.Core.Path.{refl, sym, ap, subst, _≡_, _∙_}
 use Prim.Native.Nat.{ℕ, suc, _+_, _-_, _≤_, _<_, _^_}
 use native.Mathlib.Nat.{le-trans, le-of-eq}
 use native.Mathlib.Numerals.{add-one}
@@ -10,29 +10,32 @@ use native.Mathlib.Omega.{arith}
 use lib.Bits.{or-lt}
 use lib.ListN.{length, getD, set, length-map, length-set}
 use lib.Seq.{getD-at}
+use Rattle.formula.specs.Laws.RefusalLaws.{digits-suffice}
 use Rattle.math.specs.Bits.{members}
 use Rattle.math.specs.Lists.{over}
 use Rattle.math.specs.Laws.ListLaws.{here}
 use Rattle.math.specs.Laws.OverLaws.{over-change, over-at}
 use Rattle.math.specs.Laws.QueueLaws.{length-snoc, length-moved, map-moved}
 use Rattle.math.specs.Laws.SplitLaws.{map-append}
-use Rattle.points.specs.Points.{Clause, distance, listed, variables, Numbered, numbered, SatisfiesAll, FirstFalsified}
-use Rattle.points.specs.Points.{firstFalsified, numberOf}
-use Rattle.point_slices.specs.Slices.{clausesOf, noLiterals}
+use Rattle.points.specs.Points.{Clause, pointDigits, distance, listed, variables, Numbered, numbered, SatisfiesAll}
+use Rattle.points.specs.Points.{FirstFalsified, firstFalsified, numberOf}
+use Rattle.point_slices.specs.Slices.{noLiterals, ClauseSlices, clausesOf, SlotSlices}
 use Rattle.point_theory.specs.Laws.Distance.{distance-wider}
 use Rattle.formula.specs.Limits.{maxSlots}
 use Rattle.formula.specs.Problem.{Problem}
 use Rattle.formula.specs.Reply.{satisfiable, unknown}
 use Rattle.search_expansion.specs.declared.Frame.{Frame}
+use Rattle.search_expansion.specs.declared.Visit.{Visit}
+use Rattle.search_step.specs.declared.Position.{Position}
 use Rattle.search_step.specs.declared.Conclusion.the-variants.{Unknown}
 use Rattle.search_step.specs.declared.Step.the-variants.{Ends, Goes}
 use Rattle.permutation_coverage.specs.Laws.Coverage.{Imaged}
 use Rattle.search_expansion.specs.Laws.Filling.{Fillable, Advances}
-use Rattle.search_expansion.specs.Laws.FillingLaws.{lends-still, ended, advances-ends}
-use Rattle.search_expansion.specs.Laws.Memory.{Memory, memory, Holds, Lends}
+use Rattle.search_expansion.specs.Laws.FillingLaws.{ended, advances-ends}
+use Rattle.search_expansion.specs.Laws.Memory.{Holds, Lends}
 use Rattle.search_step.specs.Laws.NumberLaws.{number-none, number-found}
-use Rattle.search_step.specs.Laws.Stepping.{framed, Searchable, Linked, Next, Stands, Midway, GoesOn, Ended}
-use Rattle.search_step.specs.Laws.Stepping.{Steps}
+use Rattle.search_step.specs.Laws.Stepping.{framed, Searchable, Linked, position, nextPoint, Next, Stands, Midway}
+use Rattle.search_step.specs.Laws.Stepping.{GoesOn, Ended, Steps}
 use Rattle.search_theory.specs.Laws.ExpansionLaws.{invariants-step}
 use Rattle.search_theory.specs.Laws.InvariantLaws.{first-in}
 use Rattle.search_theory.specs.Laws.Invariants.{slotAt}
@@ -48,14 +51,24 @@ slot-read part p w s old now i e n =
     ap (λ l. getD l i 0) (e ∙ ap (λ l. over l old) (map-append part p (s ∷ w)))
     ∙ over-at i (map part p) (map part w) old (part s) 0 (length-map p part ∙ n)
 
+-- the memory once the number is stored in the slot of index i
+abbrev pub numberedIn : ℕ → ℕ → SlotSlices → SlotSlices
+numberedIn i number m = record {
+  points = m .points;
+  pointsRest = m .pointsRest;
+  falsified = set (m .falsified) i number;
+  depths = m .depths;
+}
+
 -- W6: "that number goes into its slot first"
-number-stored : (old : Memory) (p w : List Slot) (s : Slot) (c : Numbered) (i : ℕ) (m : Memory)
+number-stored : (old : SlotSlices) (p w : List Slot) (s : Slot) (c : Numbered) (i : ℕ) (m : SlotSlices)
     → Holds old (p ++ s ∷ w) m → length p ≡ i
-    → Holds old ((p ++ withNumber s c ∷ []) ++ w) (memory (m .points) (set (m .falsified) i (c .number)) (m .depths))
+    → Holds old ((p ++ withNumber s c ∷ []) ++ w) (numberedIn i (c .number) m)
 number-stored old p w s c i m h n =
     record {
       points-held = h .points-held ∙ ap (λ l. over l (old .points))
           (sym (map-moved (λ (s : Slot). s .point) p w (withNumber s c) s refl));
+      rest-held = h .rest-held;
       falsified-held = ap (λ l. set l i (c .number)) (h .falsified-held
           ∙ ap (λ l. over l (old .falsified)) (map-append part p (s ∷ w)))
           ∙ over-change i (map part p) (map part w) (old .falsified) (s .falsified) (c .number) (length-map p part ∙ n)
@@ -70,58 +83,57 @@ number-stored old p w s c i m h n =
 
 -- ---- one step
 
-module _ (g : Frame) (images positive negative : List ℕ) (ok : Searchable g images positive negative) where
+module _ (g : Frame) (images : List ℕ) (clauses : ClauseSlices) (ok : Searchable g images clauses) where
   abbrev pb : Problem
-  pb = framed g images positive negative
+  pb = framed g images clauses
 
   abbrev cs : List Clause
-  cs = clausesOf positive negative
-
-  -- the memory once the number is stored in the slot of index i
-  abbrev pub numberedIn : ℕ → ℕ → Memory → Memory
-  numberedIn i number m = memory (m .points) (set (m .falsified) i number) (m .depths)
+  cs = clausesOf clauses
 
   -- a slot is taken, at the front of those that wait, and its point falsifies a clause first, the one of that number
-  pub record Taken (old : Memory) (p w : List Slot) (i filled x d number : ℕ) (m₀ : Memory) : Type 0 where
+  pub record Taken (old : SlotSlices) (p w : List Slot) (m₀ : SlotSlices) (q : Position) (from : Visit) (number : ℕ)
+      : Type 0 where
     pub taken : Slot
     pub rest : List Slot
     pub falsified : Numbered
     pub split : w ≡ taken ∷ rest
-    pub point : x ≡ taken .point
-    pub depth : d ≡ taken .depth
+    pub point : from .point ≡ taken .point
+    pub depth : from .depth ≡ taken .depth
     pub first : FirstFalsified (pb .clauses) (taken .point) falsified
     pub place : falsified .clause ≡ getD cs (number - 1) noLiterals
-    pub stands : Stands pb (g .room) old p (taken ∷ rest) i filled m₀
-    pub holds : Holds old ((p ++ withNumber taken falsified ∷ []) ++ rest) (numberedIn i number m₀)
+    pub stands : Stands pb (g .room) old p (taken ∷ rest) m₀ q
+    pub holds : Holds old ((p ++ withNumber taken falsified ∷ []) ++ rest) (numberedIn (q .at) number m₀)
 
-  module _ {old : Memory} {p : List Slot} {i filled : ℕ} {m₀ : Memory} where
+  module _ {old : SlotSlices} {p : List Slot} {m₀ : SlotSlices} {q : Position} where
     -- before the last of the filled slots one waits
-    one-waits : i < filled → Stands pb (g .room) old p [] i filled m₀ → ⊥
+    one-waits : q .at < q .filled → Stands pb (g .room) old p [] m₀ q → ⊥
     one-waits lt st =
         let a : length (p ++ []) ≡ length p = ap length (append-nil p) in
         omega (arith, st .processed, st .number)
 
-    module _ (x number : ℕ) (read : x ≡ getD (m₀ .points) i 0)
-        (found : number ≡ numberOf (firstFalsified (numbered cs) x)) (lt : i < filled) where
+    module _ (x number : ℕ) (read : x ≡ nextPoint m₀ q)
+        (found : number ≡ numberOf (firstFalsified (numbered cs) x)) (lt : q .at < q .filled) where
       -- the point read is the first waiting slot's
-      point-of : (s : Slot) (w : List Slot) → Stands pb (g .room) old p (s ∷ w) i filled m₀ → x ≡ s .point
-      point-of s w st = read ∙ slot-read (λ (s : Slot). s .point) p w s (old .points) (m₀ .points) i
+      point-of : (s : Slot) (w : List Slot) → Stands pb (g .room) old p (s ∷ w) m₀ q → x ≡ s .point
+      point-of s w st = read ∙ slot-read (λ (s : Slot). s .point) p w s (old .points) (m₀ .points) (q .at)
           (st .holds .points-held) (st .processed)
 
       -- W5: "it meets all rules: answer met .., with the choice, its changes .. and the number of slots filled"
-      pub step-met : (w : List Slot) (d : ℕ) → number ≡ 0 → d ≡ distance 64 x (g .target)
-          → Stands pb (g .room) old p w i filled m₀
-          → Ended pb (g .room) old p w (satisfiable x d filled) m₀
+      pub step-met : (w : List Slot) (d : ℕ) → number ≡ 0 → d ≡ distance pointDigits x (g .target)
+          → Stands pb (g .room) old p w m₀ q
+          → Ended pb (g .room) old p w (satisfiable (nextPoint m₀ q) d (q .filled)) m₀
       step-met [] d z far st = absurd (one-waits lt st)
       step-met (s ∷ w) d z far st =
           let same = point-of s w st in
-          let below : s .point < 2 ^ g .variables = st .invariants .filled .below s (Memᴰ·append-right p (here s w)) in
-          let near : d ≡ distance (g .variables) (s .point) (g .target) =
-          far ∙ ap (λ y. distance 64 y (g .target)) same
-          ∙ distance-wider (g .variables) 64 (s .point) (g .target) below (ok .ready .target-below) (ok .few) in
+          let below : s .point < 2 ^ g .lookup .variables =
+          st .invariants .filled .below s (Memᴰ·append-right p (here s w)) in
+          let near : d ≡ distance (g .lookup .variables) (s .point) (g .target) =
+          far ∙ ap (λ y. distance pointDigits y (g .target)) same
+          ∙ distance-wider (g .lookup .variables) pointDigits (s .point) (g .target) below (ok .ready .target-below)
+          (ok .permuting .few) in
           let all = st .number in
-          let e : satisfiable (s .point) (distance (g .variables) (s .point) (g .target)) (length (p ++ s ∷ w))
-          ≡ satisfiable x d filled = cc in
+          let e : satisfiable (s .point) (distance (g .lookup .variables) (s .point) (g .target)) (length (p ++ s ∷ w))
+          ≡ satisfiable (nextPoint m₀ q) d (q .filled) = cc in
           record {
             slots = p ++ s ∷ w;
             holds = st .holds;
@@ -129,8 +141,9 @@ module _ (g : Frame) (images positive negative : List ℕ) (ok : Searchable g im
                 (met (subst (SatisfiesAll (pb .clauses)) same (number-none x cs number found z)));
           }
 
-      pub taken-of : (w : List Slot) (d : ℕ) → (number ≡ 0 → ⊥) → d ≡ getD (m₀ .depths) i 0
-          → Stands pb (g .room) old p w i filled m₀ → Taken old p w i filled x d number m₀
+      pub taken-of : (w : List Slot) (d : ℕ) → (number ≡ 0 → ⊥) → d ≡ getD (m₀ .depths) (q .at) 0
+          → Stands pb (g .room) old p w m₀ q
+          → Taken old p w m₀ q (record { point = x; depth = d }) number
       taken-of [] d ne deep st = absurd (one-waits lt st)
       taken-of (s ∷ w) d ne deep st =
           let same = point-of s w st in
@@ -141,43 +154,45 @@ module _ (g : Frame) (images positive negative : List ℕ) (ok : Searchable g im
             falsified = f .0;
             split = refl;
             point = same;
-            depth = deep ∙ slot-read (λ (s : Slot). s .depth) p w s (old .depths) (m₀ .depths) i
+            depth = deep ∙ slot-read (λ (s : Slot). s .depth) p w s (old .depths) (m₀ .depths) (q .at)
                 (st .holds .depths-held) (st .processed);
             first = subst (λ y. FirstFalsified (pb .clauses) y (f .0)) same (f .1);
             place = f .3;
             stands = st;
-            holds = subst (λ j. Holds old ((p ++ withNumber s (f .0) ∷ []) ++ w) (numberedIn i j m₀)) (sym (f .2))
-                (number-stored old p w s (f .0) i m₀ (st .holds) (st .processed));
+            holds = subst (λ j. Holds old ((p ++ withNumber s (f .0) ∷ []) ++ w) (numberedIn (q .at) j m₀)) (sym (f .2))
+                (number-stored old p w s (f .0) (q .at) m₀ (st .holds) (st .processed));
           }
 
   -- the point of the next slot is one of n digits, as those of all filled slots are
-  pub next-narrow : {i filled : ℕ} {m₀ : Memory} → i < filled → Midway pb (g .room) i filled m₀
-      → getD (m₀ .points) i 0 < 2 ^ g .variables
-  next-narrow {i} {filled} {m₀} lt at = by (at .front) (at .back) (at .stands)
+  pub next-narrow : {m₀ : SlotSlices} {q : Position} → q .at < q .filled → Midway pb (g .room) m₀ q
+      → nextPoint m₀ q < 2 ^ g .lookup .variables
+  next-narrow {m₀} {q} lt at = by (at .front) (at .back) (at .stands)
     where
-      by : (p w : List Slot) → Stands pb (g .room) (at .old) p w i filled m₀ → getD (m₀ .points) i 0 < 2 ^ g .variables
+      by : (p w : List Slot) → Stands pb (g .room) (at .old) p w m₀ q → nextPoint m₀ q < 2 ^ g .lookup .variables
       by p [] st = absurd (one-waits lt st)
       by p (s ∷ w) st =
-          subst (λ (y : ℕ). y < 2 ^ g .variables) (sym (slot-read (λ (t : Slot). t .point) p w s (at .old .points)
-          (m₀ .points) i (st .holds .points-held) (st .processed)))
+          subst (λ (y : ℕ). y < 2 ^ g .lookup .variables)
+          (sym (slot-read (λ (t : Slot). t .point) p w s (at .old .points)
+          (m₀ .points) (q .at) (st .holds .points-held) (st .processed)))
           (st .invariants .filled .below s (Memᴰ·append-right p (here s w)))
 
   -- ---- the slot that is taken, and its flips
 
-  module _ {old : Memory} {p w : List Slot} {i filled x d number : ℕ} {m₀ : Memory}
-      (t : Taken old p w i filled x d number m₀) where
+  module _ {old : SlotSlices} {p w : List Slot} {m₀ : SlotSlices} {q : Position} {from : Visit} {number : ℕ}
+      (t : Taken old p w m₀ q from number) where
     abbrev known : List Slot
     known = p ++ withNumber (t .taken) (t .falsified) ∷ []
 
     -- a slot's depth is at most its index
-    pub taken-shallow : i < filled → d < maxSlots
+    pub taken-shallow : q .at < q .filled → from .depth < maxSlots
     taken-shallow lt =
         let st = t .stands in
-        let at = getD-at p (t .taken) (t .rest) (slot 0 0 0) i (st .processed) in
-        let e : slotAt (p ++ t .taken ∷ t .rest) i .depth ≡ d = ap (λ (s : Slot). s .depth) at ∙ sym (t .depth) in
+        let at = getD-at p (t .taken) (t .rest) (slot 0 0 0) (q .at) (st .processed) in
+        let e : slotAt (p ++ t .taken ∷ t .rest) (q .at) .depth ≡ from .depth =
+        ap (λ (s : Slot). s .depth) at ∙ sym (t .depth) in
         omega (
           arith,
-          st .invariants .filled .depth-index i (subst (λ (j : ℕ). i < j) (sym (st .number)) lt),
+          st .invariants .filled .depth-index (q .at) (subst (λ (j : ℕ). q .at < j) (sym (st .number)) lt),
           ok .most,
           st .number,
           st .invariants .filled .room,
@@ -188,70 +203,72 @@ module _ (g : Frame) (images positive negative : List ℕ) (ok : Searchable g im
         → s ≡ listed (t .falsified .clause)
     clause-listed c s e l = l ∙ ap listed (e ∙ sym (t .place))
 
-    pub taken-below : (c : Clause) (s : ℕ) → c ≡ getD cs (number - 1) noLiterals → s ≡ listed c → s < 2 ^ g .variables
+    pub taken-below : (c : Clause) (s : ℕ) → c ≡ getD cs (number - 1) noLiterals → s ≡ listed c
+        → s < 2 ^ g .lookup .variables
     unfolding listed
     taken-below c s e l =
         let b = ok .ready .clauses-below (t .falsified) (first-in (t .first)) in
-        subst (λ (y : ℕ). y < 2 ^ g .variables) (sym (clause-listed c s e l))
-        (or-lt (g .variables) (t .falsified .clause .positive) (t .falsified .clause .negative) (b .positive-below)
-        (b .negative-below))
+        subst (λ (y : ℕ). y < 2 ^ g .lookup .variables) (sym (clause-listed c s e l))
+        (or-lt (g .lookup .variables) (t .falsified .clause .positive) (t .falsified .clause .negative)
+        (b .positive-below) (b .negative-below))
 
     -- the flips are tried, and the memory holds the slots that wait then
-    pub record Flipped (enough : Bool) (filled′ : ℕ) (m : Memory) : Type 0 where
+    pub record Flipped (enough : Bool) (filled′ : ℕ) (m : SlotSlices) : Type 0 where
       pub waiting : List Slot
       pub holds : Holds old (known ++ waiting) m
       pub counted : length (known ++ waiting) ≡ filled′
       pub fills : Fills (pb .permutations) (g .room) known (t .taken .point) (t .taken .depth)
-          (variables (g .variables) (t .falsified .clause)) (t .rest) (ended enough waiting)
+          (variables (g .lookup .variables) (t .falsified .clause)) (t .rest) (ended enough waiting)
 
-    pub flipped-of : {enough : Bool} {filled′ : ℕ} {m : Memory} (c : Clause) (s : ℕ)
+    pub flipped-of : {enough : Bool} {filled′ : ℕ} {m : SlotSlices} (c : Clause) (s : ℕ)
         → c ≡ getD cs (number - 1) noLiterals → s ≡ listed c
-        → Advances (pb .permutations) (g .room) x d (members (g .variables) s) filled (numberedIn i number m₀) enough []
-        filled′ m → Flipped enough filled′ m
+        → Advances (pb .permutations) (g .room) from (members (g .lookup .variables) s) (q .filled)
+        (numberedIn (q .at) number m₀) enough [] filled′ m → Flipped enough filled′ m
     unfolding variables
     flipped-of {enough = enough} c s e l adv =
         let a = adv old known (t .rest) (t .holds) (length-moved p (t .rest) (withNumber (t .taken) (t .falsified))
         (t .taken) ∙ t .stands .number) in
-        let f = advances-ends (pb .permutations) (g .room) x d a in
+        let f = advances-ends (pb .permutations) (g .room) from a in
         record {
           waiting = a .waiting;
           holds = a .holds;
           counted = a .number;
-          fills = alike (t .point) (t .depth) (ap (members (g .variables)) (clause-listed c s e l)) f;
+          fills = alike (t .point) (t .depth) (ap (members (g .lookup .variables)) (clause-listed c s e l)) f;
         }
       where
-        alike : {y z : ℕ} {us vs : List ℕ} {r : Expansion} → x ≡ y → d ≡ z → us ≡ vs
-            → Fills (pb .permutations) (g .room) known x d us (t .rest) r
+        alike : {y z : ℕ} {us vs : List ℕ} {r : Expansion} → from .point ≡ y → from .depth ≡ z → us ≡ vs
+            → Fills (pb .permutations) (g .room) known (from .point) (from .depth) us (t .rest) r
             → Fills (pb .permutations) (g .room) known y z vs (t .rest) r
         alike {y} {z} {us} {vs} {r} p q u f =
             subst (λ x. Fills (pb .permutations) (g .room) known x z vs (t .rest) r) p
-            (subst (λ d. Fills (pb .permutations) (g .room) known x d vs (t .rest) r) q
-            (subst (λ us. Fills (pb .permutations) (g .room) known x d us (t .rest) r) u f))
+            (subst (λ d. Fills (pb .permutations) (g .room) known (from .point) d vs (t .rest) r) q
+            (subst (λ us. Fills (pb .permutations) (g .room) known (from .point) (from .depth) us (t .rest) r) u f))
 
-    pub flipped-room : {filled′ : ℕ} {m : Memory} (enough : Bool) → Flipped enough filled′ m → filled′ ≤ g .room
+    pub flipped-room : {filled′ : ℕ} {m : SlotSlices} (enough : Bool) → Flipped enough filled′ m → filled′ ≤ g .room
     flipped-room enough f = by enough f
       where
         start : length (known ++ t .rest) ≤ g .room
         start = le-trans (le-of-eq (length-moved p (t .rest) (withNumber (t .taken) (t .falsified)) (t .taken)))
             (t .stands .invariants .filled .room)
 
-        by : {filled′ : ℕ} {m : Memory} (enough : Bool) → Flipped enough filled′ m → filled′ ≤ g .room
+        by : {filled′ : ℕ} {m : SlotSlices} (enough : Bool) → Flipped enough filled′ m → filled′ ≤ g .room
         by true f = le-trans (le-of-eq (sym (f .counted)))
             (fills-room (pb .permutations) (g .room) known (t .taken .point) (t .taken .depth) (f .fills) start)
         by false f = le-trans (le-of-eq (sym (f .counted)))
             (fills-room (pb .permutations) (g .room) known (t .taken .point) (t .taken .depth) (f .fills) start)
 
     -- all flips are tried: on to the next slot
-    pub step-goes : {filled′ : ℕ} {m : Memory} → Flipped true filled′ m → GoesOn pb (g .room) old p w (i + 1) filled′ m
+    pub step-goes : {filled′ : ℕ} {m : SlotSlices} → Flipped true filled′ m
+        → GoesOn pb (g .room) old p w m (position (q .at + 1) filled′)
     step-goes {filled′} {m} f =
-        subst (λ u. GoesOn pb (g .room) old p u (i + 1) filled′ m) (sym (t .split))
+        subst (λ u. GoesOn pb (g .room) old p u m (position (q .at + 1) filled′)) (sym (t .split))
         (record {
           front = known;
           back = f .waiting;
           stands = record {
             holds = f .holds;
             processed = length-snoc p (withNumber (t .taken) (t .falsified)) ∙ ap suc (t .stands .processed)
-                ∙ sym (add-one i);
+                ∙ sym (add-one (q .at));
             number = f .counted;
             invariants = invariants-step pb (g .room) p (t .rest) (t .taken) (t .falsified) (t .first)
                 (t .stands .invariants) (f .fills);
@@ -260,13 +277,13 @@ module _ (g : Frame) (images positive negative : List ℕ) (ok : Searchable g im
         })
 
     -- W8: "answer no room, with d the depth of the point being processed and slots filled"
-    pub step-stuck : {filled′ : ℕ} {m : Memory} → Flipped false filled′ m
-        → Ended pb (g .room) old p w (unknown d filled′) m
+    pub step-stuck : {filled′ : ℕ} {m : SlotSlices} → Flipped false filled′ m
+        → Ended pb (g .room) old p w (unknown (from .depth) filled′) m
     step-stuck {filled′} {m} f =
         let a = t .depth in
         let b = f .counted in
-        let e : unknown (t .taken .depth) (length (known ++ f .waiting)) ≡ unknown d filled′ = cc in
-        subst (λ u. Ended pb (g .room) old p u (unknown d filled′) m) (sym (t .split))
+        let e : unknown (t .taken .depth) (length (known ++ f .waiting)) ≡ unknown (from .depth) filled′ = cc in
+        subst (λ u. Ended pb (g .room) old p u (unknown (from .depth) filled′) m) (sym (t .split))
         (record {
           slots = known ++ f .waiting;
           holds = f .holds;
@@ -274,68 +291,68 @@ module _ (g : Frame) (images positive negative : List ℕ) (ok : Searchable g im
               (stuck (t .first) (f .fills));
         })
 
-  -- ---- what the code knows when the flips are to be tried: it has read the slot of index i, and its point falsifies
+  -- ---- what the code knows when the flips are to be tried: it has read the slot that is next, and its point falsifies
   -- the clause c first
 
-  pub record Read (i x d number s : ℕ) (c : Clause) (m₀ : Memory) : Type 0 where
-    pub point-read : x ≡ getD (m₀ .points) i 0
-    pub depth-read : d ≡ getD (m₀ .depths) i 0
-    pub number-read : number ≡ numberOf (firstFalsified (numbered cs) x)
+  pub record Read (m₀ : SlotSlices) (q : Position) (from : Visit) (number s : ℕ) (c : Clause) : Type 0 where
+    pub point-read : from .point ≡ nextPoint m₀ q
+    pub depth-read : from .depth ≡ getD (m₀ .depths) (q .at) 0
+    pub number-read : number ≡ numberOf (firstFalsified (numbered cs) (from .point))
     pub unsatisfied : number ≡ 0 → ⊥
     pub clause-read : c ≡ getD cs (number - 1) noLiterals
     pub listed-read : s ≡ listed c
 
-  module _ {i filled x d number s : ℕ} {c : Clause} {m₀ : Memory} (lt : i < filled) (a : Read i x d number s c m₀) where
-    taken-read : {old : Memory} {p w : List Slot} → Stands pb (g .room) old p w i filled m₀
-        → Taken old p w i filled x d number m₀
-    taken-read {w = w} st = taken-of x number (a .point-read) (a .number-read) lt w d (a .unsatisfied) (a .depth-read)
-        st
+  module _ {m₀ : SlotSlices} {q : Position} {from : Visit} {number s : ℕ} {c : Clause} (lt : q .at < q .filled)
+      (a : Read m₀ q from number s c) where
+    taken-read : {old : SlotSlices} {p w : List Slot} → Stands pb (g .room) old p w m₀ q
+        → Taken old p w m₀ q from number
+    taken-read {w = w} st = taken-of (from .point) number (a .point-read) (a .number-read) lt w (from .depth)
+        (a .unsatisfied) (a .depth-read) st
 
-    pub read-shallow : Midway pb (g .room) i filled m₀ → d < maxSlots
+    pub read-shallow : Midway pb (g .room) m₀ q → from .depth < maxSlots
     read-shallow at = taken-shallow (taken-read (at .stands)) lt
 
     -- what lets its flips be tried, where its images are at hand
-    pub read-fillable : {moved : List ℕ} {heads : ℕ} {links : List ℕ} → Midway pb (g .room) i filled m₀
-        → Linked (g .variables) heads filled (m₀ .points) links → Lends (g .room) m₀
-        → Next (g .variables) (g .permutations) images (m₀ .points) i moved
-        → Fillable (g .variables) (g .permutations) images moved (g .room) x d filled heads links
-        (numberedIn i number m₀)
-    read-fillable {moved} at l room e =
-        let own = subst (λ (y : ℕ). Imaged (g .variables) (g .permutations) images y moved) (sym (a .point-read)) e in
+    pub read-fillable : {links moved : List ℕ} → Midway pb (g .room) m₀ q → Linked g m₀ links (q .filled)
+        → Lends (g .room) m₀ → Next g images m₀ moved q
+        → Fillable g images (numberedIn (q .at) number m₀) links moved (q .filled) from
+    read-fillable {moved = moved} at l room e =
+        let own = subst (λ (y : ℕ). Imaged (g .lookup .variables) (g .lookup .permutations) images y moved)
+        (sym (a .point-read)) e in
         record {
           coverable = record {
-            askable = record { few = ok .few; indexed = l .indexed; narrow = own .narrow };
+            askable = record { few = digits-suffice (ok .few); indexed = l .indexed; narrow = own .narrow };
             permuting = ok .permuting;
             imaged = own .imaged;
           };
-          room = lends-still room (record {
-            points-length = refl;
-            falsified-length = length-set (m₀ .falsified) i
-                number;
-            depths-length = refl;
-          });
+          room = record {
+            points-room = room .points-room;
+            falsified-room = le-trans (room .falsified-room)
+                (le-of-eq (sym (length-set (m₀ .falsified) (q .at) number)));
+            depths-room = room .depths-room;
+          };
           most = ok .most;
           shallow = read-shallow at;
           linked = l .linked;
         }
 
-    pub read-below : Midway pb (g .room) i filled m₀ → s < 2 ^ g .variables
+    pub read-below : Midway pb (g .room) m₀ q → s < 2 ^ g .lookup .variables
     read-below at = taken-below (taken-read (at .stands)) c s (a .clause-read) (a .listed-read)
 
-    module _ {enough : Bool} {filled′ : ℕ} {m : Memory}
-        (adv : Advances (pb .permutations) (g .room) x d (members (g .variables) s) filled (numberedIn i number m₀)
-        enough [] filled′ m) where
-      flipped-read : {old : Memory} {p w : List Slot} (st : Stands pb (g .room) old p w i filled m₀)
+    module _ {enough : Bool} {filled′ : ℕ} {m : SlotSlices}
+        (adv : Advances (pb .permutations) (g .room) from (members (g .lookup .variables) s) (q .filled)
+        (numberedIn (q .at) number m₀) enough [] filled′ m) where
+      flipped-read : {old : SlotSlices} {p w : List Slot} (st : Stands pb (g .room) old p w m₀ q)
           → Flipped (taken-read st) enough filled′ m
       flipped-read st = flipped-of (taken-read st) c s (a .clause-read) (a .listed-read) adv
 
-      pub read-room : Midway pb (g .room) i filled m₀ → filled′ ≤ g .room
+      pub read-room : Midway pb (g .room) m₀ q → filled′ ≤ g .room
       read-room at = flipped-room (taken-read (at .stands)) enough (flipped-read (at .stands))
 
-      pub read-goes : enough ≡ true → Steps pb (g .room) i filled m₀ (Goes filled′) m
+      pub read-goes : enough ≡ true → Steps pb (g .room) m₀ q (Goes filled′) m
       read-goes e old p w st = step-goes (taken-read st)
           (subst (λ b. Flipped (taken-read st) b filled′ m) e (flipped-read st))
 
-      pub read-stuck : enough ≡ false → Steps pb (g .room) i filled m₀ (Ends (Unknown d filled′)) m
+      pub read-stuck : enough ≡ false → Steps pb (g .room) m₀ q (Ends (Unknown (from .depth) filled′)) m
       read-stuck e old p w st = step-stuck (taken-read st)
           (subst (λ b. Flipped (taken-read st) b filled′ m) e (flipped-read st))

@@ -8,9 +8,17 @@ use lib.ListN.{length, getD, set, take, drop, length-map, length-append, length-
 use lib.Seq.{length-take-le, take-at}
 use Rattle.math.specs.Lists.{over}
 use Rattle.math.specs.Laws.OverLaws.{over-none, over-take-next}
+use Rattle.point_slices.specs.Laws.SliceLaws.{one-word, no-rest}
+use Rattle.point_slices.specs.Slices.{slotSlices, wholeSlots}
 use Rattle.slot_columns.specs.declared.Slot.{Slot}
 use Rattle.slot_columns.specs.Slots.{pointsIn, falsifiedIn, depthsIn}
 use Rattle.slot_columns.specs.Laws.Copies.{slotOf, slotOr, blank, joined, front}
+
+-- local arrays hold a point a word, and so nothing behind their points
+pub words-whole : (points falsified depths : List ℕ) → slotSlices points falsified depths
+    ≡ wholeSlots points falsified depths
+words-whole points falsified depths =
+    (λ i. record { points = one-word points i; pointsRest = no-rest points i; falsified = falsified; depths = depths })
 
 module _ {X : Type 0} where
   -- nothing is copied yet

@@ -38,20 +38,21 @@ use denote.Triple.Table.{entered, cited}
 use denote.Triple.Walked.{says, Stays, stay-dropped, gave-slice, walkOf, goes-dropped, goes-gave-slice, Walks, ends-at}
 use denote.Triple.Walked.{walked, walk-meets}
 use denote.Exit.{yes}
-use Rattle.search.proofs.Outcome as O
-use Rattle.search.specs.Contract.{replyOfOutcome}
+use Rattle.search.proofs.Found as O
+use Rattle.search.specs.Contract.{replyOfFound}
 use Rattle.export_words.specs.Words.{wordsOf, formulaFrom}
 use Rattle.export_words.proofs.formula_from.Symbol as formula-from-def
 use Rattle.export_words.proofs.formula_from.Symbol.{name as #export-words·formula-from}
 use Rattle.export_words.proofs.formula_from.Met as formula-from-thm
-use Rattle.export_words.proofs.put_outcome.Symbol as put-outcome-def
-use Rattle.export_words.proofs.put_outcome.Symbol.{name as #export-words·put-outcome}
-use Rattle.export_words.proofs.put_outcome.Met as put-outcome-thm
+use Rattle.export_words.proofs.put_found.Symbol as put-found-def
+use Rattle.export_words.proofs.put_found.Symbol.{name as #export-words·put-found}
+use Rattle.export_words.proofs.put_found.Met as put-found-thm
 use Rattle.slot_search.proofs.search_slots.Symbol as search-slots-def
 use Rattle.slot_search.proofs.search_slots.Symbol.{name as #slot-search·search-slots}
 use Rattle.slot_search.proofs.search_slots.Met as search-slots-thm
 use Rattle.slot_columns.specs.declared.Slot.{Slot}
-use Rattle.slot_columns.specs.Slots.{pointsIn, falsifiedIn, depthsIn}
+use Rattle.point_slices.specs.Slices.{clauseSlices}
+use Rattle.slot_columns.specs.Slots.{slotsIn}
 use Rattle.slot_columns.proofs.Row.{R}
 use Rattle.exports.specs.Searching.{SearchReturns}
 use Rattle.exports.specs.Laws.SearchingLaws.{tells-nothing, tells-search}
@@ -89,7 +90,7 @@ stayed = (
 
 -- the words of the search's answer
 abbrev words : O.the-row .Denot → List ℕ
-words r = wordsOf (replyOfOutcome r)
+words r = wordsOf (replyOfFound r)
 
 module _ {M : Type 1} (𝓤 : URA M) (H : Heap 𝓤) (A : Atoms 𝓤) (W : Given 𝓤 H A) (mem : Memory → SProp 𝓤) (run : Routine → Fun 𝓤) (κ₀ κ₁ κ₂ κ₃ κ₄ : Lft) (q₀ q₁ q₂ q₃ q₄ : Share) (c₀ d₀ c₁ d₁ c₂ d₂ b o b₄ o₄ : ℕ) (δ₀ δ₁ δ₂ γ δ₄ : GName)
     (v c g p : ℕ) (is us vs : List ℕ) (ys : List Slot) (ws : List ℕ) where
@@ -112,7 +113,7 @@ module _ {M : Type 1} (𝓤 : URA M) (H : Heap 𝓤) (A : Atoms 𝓤) (W : Given
   Post = walkOf 𝓤 H A this.ended stayed (this.clauses 𝓤 H A mem run) .post bound
 
   abbrev Returns : ℕ → List Slot → List ℕ → Type 0
-  Returns n zs ws′ = SearchReturns (formulaFrom v c g p is) us vs (pointsIn ys) (falsifiedIn ys) (depthsIn ys) ws n (pointsIn zs) (falsifiedIn zs) (depthsIn zs) ws′
+  Returns n zs ws′ = SearchReturns (formulaFrom v c g p is) (clauseSlices us vs) (slotsIn ys) ws n (slotsIn zs) ws′
 
   abbrev Had : List Slot → List ℕ → List (Item 𝓤)
   Had zs ws′ = ‵ (flft κ₀ q₀) ∷ ‵ (flft κ₁ q₁) ∷ ‵ (flft κ₂ q₂) ∷ ‵ (flft κ₃ q₃) ∷ ‵ (flft κ₄ q₄) ∷ ‵ (finally R γ zs) ∷ ‵ (finally u64 δ₄ ws′) ∷ []
@@ -127,7 +128,7 @@ module _ {M : Type 1} (𝓤 : URA M) (H : Heap 𝓤) (A : Atoms 𝓤) (W : Given
 
   module _ (gv : v < 2 ^ 32) (gc : c < 2 ^ 32) (gg : g < 2 ^ 64) (gp : p < 2 ^ 32) (room₀ : Room u8 (length is)) (room₁ : Room u64 (length us)) (room₂ : Room u64 (length vs)) (room : Room R (length ys)) (room₄ : Room u64 (length ws)) where
     module _ (C : Calls 𝓤 H) (Λ : Loops 𝓤 H) (fm : FmC 𝓤 H (W .laws) C) (known₀ : Triple 𝓤 (C #export-words·formula-from) (FormulaFrom 𝓤 H A mem run)) (known₁ : Triple 𝓤 (C #slot-search·search-slots) (SearchSlots 𝓤 H A mem run))
-        (known₂ : Triple 𝓤 (C #export-words·put-outcome) (PutWords O.the-row words 𝓤 H A)) where
+        (known₂ : Triple 𝓤 (C #export-words·put-found) (PutWords O.the-row words 𝓤 H A)) where
       walk : ent 𝓤 (onEntry 𝓤 H A this.signature (bound .0 .0) (bound .0 .1) (bound .0 .3) (bound .0 .4)) (WpFn 𝓤 H C Λ code.function args Post)
       walk =
           qed W ((‵ (flft κ₀ q₀) ⊛ (‵ (flft κ₁ q₁) ⊛ (‵ (flft κ₂ q₂) ⊛ (‵ (flft κ₃ q₃) ⊛ (‵ (flft κ₄ q₄) ⊛ ‵ ftrue)))))
@@ -151,7 +152,7 @@ module _ {M : Type 1} (𝓤 : URA M) (H : Heap 𝓤) (A : Atoms 𝓤) (W : Given
           move ! (36 ∷ 37 ∷ 34 ∷ 35 ∷ 32 ∷ 33 ∷ 30 ∷ 31 ∷ 28 ∷ 29 ∷ 26 ∷ 27 ∷ 24 ∷ 25 ∷ 22 ∷ 23 ∷ 20 ∷ 21 ∷ 18 ∷ 19 ∷ 16 ∷ 17 ∷ 14 ∷ 15 ∷ 12 ∷ 13 ∷ 10 ∷ 11 ∷ 8 ∷ 9 ∷ 6 ∷ 7 ∷ 4 ∷ 5 ∷ 2 ∷ 3 ∷ 0 ∷ 1 ∷ []) $
           free-all ! (placed mirs.locals (l₀ ∷ l₁ ∷ l₂ ∷ l₃ ∷ l₄ ∷ l₅ ∷ l₆ ∷ l₇ ∷ l₈ ∷ l₉ ∷ l₁₀ ∷ l₁₁ ∷ l₁₂ ∷ l₁₃ ∷ l₁₄ ∷ l₁₅ ∷ l₁₆ ∷ l₁₇ ∷ l₁₈ ∷ [])) (
           given-up ! (named 4) κ₄ u64 (at-list b₄ o₄ δ₄ ws) (sliceVal (b₄, o₄) (length ws) ∷ []) $ move ! (1 ∷ []) $ given-up ! (named 3) κ₃ R (at-list b o γ ys) (sliceVal (b, o) (length ys) ∷ []) $ keep ! (9 ∷ 8 ∷ 7 ∷ 6 ∷ 5 ∷ 0 ∷ 1 ∷ []) $
-          by ! (exits 0 (lit< tt) ys ws refl refl (tells-nothing (formulaFrom v c g p is) us vs (pointsIn ys) (falsifiedIn ys) (depthsIn ys) ws (ltb→lt (length ws) 4 small)))))
+          by ! (exits 0 (lit< tt) ys ws refl refl (tells-nothing (formulaFrom v c g p is) (clauseSlices us vs) (slotsIn ys) ws (ltb→lt (length ws) 4 small)))))
           -- the formula is made
           (λ large. skips ! $ exec ! C Λ (placed mirs.locals (l₀ ∷ l₁ ∷ l₂ ∷ l₃ ∷ l₄ ∷ l₅ ∷ l₆ ∷ l₇ ∷ l₈ ∷ l₉ ∷ l₁₀ ∷ l₁₁ ∷ l₁₂ ∷ l₁₃ ∷ l₁₄ ∷ l₁₅ ∷ l₁₆ ∷ l₁₇ ∷ l₁₈ ∷ [])) mirs.t-4 (atRet (placed mirs.locals (l₀ ∷ l₁ ∷ l₂ ∷ l₃ ∷ l₄ ∷ l₅ ∷ l₆ ∷ l₇ ∷ l₈ ∷ l₉ ∷ l₁₀ ∷ l₁₁ ∷ l₁₂ ∷ l₁₃ ∷ l₁₄ ∷ l₁₅ ∷ l₁₆ ∷ l₁₇ ∷ l₁₈ ∷ [])) Post) $
           move ! (42 ∷ 47 ∷ []) $ Made.asks v c g p κ₀ q₀ c₀ d₀ δ₀ is 𝓤 H A mem run W ! gv gc gg gp $
@@ -175,10 +176,10 @@ module _ {M : Type 1} (𝓤 : URA M) (H : Heap 𝓤) (A : Atoms 𝓤) (W : Given
           move ! (43 ∷ 44 ∷ 41 ∷ 42 ∷ 39 ∷ 40 ∷ 37 ∷ 38 ∷ 35 ∷ 36 ∷ 33 ∷ 34 ∷ 31 ∷ 32 ∷ 29 ∷ 30 ∷ 27 ∷ 28 ∷ 25 ∷ 26 ∷ 23 ∷ 24 ∷ 21 ∷ 22 ∷ 19 ∷ 20 ∷ 17 ∷ 18 ∷ 15 ∷ 16 ∷ 13 ∷ 14 ∷ 11 ∷ 12 ∷ 9 ∷ 10 ∷ 7 ∷ 8 ∷ []) $
           free-all ! (placed mirs.locals (l₀ ∷ l₁ ∷ l₂ ∷ l₃ ∷ l₄ ∷ l₅ ∷ l₆ ∷ l₇ ∷ l₈ ∷ l₉ ∷ l₁₀ ∷ l₁₁ ∷ l₁₂ ∷ l₁₃ ∷ l₁₄ ∷ l₁₅ ∷ l₁₆ ∷ l₁₇ ∷ l₁₈ ∷ [])) (
           keep ! (6 ∷ 3 ∷ 4 ∷ 5 ∷ 1 ∷ 2 ∷ 0 ∷ []) $
-          by ! (exits 1 (lit< tt) zs ws′ e₁ e₂ (tells-search (formulaFrom v c g p is) us vs (pointsIn ys) (falsifiedIn ys) (depthsIn ys) ws f r (pointsIn zs) (falsifiedIn zs) (depthsIn zs) ws′ (nltb→le (length ws) 4 large) same returned put)))))))))))))))))))))))))))))
+          by ! (exits 1 (lit< tt) zs ws′ e₁ e₂ (tells-search (formulaFrom v c g p is) (clauseSlices us vs) (slotsIn ys) ws f r (slotsIn zs) ws′ (nltb→le (length ws) 4 large) same returned put)))))))))))))))))))))))))))))
 
 module _ {M : Type 1} (𝓤 : URA M) (H : Heap 𝓤) (A : Atoms 𝓤) (W : Given 𝓤 H A) (mem : Memory → SProp 𝓤) (run : Routine → Fun 𝓤) (𝓣 : Tables 𝓤 H) (known₀ : Triple 𝓤 (𝓣 .C #export-words·formula-from) (FormulaFrom 𝓤 H A mem run))
-    (known₁ : Triple 𝓤 (𝓣 .C #slot-search·search-slots) (SearchSlots 𝓤 H A mem run)) (known₂ : Triple 𝓤 (𝓣 .C #export-words·put-outcome) (PutWords O.the-row words 𝓤 H A)) where
+    (known₁ : Triple 𝓤 (𝓣 .C #slot-search·search-slots) (SearchSlots 𝓤 H A mem run)) (known₂ : Triple 𝓤 (𝓣 .C #export-words·put-found) (PutWords O.the-row words 𝓤 H A)) where
   walks : Walks 𝓤 H A this.ended stayed (WpFn 𝓤 H (𝓣 .C) (𝓣 .Λ) code.function) (this.clauses 𝓤 H A mem run)
   walks = walked 𝓤 H A this.ended stayed (this.clauses 𝓤 H A mem run) (WpFn 𝓤 H (𝓣 .C) (𝓣 .Λ) code.function) (λ κs. (uint-vals w32, (uint-vals w32, (uint-vals w64, (uint-vals w32, (slice-vals, (slice-vals, (slice-vals, (slice-vals, (slice-vals, tt))))))))))
       (λ κs. (uint-tells w32, (uint-tells w32, (uint-tells w64, (uint-tells w32, (shr-slice-tells (named 0) (κs .0) u8, (shr-slice-tells (named 1) (κs .1 .0) u64, (shr-slice-tells (named 2) (κs .1 .1 .0) u64, (mut-slice-tells (named 3) (κs .1 .1 .1 .0) R, (mut-slice-tells (named 4) (κs .1 .1 .1 .1 .0) u64, tt))))))))))
@@ -224,4 +225,4 @@ jugbowo-search-slots-spec 𝓤 H 𝓜 𝓖 𝓡 =
     (meets 𝓤 H (𝓖 .A) (givenOf 𝓤 H 𝓜 𝓖) (𝓜 .mem) (𝓡 .run) (tablesOf 𝓤 H 𝓜 (tables 𝓤 H 𝓜 𝓡 code.env))
     (cited 𝓤 H (FormulaFrom 𝓤 H (𝓖 .A) (𝓜 .mem) (𝓡 .run)) 𝓜 𝓡 code.env #export-words·formula-from formula-from-def.routine code.calls-export-words·formula-from (formula-from-thm.met 𝓤 H 𝓜 𝓖 𝓡))
     (cited 𝓤 H (SearchSlots 𝓤 H (𝓖 .A) (𝓜 .mem) (𝓡 .run)) 𝓜 𝓡 code.env #slot-search·search-slots search-slots-def.routine code.calls-slot-search·search-slots (search-slots-thm.met 𝓤 H 𝓜 𝓖 𝓡))
-    (cited 𝓤 H (PutWords O.the-row words 𝓤 H (𝓖 .A)) 𝓜 𝓡 code.env #export-words·put-outcome put-outcome-def.routine code.calls-export-words·put-outcome (put-outcome-thm.met 𝓤 H 𝓜 𝓖 𝓡)))
+    (cited 𝓤 H (PutWords O.the-row words 𝓤 H (𝓖 .A)) 𝓜 𝓡 code.env #export-words·put-found put-found-def.routine code.calls-export-words·put-found (put-found-thm.met 𝓤 H 𝓜 𝓖 𝓡)))

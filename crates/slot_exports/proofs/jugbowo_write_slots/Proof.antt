@@ -51,7 +51,8 @@ use Rattle.slot_writer.proofs.write_slots.Symbol as write-slots-def
 use Rattle.slot_writer.proofs.write_slots.Symbol.{name as #slot-writer·write-slots}
 use Rattle.slot_writer.proofs.write_slots.Met as write-slots-thm
 use Rattle.slot_columns.specs.declared.Slot.{Slot}
-use Rattle.slot_columns.specs.Slots.{pointsIn, falsifiedIn, depthsIn}
+use Rattle.point_slices.specs.Slices.{clauseSlices}
+use Rattle.slot_columns.specs.Slots.{slotsIn}
 use Rattle.slot_columns.proofs.Row.{R}
 use Rattle.exports.specs.Writing.{WriteReturns}
 use Rattle.exports.specs.Laws.WritingLaws.{tells-nothing, tells-writing}
@@ -124,7 +125,7 @@ module _ {M : Type 1} (𝓤 : URA M) (H : Heap 𝓤) (A : Atoms 𝓤) (W : Given
   Post = walkOf 𝓤 H A this.ended stayed (this.clauses 𝓤 H A mem run) .post bound
 
   abbrev Returns : ℕ → List ℕ → List ℕ → Type 0
-  Returns n zs ws′ = WriteReturns (formulaFrom v c g p is) us vs (pointsIn ys) (falsifiedIn ys) (depthsIn ys) filled os ws n zs ws′
+  Returns n zs ws′ = WriteReturns (formulaFrom v c g p is) (clauseSlices us vs) (slotsIn ys) filled os ws n zs ws′
 
   abbrev Had : List ℕ → List ℕ → List (Item 𝓤)
   Had zs ws′ = ‵ (flft κ₀ q₀) ∷ ‵ (flft κ₁ q₁) ∷ ‵ (flft κ₂ q₂) ∷ ‵ (flft κ₃ q₃) ∷ ‵ (flft κ₄ q₄) ∷ ‵ (flft κ₅ q₅) ∷ ‵ (finally u8 δ₄ zs) ∷ ‵ (finally u64 δ₅ ws′) ∷ []
@@ -163,7 +164,7 @@ module _ {M : Type 1} (𝓤 : URA M) (H : Heap 𝓤) (A : Atoms 𝓤) (W : Given
           move ! (40 ∷ 41 ∷ 38 ∷ 39 ∷ 36 ∷ 37 ∷ 34 ∷ 35 ∷ 32 ∷ 33 ∷ 30 ∷ 31 ∷ 28 ∷ 29 ∷ 26 ∷ 27 ∷ 24 ∷ 25 ∷ 22 ∷ 23 ∷ 20 ∷ 21 ∷ 18 ∷ 19 ∷ 16 ∷ 17 ∷ 14 ∷ 15 ∷ 12 ∷ 13 ∷ 10 ∷ 11 ∷ 8 ∷ 9 ∷ 6 ∷ 7 ∷ 4 ∷ 5 ∷ 2 ∷ 3 ∷ 0 ∷ 1 ∷ []) $
           free-all ! (placed mirs.locals (l₀ ∷ l₁ ∷ l₂ ∷ l₃ ∷ l₄ ∷ l₅ ∷ l₆ ∷ l₇ ∷ l₈ ∷ l₉ ∷ l₁₀ ∷ l₁₁ ∷ l₁₂ ∷ l₁₃ ∷ l₁₄ ∷ l₁₅ ∷ l₁₆ ∷ l₁₇ ∷ l₁₈ ∷ l₁₉ ∷ l₂₀ ∷ [])) (
           given-up ! (named 5) κ₅ u64 (at-list b₅ o₅ δ₅ ws) (sliceVal (b₅, o₅) (length ws) ∷ []) $ move ! (1 ∷ []) $ given-up ! (named 4) κ₄ u8 (at-list b₄ o₄ δ₄ os) (sliceVal (b₄, o₄) (length os) ∷ []) $ keep ! (11 ∷ 10 ∷ 9 ∷ 8 ∷ 7 ∷ 6 ∷ 0 ∷ 1 ∷ []) $
-          by ! (exits 0 (lit< tt) os ws refl refl (tells-nothing (formulaFrom v c g p is) us vs (pointsIn ys) (falsifiedIn ys) (depthsIn ys) filled os ws (ltb→lt (length ws) 4 small)))))
+          by ! (exits 0 (lit< tt) os ws refl refl (tells-nothing (formulaFrom v c g p is) (clauseSlices us vs) (slotsIn ys) filled os ws (ltb→lt (length ws) 4 small)))))
           -- the formula is made
           (λ large. skips ! $ exec ! C Λ (placed mirs.locals (l₀ ∷ l₁ ∷ l₂ ∷ l₃ ∷ l₄ ∷ l₅ ∷ l₆ ∷ l₇ ∷ l₈ ∷ l₉ ∷ l₁₀ ∷ l₁₁ ∷ l₁₂ ∷ l₁₃ ∷ l₁₄ ∷ l₁₅ ∷ l₁₆ ∷ l₁₇ ∷ l₁₈ ∷ l₁₉ ∷ l₂₀ ∷ [])) mirs.t-4 (atRet (placed mirs.locals (l₀ ∷ l₁ ∷ l₂ ∷ l₃ ∷ l₄ ∷ l₅ ∷ l₆ ∷ l₇ ∷ l₈ ∷ l₉ ∷ l₁₀ ∷ l₁₁ ∷ l₁₂ ∷ l₁₃ ∷ l₁₄ ∷ l₁₅ ∷ l₁₆ ∷ l₁₇ ∷ l₁₈ ∷ l₁₉ ∷ l₂₀ ∷ [])) Post) $
           move ! (47 ∷ 53 ∷ []) $ Made.asks v c g p κ₀ q₀ c₀ d₀ δ₀ is 𝓤 H A mem run W ! gv gc gg gp $
@@ -187,7 +188,7 @@ module _ {M : Type 1} (𝓤 : URA M) (H : Heap 𝓤) (A : Atoms 𝓤) (W : Given
           move ! (48 ∷ 49 ∷ 46 ∷ 47 ∷ 44 ∷ 45 ∷ 42 ∷ 43 ∷ 40 ∷ 41 ∷ 38 ∷ 39 ∷ 36 ∷ 37 ∷ 34 ∷ 35 ∷ 32 ∷ 33 ∷ 30 ∷ 31 ∷ 28 ∷ 29 ∷ 26 ∷ 27 ∷ 24 ∷ 25 ∷ 22 ∷ 23 ∷ 20 ∷ 21 ∷ 18 ∷ 19 ∷ 16 ∷ 17 ∷ 14 ∷ 15 ∷ 12 ∷ 13 ∷ 10 ∷ 11 ∷ 8 ∷ 9 ∷ []) $
           free-all ! (placed mirs.locals (l₀ ∷ l₁ ∷ l₂ ∷ l₃ ∷ l₄ ∷ l₅ ∷ l₆ ∷ l₇ ∷ l₈ ∷ l₉ ∷ l₁₀ ∷ l₁₁ ∷ l₁₂ ∷ l₁₃ ∷ l₁₄ ∷ l₁₅ ∷ l₁₆ ∷ l₁₇ ∷ l₁₈ ∷ l₁₉ ∷ l₂₀ ∷ [])) (
           keep ! (7 ∷ 3 ∷ 4 ∷ 5 ∷ 6 ∷ 1 ∷ 2 ∷ 0 ∷ []) $
-          by ! (exits 1 (lit< tt) zs ws′ e₁ e₂ (tells-writing (formulaFrom v c g p is) us vs (pointsIn ys) (falsifiedIn ys) (depthsIn ys) filled os ws f r zs ws′ (nltb→le (length ws) 4 large) same returned put)))))))))))))))))))))))))))))))
+          by ! (exits 1 (lit< tt) zs ws′ e₁ e₂ (tells-writing (formulaFrom v c g p is) (clauseSlices us vs) (slotsIn ys) filled os ws f r zs ws′ (nltb→le (length ws) 4 large) same returned put)))))))))))))))))))))))))))))))
 
 module _ {M : Type 1} (𝓤 : URA M) (H : Heap 𝓤) (A : Atoms 𝓤) (W : Given 𝓤 H A) (mem : Memory → SProp 𝓤) (run : Routine → Fun 𝓤) (𝓣 : Tables 𝓤 H) (known₀ : Triple 𝓤 (𝓣 .C #export-words·formula-from) (FormulaFrom 𝓤 H A mem run))
     (known₁ : Triple 𝓤 (𝓣 .C #slot-writer·write-slots) (WriteSlots 𝓤 H A mem run)) (known₂ : Triple 𝓤 (𝓣 .C #export-words·put-written) (PutWords O.the-row words 𝓤 H A)) where

@@ -1,8 +1,9 @@
--- `slot_prefixes::search_front` meets its contract: the lent parts have k places, and what the search leaves in them
+-- `slot_prefixes::search_prefix` meets its contract: the lent parts have k places, and what the search leaves in them
 -- stands in front. Assumes nothing.
 use mathlib.Core.Path.{sym, _∙_}
 use lib.ListN.{take, drop}
 use lib.Seq.{length-take-le}
+use Rattle.point_slices.specs.Slices.{clauseSlices, slotSlices}
 use borrow.Author.Needs.{needs}
 use Rattle.slot_prefixes.specs.Laws.PrefixLaws.{searched-fronts}
 use Rattle.slot_prefixes.proofs.search_prefix.Statement.{statement}
@@ -31,7 +32,7 @@ returns c =
     let points = start .args .points .now in
     let falsified = start .args .falsified .now in
     let depths = start .args .depths .now in
-    searched-fronts k (start .args .f) (start .args .positive .now) (start .args .negative .now) (take k points) (take k falsified) (take k depths) (called .result)
+    searched-fronts k (start .args .f) (clauseSlices (start .args .positive .now) (start .args .negative .now)) (slotSlices (take k points) (take k falsified) (take k depths)) (called .result)
     (called .last .1 .1 .1 .0) (called .last .1 .1 .1 .1 .0) (called .last .1 .1 .1 .1 .1 .0) (drop k points) (drop k falsified) (drop k depths)
     (called .kept .1 .1 .1 .0 ∙ length-take-le k points (start .pre .inPoints)) (called .kept .1 .1 .1 .1 .0 ∙ length-take-le k falsified (start .pre .inFalsified))
     (called .kept .1 .1 .1 .1 .1 .0 ∙ length-take-le k depths (start .pre .inDepths)) (called .ensures)

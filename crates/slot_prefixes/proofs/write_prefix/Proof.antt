@@ -1,4 +1,4 @@
--- `slot_prefixes::write_front` meets its contract: the lent parts have k places. Assumes nothing.
+-- `slot_prefixes::write_prefix` meets its contract: the lent parts have k places. Assumes nothing.
 use mathlib.Core.Path.{sym}
 use lib.Seq.{length-take-le}
 use borrow.Author.Needs.{needs}

@@ -43,17 +43,19 @@ use denote.Triple.Table.{entered, cited}
 use denote.Triple.Walked.{says, Stays, stay-slice, stay-none, stay-none-slice, walkOf, goes-slice, goes-none}
 use denote.Triple.Walked.{goes-none-slice, Walks, ends-at, walked, walk-meets}
 use denote.Exit.{yes}
+use Rattle.formula.specs.Limits.{maxSlots}
 use Rattle.formula.specs.declared.Formula.{Formula}
 use Rattle.formula.proofs.Formula as F
 use Rattle.formula.proofs.Formula.Laws as F′
-use Rattle.search.specs.declared.Outcome.{Outcome}
+use Rattle.point_slices.specs.Slices.{clauseSlices}
+use Rattle.search.specs.declared.Found.{Found}
 use Rattle.search.specs.Contract.{Searched}
-use Rattle.search.proofs.Outcome as O
+use Rattle.search.proofs.Found as O
 use Rattle.point_slices.proofs.least.Symbol as least-def
 use Rattle.point_slices.proofs.least.Symbol.{name as #point-slices·least}
 use Rattle.point_slices.proofs.least.Met as least-thm
 use Rattle.slot_columns.specs.declared.Slot.{Slot}
-use Rattle.slot_columns.specs.Slots.{pointsIn, falsifiedIn, depthsIn}
+use Rattle.slot_columns.specs.Slots.{slotsIn}
 use Rattle.slot_columns.specs.Laws.Copies.{joined, front}
 use Rattle.slot_columns.specs.Laws.SlotLaws.{front-length, joined-long}
 use Rattle.slot_search.specs.Laws.SearchLaws.{searched-whole}
@@ -70,7 +72,7 @@ use Rattle.slot_columns.proofs.CopiedBack as Back
 use Rattle.slot_columns.proofs.CopiedBack.{CopyBack}
 use Rattle.slot_search.proofs.SearchedPrefix as Front
 use Rattle.slot_proofs.proofs.Spelled.{formula-val, formula-typed}
-use Rattle.slot_search.proofs.SearchedPrefix.{SearchFront, outcome-typed}
+use Rattle.slot_search.proofs.SearchedPrefix.{SearchFront, found-typed}
 use Rattle.slot_columns.proofs.copy_out.Symbol as copy-out-def
 use Rattle.slot_columns.proofs.copy_out.Symbol.{name as #slot-columns·copy-out}
 use Rattle.slot_columns.proofs.copy_out.Met as copy-out-thm
@@ -115,15 +117,15 @@ module _ {M : Type 1} (𝓤 : URA M) (H : Heap 𝓤) (A : Atoms 𝓤) (W : Given
   abbrev Z : List ℕ → List ℕ → List ℕ → List Slot
   Z ps fs ds = front (k ys) (joined ps fs ds) ys
 
-  long : (ps fs ds : List ℕ) → length ps ≡ 65536 → length fs ≡ 65536 → length ds ≡ 65536 → length (Z ps fs ds) ≡ length ys
+  long : (ps fs ds : List ℕ) → length ps ≡ maxSlots → length fs ≡ maxSlots → length ds ≡ maxSlots → length (Z ps fs ds) ≡ length ys
   long ps fs ds e₁ e₂ e₃ = front-length (k ys) (joined ps fs ds) ys (joined-long (k ys) ps fs ds (many ys ps e₁) (many ys fs e₂) (many ys ds e₃)) (used ys)
 
   module _ (gf : Is F.the-row f (formula-val f ∷ [])) (room₀ : Room u64 (length us)) (room₁ : Room u64 (length vs)) (room : Room R (length ys)) where
-    abbrev Had : Outcome → Val → List Slot → List (Item 𝓤)
+    abbrev Had : Found → Val → List Slot → List (Item 𝓤)
     Had r w zs = ‵ (flft κ₀ q₀) ∷ ‵ (flft κ₁ q₁) ∷ ‵ (flft κ₂ q₂) ∷ ‵ positive ∷ ‵ negative ∷ ‵ (fobs γ (codedHoleys R .code (heres R zs))) ∷ ‵ (fbor κ₂ (Held R (length zs) b o γ)) ∷ ‵ (O.the-row .own r (w ∷ [])) ∷ []
 
-    exits : (r : Outcome) (w : Val) (ps fs ds : List ℕ) → length ps ≡ 65536 → length fs ≡ 65536 → length ds ≡ 65536
-        → Searched f us vs (pointsIn ys) (falsifiedIn ys) (depthsIn ys) r (pointsIn (Z ps fs ds)) (falsifiedIn (Z ps fs ds)) (depthsIn (Z ps fs ds)) → ent 𝓤 (⋆ 𝓤 H A (Had r w (Z ps fs ds))) (Post w)
+    exits : (r : Found) (w : Val) (ps fs ds : List ℕ) → length ps ≡ maxSlots → length fs ≡ maxSlots → length ds ≡ maxSlots
+        → Searched f (clauseSlices us vs) (slotsIn ys) r (slotsIn (Z ps fs ds)) → ent 𝓤 (⋆ 𝓤 H A (Had r w (Z ps fs ds))) (Post w)
     exits r w ps fs ds e₁ e₂ e₃ promised =
         qed W (Had r w (Z ps fs ds)) ∵ suffices ! _ (ends-at 𝓤 H A this.ended stayed (this.clauses 𝓤 H A mem run) W bound w r (tt, (tt, (tt, (Z ps fs ds, tt)))) (tt, (tt, (tt, (long ps fs ds e₁ e₂ e₃, tt))))) $ says ! promised $
         nothing ! $ move ! (3 ∷ 0 ∷ []) $ join ! $ move ! (2 ∷ 0 ∷ []) $ join ! $ move ! (1 ∷ 0 ∷ []) $ join ! $ frame ! $
@@ -146,15 +148,15 @@ module _ {M : Type 1} (𝓤 : URA M) (H : Heap 𝓤) (A : Atoms 𝓤) (W : Given
           move ! (69 ∷ 68 ∷ []) $ fsplit ! $ drop ! $ fsplit ! $ move ! (1 ∷ []) $ fsplit ! $ move ! (1 ∷ []) $ fsplit ! $ fsplit ! $ drop ! $ fsplit ! $ move ! (5 ∷ []) $ split ! $ move ! (1 ∷ []) $ split ! $ move ! (1 ∷ []) $ split ! $
           move ! (1 ∷ []) $ drop ! $ move ! (5 ∷ []) $ drop ! $ move ! (3 ∷ 4 ∷ 0 ∷ []) $ opens-slice ! tt R ys b o $
           -- the three local arrays
-          zeros-typed ! w64 65536 (lit< tt) (λ z. assigns ! (rep ! 65536 (lit ! tt)) (from ! (stop !)) (init ! 64 refl z) $ move ! (64 ∷ []) $ abstracted ! w64 65536 l₅ (lit< tt) (λ ps e₁. zeros-typed ! w32 65536 (lit< tt) (λ z.
-          assigns ! (rep ! 65536 (lit ! tt)) (from ! (stop !)) (init ! 63 refl z) $ move ! (63 ∷ []) $ abstracted ! w32 65536 l₆ (lit< tt) (λ fs e₂. zeros-typed ! w32 65536 (lit< tt) (λ z.
-          assigns ! (rep ! 65536 (lit ! tt)) (from ! (stop !)) (init ! 62 refl z) $ move ! (62 ∷ []) $ abstracted ! w32 65536 l₇ (lit< tt) (λ ds e₃.
+          zeros-typed ! w64 maxSlots (lit< tt) (λ z. assigns ! (rep ! maxSlots (lit ! tt)) (from ! (stop !)) (init ! 64 refl z) $ move ! (64 ∷ []) $ abstracted ! w64 maxSlots l₅ (lit< tt) (λ ps e₁. zeros-typed ! w32 maxSlots (lit< tt) (λ z.
+          assigns ! (rep ! maxSlots (lit ! tt)) (from ! (stop !)) (init ! 63 refl z) $ move ! (63 ∷ []) $ abstracted ! w32 maxSlots l₆ (lit< tt) (λ fs e₂. zeros-typed ! w32 maxSlots (lit< tt) (λ z.
+          assigns ! (rep ! maxSlots (lit ! tt)) (from ! (stop !)) (init ! 62 refl z) $ move ! (62 ∷ []) $ abstracted ! w32 maxSlots l₇ (lit< tt) (λ ds e₃.
           -- [depths' array; falsified's; points'; the slots' row; the open borrow; obs; auth; the tokens of negative
           -- and positive; negative; positive; _33; …; _0; …]
           assigns ! (of-opd ! (load ! (from ! (fld ! refl (stop !))) (look-in ! 66 (sub ! 1 refl (whole !))))) (from ! (stop !)) (init ! 57 refl (tt, record { fits = room .0 })) $
-          Count.asks 65536 (length ys) 𝓤 H A mem run W ! (lit< tt) (room .0) $
-          calls-at ! fm (Least 𝓤 H A mem run) known₀ (Count.bound 65536 (length ys) 𝓤 H A mem run) (and-then ! (big-lit ! (record { fits = lit< tt })) (and-then ! (load ! (from ! (stop !)) (look ! 58 refl)) (no-more !))) (λ w.
-          Count.has 65536 (length ys) 𝓤 H A mem run W ! tt w (λ is. land ! (from ! (stop !)) (init ! 61 refl (subst (λ (u : Val). T (hasTy (tyInt w64) u) × WT u) (sym (ap only is)) (tt, record { fits = gk ys }))) $
+          Count.asks maxSlots (length ys) 𝓤 H A mem run W ! (lit< tt) (room .0) $
+          calls-at ! fm (Least 𝓤 H A mem run) known₀ (Count.bound maxSlots (length ys) 𝓤 H A mem run) (and-then ! (big-lit ! (record { fits = lit< tt })) (and-then ! (load ! (from ! (stop !)) (look ! 58 refl)) (no-more !))) (λ w.
+          Count.has maxSlots (length ys) 𝓤 H A mem run W ! tt w (λ is. land ! (from ! (stop !)) (init ! 61 refl (subst (λ (u : Val). T (hasTy (tyInt w64) u) × WT u) (sym (ap only is)) (tt, record { fits = gk ys }))) $
           rewrite ! 61 (λ (u : Val). ‵ (fat fullShare (tyInt w64) l₈ 0 u)) (ap only is) refl $
           -- the slots are copied out
           assigns ! (addr ! (from ! (fld ! refl (hop ! (look-in ! 66 (sub ! 0 refl (whole !))) (stop !))))) (from ! (stop !)) (init ! 53 refl (tt, tt)) $
@@ -165,11 +167,11 @@ module _ {M : Type 1} (𝓤 : URA M) (H : Heap 𝓤) (A : Atoms 𝓤) (W : Given
           assigns ! (agg ! (and-then ! (load ! (from ! (stop !)) (look ! 45 refl)) (and-then ! (big-lit ! (record { fits = lit< tt })) (no-more !)))) (from ! (stop !)) (init ! 43 refl (tt, (tt, (record { fits = lit< tt }, tt)))) $
           assigns ! (addr ! (from ! (stop !))) (from ! (stop !)) (init ! 41 refl (tt, tt)) $
           assigns ! (agg ! (and-then ! (load ! (from ! (stop !)) (look ! 41 refl)) (and-then ! (big-lit ! (record { fits = lit< tt })) (no-more !)))) (from ! (stop !)) (init ! 39 refl (tt, (tt, (record { fits = lit< tt }, tt)))) $
-          move ! (3 ∷ []) $ share ! tt R (named 0) (length ys) ys b o refl room (λ ν₀ γ₀. move ! (5 ∷ []) $ lend ! tt u64 (named 1) 65536 ps l₅ 0 e₁ (room64 ps e₁) (λ ν₁ γ₁. move ! (7 ∷ []) $
-          lend ! tt u32 (named 2) 65536 fs l₆ 0 e₂ (room32 fs e₂) (λ ν₂ γ₂. move ! (9 ∷ []) $ lend ! tt u32 (named 3) 65536 ds l₇ 0 e₃ (room32 ds e₃) (λ ν₃ γ₃. move ! (9 ∷ 10 ∷ 6 ∷ 7 ∷ 3 ∷ 4 ∷ 0 ∷ 1 ∷ []) $
-          Out.asks b o l₅ 0 l₆ 0 l₇ 0 γ₀ γ₁ γ₂ γ₃ ys ps fs ds (k ys) 65536 (ν₀ ∷ []) fullShare ν₁ ν₂ ν₃ 𝓤 H A mem run W ! (gk ys) (fits-in ys ps fs ds e₁ e₂ e₃) $
-          calls-at ! fm (CopyOut 𝓤 H A mem run) known₁ (Out.bound b o l₅ 0 l₆ 0 l₇ 0 γ₀ γ₁ γ₂ γ₃ ys ps fs ds (k ys) 65536 (ν₀ ∷ []) fullShare ν₁ ν₂ ν₃ 𝓤 H A mem run) (and-then ! (load ! (from ! (stop !)) (look ! 52 refl)) (and-then ! (load ! (from ! (stop !)) (look ! 62 refl)) (and-then ! (load ! (from ! (stop !)) (look ! 48 refl)) (and-then ! (load ! (from ! (stop !)) (look ! 44 refl)) (and-then ! (load ! (from ! (stop !)) (look ! 40 refl)) (no-more !)))))) (λ w₁.
-          Out.has b o l₅ 0 l₆ 0 l₇ 0 γ₀ γ₁ γ₂ γ₃ ys ps fs ds (k ys) 65536 (ν₀ ∷ []) fullShare ν₁ ν₂ ν₃ 𝓤 H A mem run W ! tt w₁ (λ is₁.
+          move ! (3 ∷ []) $ share ! tt R (named 0) (length ys) ys b o refl room (λ ν₀ γ₀. move ! (5 ∷ []) $ lend ! tt u64 (named 1) maxSlots ps l₅ 0 e₁ (room64 ps e₁) (λ ν₁ γ₁. move ! (7 ∷ []) $
+          lend ! tt u32 (named 2) maxSlots fs l₆ 0 e₂ (room32 fs e₂) (λ ν₂ γ₂. move ! (9 ∷ []) $ lend ! tt u32 (named 3) maxSlots ds l₇ 0 e₃ (room32 ds e₃) (λ ν₃ γ₃. move ! (9 ∷ 10 ∷ 6 ∷ 7 ∷ 3 ∷ 4 ∷ 0 ∷ 1 ∷ []) $
+          Out.asks b o l₅ 0 l₆ 0 l₇ 0 γ₀ γ₁ γ₂ γ₃ ys ps fs ds (k ys) maxSlots (ν₀ ∷ []) fullShare ν₁ ν₂ ν₃ 𝓤 H A mem run W ! (gk ys) (fits-in ys ps fs ds e₁ e₂ e₃) $
+          calls-at ! fm (CopyOut 𝓤 H A mem run) known₁ (Out.bound b o l₅ 0 l₆ 0 l₇ 0 γ₀ γ₁ γ₂ γ₃ ys ps fs ds (k ys) maxSlots (ν₀ ∷ []) fullShare ν₁ ν₂ ν₃ 𝓤 H A mem run) (and-then ! (load ! (from ! (stop !)) (look ! 52 refl)) (and-then ! (load ! (from ! (stop !)) (look ! 62 refl)) (and-then ! (load ! (from ! (stop !)) (look ! 48 refl)) (and-then ! (load ! (from ! (stop !)) (look ! 44 refl)) (and-then ! (load ! (from ! (stop !)) (look ! 40 refl)) (no-more !)))))) (λ w₁.
+          Out.has b o l₅ 0 l₆ 0 l₇ 0 γ₀ γ₁ γ₂ γ₃ ys ps fs ds (k ys) maxSlots (ν₀ ∷ []) fullShare ν₁ ν₂ ν₃ 𝓤 H A mem run W ! tt w₁ (λ is₁.
           land ! (from ! (stop !)) (init ! 62 refl (subst (λ (u : Val). T (hasTy tyUnit u) × WT u) (sym (ap only is₁)) (tt, tt))) $ move ! (0 ∷ 10 ∷ []) $ unshare ! tt R ys b o $ move ! (1 ∷ 9 ∷ 4 ∷ []) $ unlend ! tt u64 (P ys ps) l₅ 0 $
           move ! (2 ∷ 7 ∷ 4 ∷ []) $ unlend ! tt u32 (N ys fs) l₆ 0 $ move ! (3 ∷ 5 ∷ 4 ∷ []) $ unlend ! tt u32 (D ys ds) l₇ 0 $
           -- the copies are searched
@@ -181,12 +183,12 @@ module _ {M : Type 1} (𝓤 : URA M) (H : Heap 𝓤) (A : Atoms 𝓤) (W : Given
           assigns ! (agg ! (and-then ! (load ! (from ! (stop !)) (look ! 29 refl)) (and-then ! (big-lit ! (record { fits = lit< tt })) (no-more !)))) (from ! (stop !)) (init ! 27 refl (tt, (tt, (record { fits = lit< tt }, tt)))) $
           move ! (10 ∷ []) $ use1 W (‵ positive ⊛ ‵ positive) (shr-slice-copy 𝓤 H A W (named 0) κ₀ u64 .twice (x .1 .0) (at .1 .0)) $ split ! $ move ! (11 ∷ []) $
           use1 W (‵ negative ⊛ ‵ negative) (shr-slice-copy 𝓤 H A W (named 1) κ₁ u64 .twice (x .1 .1 .0) (at .1 .1 .0)) $ split ! $ move ! (6 ∷ []) $
-          lend ! tt u64 (named 2) 65536 (P ys ps) l₅ 0 (long₁ ys ps e₁) (room64 (P ys ps) (long₁ ys ps e₁)) (λ ν₄ γ₄. move ! (8 ∷ []) $ lend ! tt u32 (named 3) 65536 (N ys fs) l₆ 0 (long₂ ys fs e₂) (room32 (N ys fs) (long₂ ys fs e₂)) (λ ν₅ γ₅. move ! (10 ∷ []) $
-          lend ! tt u32 (named 4) 65536 (D ys ds) l₇ 0 (long₃ ys ds e₃) (room32 (D ys ds) (long₃ ys ds e₃)) (λ ν₆ γ₆. move ! (12 ∷ 18 ∷ 10 ∷ 17 ∷ 6 ∷ 7 ∷ 3 ∷ 4 ∷ 0 ∷ 1 ∷ []) $
-          Front.asks f us vs κ₀ κ₁ q₀ q₁ c₀ d₀ c₁ d₁ δ₀ δ₁ l₅ 0 l₆ 0 l₇ 0 γ₄ γ₅ γ₆ (P ys ps) (N ys fs) (D ys ds) (k ys) 65536 ν₄ ν₅ ν₆ 𝓤 H A mem run W ! gf (gk ys) (fronts-in ys (P ys ps) (N ys fs) (D ys ds) (long₁ ys ps e₁) (long₂ ys fs e₂) (long₃ ys ds e₃)) $
-          calls-at ! fm (SearchFront 𝓤 H A mem run) known₂ (Front.bound f us vs κ₀ κ₁ q₀ q₁ c₀ d₀ c₁ d₁ δ₀ δ₁ l₅ 0 l₆ 0 l₇ 0 γ₄ γ₅ γ₆ (P ys ps) (N ys fs) (D ys ds) (k ys) 65536 ν₄ ν₅ ν₆ 𝓤 H A mem run) (and-then ! (load ! (from ! (stop !)) (look ! 71 refl)) (and-then ! (load ! (from ! (stop !)) (look ! 69 refl)) (and-then ! (load ! (from ! (stop !)) (look ! 67 refl)) (and-then ! (load ! (from ! (stop !)) (look ! 34 refl)) (and-then ! (load ! (from ! (stop !)) (look ! 30 refl)) (and-then ! (load ! (from ! (stop !)) (look ! 26 refl)) (and-then ! (load ! (from ! (stop !)) (look ! 60 refl)) (no-more !)))))))) (λ w₂.
-          Front.has f us vs κ₀ κ₁ q₀ q₁ c₀ d₀ c₁ d₁ δ₀ δ₁ l₅ 0 l₆ 0 l₇ 0 γ₄ γ₅ γ₆ (P ys ps) (N ys fs) (D ys ds) (k ys) 65536 ν₄ ν₅ ν₆ 𝓤 H A mem run W ! tt w₂ (λ r ps′ fs′ ds′ s₁ s₂ s₃ promised. move ! (8 ∷ []) $
-          peeks ! O.the-row (Is O.the-row) (shows 𝓤 H A O.the-row) r (w₂ ∷ []) (λ iso. land ! (from ! (stop !)) (init ! 66 refl (outcome-typed 𝓤 H A W r w₂ iso)) $ move ! (3 ∷ 11 ∷ 6 ∷ []) $ unlend ! tt u64 ps′ l₅ 0 $
+          lend ! tt u64 (named 2) maxSlots (P ys ps) l₅ 0 (long₁ ys ps e₁) (room64 (P ys ps) (long₁ ys ps e₁)) (λ ν₄ γ₄. move ! (8 ∷ []) $ lend ! tt u32 (named 3) maxSlots (N ys fs) l₆ 0 (long₂ ys fs e₂) (room32 (N ys fs) (long₂ ys fs e₂)) (λ ν₅ γ₅. move ! (10 ∷ []) $
+          lend ! tt u32 (named 4) maxSlots (D ys ds) l₇ 0 (long₃ ys ds e₃) (room32 (D ys ds) (long₃ ys ds e₃)) (λ ν₆ γ₆. move ! (12 ∷ 18 ∷ 10 ∷ 17 ∷ 6 ∷ 7 ∷ 3 ∷ 4 ∷ 0 ∷ 1 ∷ []) $
+          Front.asks f us vs κ₀ κ₁ q₀ q₁ c₀ d₀ c₁ d₁ δ₀ δ₁ l₅ 0 l₆ 0 l₇ 0 γ₄ γ₅ γ₆ (P ys ps) (N ys fs) (D ys ds) (k ys) maxSlots ν₄ ν₅ ν₆ 𝓤 H A mem run W ! gf (gk ys) (fronts-in ys (P ys ps) (N ys fs) (D ys ds) (long₁ ys ps e₁) (long₂ ys fs e₂) (long₃ ys ds e₃)) $
+          calls-at ! fm (SearchFront 𝓤 H A mem run) known₂ (Front.bound f us vs κ₀ κ₁ q₀ q₁ c₀ d₀ c₁ d₁ δ₀ δ₁ l₅ 0 l₆ 0 l₇ 0 γ₄ γ₅ γ₆ (P ys ps) (N ys fs) (D ys ds) (k ys) maxSlots ν₄ ν₅ ν₆ 𝓤 H A mem run) (and-then ! (load ! (from ! (stop !)) (look ! 71 refl)) (and-then ! (load ! (from ! (stop !)) (look ! 69 refl)) (and-then ! (load ! (from ! (stop !)) (look ! 67 refl)) (and-then ! (load ! (from ! (stop !)) (look ! 34 refl)) (and-then ! (load ! (from ! (stop !)) (look ! 30 refl)) (and-then ! (load ! (from ! (stop !)) (look ! 26 refl)) (and-then ! (load ! (from ! (stop !)) (look ! 60 refl)) (no-more !)))))))) (λ w₂.
+          Front.has f us vs κ₀ κ₁ q₀ q₁ c₀ d₀ c₁ d₁ δ₀ δ₁ l₅ 0 l₆ 0 l₇ 0 γ₄ γ₅ γ₆ (P ys ps) (N ys fs) (D ys ds) (k ys) maxSlots ν₄ ν₅ ν₆ 𝓤 H A mem run W ! tt w₂ (λ r ps′ fs′ ds′ s₁ s₂ s₃ promised. move ! (8 ∷ []) $
+          peeks ! O.the-row (Is O.the-row) (shows 𝓤 H A O.the-row) r (w₂ ∷ []) (λ iso. land ! (from ! (stop !)) (init ! 66 refl (found-typed 𝓤 H A W r w₂ iso)) $ move ! (3 ∷ 11 ∷ 6 ∷ []) $ unlend ! tt u64 ps′ l₅ 0 $
           move ! (4 ∷ 9 ∷ 6 ∷ []) $ unlend ! tt u32 fs′ l₆ 0 $ move ! (5 ∷ 7 ∷ 6 ∷ []) $ unlend ! tt u32 ds′ l₇ 0 $
           -- they are copied back
           assigns ! (addr ! (from ! (fld ! refl (hop ! (look-in ! 67 (sub ! 0 refl (whole !))) (stop !))))) (from ! (stop !)) (init ! 26 refl (tt, tt)) $
@@ -197,23 +199,23 @@ module _ {M : Type 1} (𝓤 : URA M) (H : Heap 𝓤) (A : Atoms 𝓤) (W : Given
           assigns ! (agg ! (and-then ! (load ! (from ! (stop !)) (look ! 18 refl)) (and-then ! (big-lit ! (record { fits = lit< tt })) (no-more !)))) (from ! (stop !)) (init ! 16 refl (tt, (tt, (record { fits = lit< tt }, tt)))) $
           assigns ! (addr ! (from ! (stop !))) (from ! (stop !)) (init ! 14 refl (tt, tt)) $
           assigns ! (agg ! (and-then ! (load ! (from ! (stop !)) (look ! 14 refl)) (and-then ! (big-lit ! (record { fits = lit< tt })) (no-more !)))) (from ! (stop !)) (init ! 12 refl (tt, (tt, (record { fits = lit< tt }, tt)))) $
-          move ! (8 ∷ []) $ lend ! tt R (named 0) (length ys) ys b o refl room (λ ν₇ γ₇. move ! (5 ∷ []) $ share ! tt u64 (named 1) 65536 ps′ l₅ 0 (s₁ ∙ long₁ ys ps e₁) (room64 ps′ (s₁ ∙ long₁ ys ps e₁)) (λ ν₈ γ₈. move ! (7 ∷ []) $
-          share ! tt u32 (named 2) 65536 fs′ l₆ 0 (s₂ ∙ long₂ ys fs e₂) (room32 fs′ (s₂ ∙ long₂ ys fs e₂)) (λ ν₉ γ₉. move ! (9 ∷ []) $ share ! tt u32 (named 3) 65536 ds′ l₇ 0 (s₃ ∙ long₃ ys ds e₃) (room32 ds′ (s₃ ∙ long₃ ys ds e₃)) (λ ν₁₀ γ₁₀.
-          move ! (9 ∷ 10 ∷ 6 ∷ 7 ∷ 3 ∷ 4 ∷ 0 ∷ 1 ∷ []) $ Back.asks b o l₅ 0 l₆ 0 l₇ 0 γ₇ γ₈ γ₉ γ₁₀ ys ps′ fs′ ds′ (k ys) 65536 ν₇ ν₈ ν₉ ν₁₀ 𝓤 H A mem run W ! (gk ys) (fits-in ys ps′ fs′ ds′ (s₁ ∙ long₁ ys ps e₁) (s₂ ∙ long₂ ys fs e₂) (s₃ ∙ long₃ ys ds e₃)) $
-          calls-at ! fm (CopyBack 𝓤 H A mem run) known₃ (Back.bound b o l₅ 0 l₆ 0 l₇ 0 γ₇ γ₈ γ₉ γ₁₀ ys ps′ fs′ ds′ (k ys) 65536 ν₇ ν₈ ν₉ ν₁₀ 𝓤 H A mem run) (and-then ! (load ! (from ! (stop !)) (look ! 25 refl)) (and-then ! (load ! (from ! (stop !)) (look ! 63 refl)) (and-then ! (load ! (from ! (stop !)) (look ! 21 refl)) (and-then ! (load ! (from ! (stop !)) (look ! 17 refl)) (and-then ! (load ! (from ! (stop !)) (look ! 13 refl)) (no-more !)))))) (λ w₃.
-          Back.has b o l₅ 0 l₆ 0 l₇ 0 γ₇ γ₈ γ₉ γ₁₀ ys ps′ fs′ ds′ (k ys) 65536 ν₇ ν₈ ν₉ ν₁₀ 𝓤 H A mem run W ! tt w₃ (λ is₃.
+          move ! (8 ∷ []) $ lend ! tt R (named 0) (length ys) ys b o refl room (λ ν₇ γ₇. move ! (5 ∷ []) $ share ! tt u64 (named 1) maxSlots ps′ l₅ 0 (s₁ ∙ long₁ ys ps e₁) (room64 ps′ (s₁ ∙ long₁ ys ps e₁)) (λ ν₈ γ₈. move ! (7 ∷ []) $
+          share ! tt u32 (named 2) maxSlots fs′ l₆ 0 (s₂ ∙ long₂ ys fs e₂) (room32 fs′ (s₂ ∙ long₂ ys fs e₂)) (λ ν₉ γ₉. move ! (9 ∷ []) $ share ! tt u32 (named 3) maxSlots ds′ l₇ 0 (s₃ ∙ long₃ ys ds e₃) (room32 ds′ (s₃ ∙ long₃ ys ds e₃)) (λ ν₁₀ γ₁₀.
+          move ! (9 ∷ 10 ∷ 6 ∷ 7 ∷ 3 ∷ 4 ∷ 0 ∷ 1 ∷ []) $ Back.asks b o l₅ 0 l₆ 0 l₇ 0 γ₇ γ₈ γ₉ γ₁₀ ys ps′ fs′ ds′ (k ys) maxSlots ν₇ ν₈ ν₉ ν₁₀ 𝓤 H A mem run W ! (gk ys) (fits-in ys ps′ fs′ ds′ (s₁ ∙ long₁ ys ps e₁) (s₂ ∙ long₂ ys fs e₂) (s₃ ∙ long₃ ys ds e₃)) $
+          calls-at ! fm (CopyBack 𝓤 H A mem run) known₃ (Back.bound b o l₅ 0 l₆ 0 l₇ 0 γ₇ γ₈ γ₉ γ₁₀ ys ps′ fs′ ds′ (k ys) maxSlots ν₇ ν₈ ν₉ ν₁₀ 𝓤 H A mem run) (and-then ! (load ! (from ! (stop !)) (look ! 25 refl)) (and-then ! (load ! (from ! (stop !)) (look ! 63 refl)) (and-then ! (load ! (from ! (stop !)) (look ! 21 refl)) (and-then ! (load ! (from ! (stop !)) (look ! 17 refl)) (and-then ! (load ! (from ! (stop !)) (look ! 13 refl)) (no-more !)))))) (λ w₃.
+          Back.has b o l₅ 0 l₆ 0 l₇ 0 γ₇ γ₈ γ₉ γ₁₀ ys ps′ fs′ ds′ (k ys) maxSlots ν₇ ν₈ ν₉ ν₁₀ 𝓤 H A mem run W ! tt w₃ (λ is₃.
           land ! (from ! (stop !)) (store ! 61 refl (subst (λ (u : Val). T (hasTy tyUnit u) × WT u) (sym (ap only is₃)) (tt, tt))) $ move ! (0 ∷ 8 ∷ 4 ∷ []) $ unlend ! tt R (Z ps′ fs′ ds′) b o $ move ! (1 ∷ 6 ∷ []) $
           unshare ! tt u64 ps′ l₅ 0 $ move ! (2 ∷ 5 ∷ []) $ unshare ! tt u32 fs′ l₆ 0 $ move ! (3 ∷ 4 ∷ []) $ unshare ! tt u32 ds′ l₇ 0 $
           -- the slots' borrow is closed, and the locals are given up
-          assigns ! (of-opd ! (load ! (from ! (stop !)) (look ! 60 refl))) (from ! (stop !)) (init ! 75 refl (outcome-typed 𝓤 H A W r w₂ iso)) $ move ! (3 ∷ 9 ∷ 10 ∷ 11 ∷ []) $
-          closes-slice ! tt R ys (Z ps′ fs′ ds′) (long ps′ fs′ ds′ (s₁ ∙ long₁ ys ps e₁) (s₂ ∙ long₂ ys fs e₂) (s₃ ∙ long₃ ys ds e₃)) b o $ move ! (5 ∷ []) $ emptied ! w64 65536 l₅ ps′ (s₁ ∙ long₁ ys ps e₁) $ move ! (5 ∷ []) $
-          emptied ! w32 65536 l₆ fs′ (s₂ ∙ long₂ ys fs e₂) $ move ! (5 ∷ []) $ emptied ! w32 65536 l₇ ds′ (s₃ ∙ long₃ ys ds e₃) $ returns ! (look ! 74 refl) $ forget ! 74 refl $ forget ! 72 refl $ forget ! 70 refl $ forget ! 68 refl $
+          assigns ! (of-opd ! (load ! (from ! (stop !)) (look ! 60 refl))) (from ! (stop !)) (init ! 75 refl (found-typed 𝓤 H A W r w₂ iso)) $ move ! (3 ∷ 9 ∷ 10 ∷ 11 ∷ []) $
+          closes-slice ! tt R ys (Z ps′ fs′ ds′) (long ps′ fs′ ds′ (s₁ ∙ long₁ ys ps e₁) (s₂ ∙ long₂ ys fs e₂) (s₃ ∙ long₃ ys ds e₃)) b o $ move ! (5 ∷ []) $ emptied ! w64 maxSlots l₅ ps′ (s₁ ∙ long₁ ys ps e₁) $ move ! (5 ∷ []) $
+          emptied ! w32 maxSlots l₆ fs′ (s₂ ∙ long₂ ys fs e₂) $ move ! (5 ∷ []) $ emptied ! w32 maxSlots l₇ ds′ (s₃ ∙ long₃ ys ds e₃) $ returns ! (look ! 74 refl) $ forget ! 74 refl $ forget ! 72 refl $ forget ! 70 refl $ forget ! 68 refl $
           forget ! 66 refl $ forget ! 61 refl $ forget ! 59 refl $ forget ! 57 refl $ forget ! 55 refl $ forget ! 53 refl $ forget ! 51 refl $ forget ! 49 refl $ forget ! 47 refl $ forget ! 45 refl $ forget ! 43 refl $ forget ! 41 refl $
           forget ! 39 refl $ forget ! 37 refl $ forget ! 35 refl $ forget ! 33 refl $ forget ! 31 refl $ forget ! 29 refl $ forget ! 27 refl $ forget ! 25 refl $ forget ! 23 refl $ forget ! 21 refl $ forget ! 19 refl $ forget ! 17 refl $
           forget ! 15 refl $ forget ! 13 refl $ forget ! 11 refl $ move ! (74 ∷ 75 ∷ 72 ∷ 73 ∷ 70 ∷ 71 ∷ 68 ∷ 69 ∷ 66 ∷ 67 ∷ 2 ∷ 65 ∷ 1 ∷ 64 ∷ 0 ∷ 63 ∷ 61 ∷ 62 ∷ 59 ∷ 60 ∷ 57 ∷ 58 ∷ 55 ∷ 56 ∷ 53 ∷ 54 ∷ 51 ∷ 52 ∷ 49 ∷ 50 ∷ 47 ∷ 48 ∷ 45 ∷ 46 ∷ 43 ∷ 44 ∷ 41 ∷ 42 ∷ 39 ∷ 40 ∷ 37 ∷ 38 ∷ 35 ∷ 36 ∷ 33 ∷ 34 ∷ 31 ∷ 32 ∷ 29 ∷ 30 ∷ 27 ∷ 28 ∷ 25 ∷ 26 ∷ 23 ∷ 24 ∷ 21 ∷ 22 ∷ 19 ∷ 20 ∷ 17 ∷ 18 ∷ 15 ∷ 16 ∷ 13 ∷ 14 ∷ 11 ∷ 12 ∷ []) $
           free-all ! (placed mirs.locals (l₀ ∷ l₁ ∷ l₂ ∷ l₃ ∷ l₄ ∷ l₅ ∷ l₆ ∷ l₇ ∷ l₈ ∷ l₉ ∷ l₁₀ ∷ l₁₁ ∷ l₁₂ ∷ l₁₃ ∷ l₁₄ ∷ l₁₅ ∷ l₁₆ ∷ l₁₇ ∷ l₁₈ ∷ l₁₉ ∷ l₂₀ ∷ l₂₁ ∷ l₂₂ ∷ l₂₃ ∷ l₂₄ ∷ l₂₅ ∷ l₂₆ ∷ l₂₇ ∷ l₂₈ ∷ l₂₉ ∷ l₃₀ ∷ l₃₁ ∷ l₃₂ ∷ l₃₃ ∷ [])) (
           keep ! (4 ∷ 5 ∷ 2 ∷ 7 ∷ 6 ∷ 0 ∷ 1 ∷ 3 ∷ []) $
-          by ! (exits r w₂ ps′ fs′ ds′ (s₁ ∙ long₁ ys ps e₁) (s₂ ∙ long₂ ys fs e₂) (s₃ ∙ long₃ ys ds e₃) (searched-whole f us vs ys (k ys) refl ps fs ds ps′ fs′ ds′ r (many ys ps′ (s₁ ∙ long₁ ys ps e₁)) (many ys fs′ (s₂ ∙ long₂ ys fs e₂)) (many ys ds′ (s₃ ∙ long₃ ys ds e₃)) promised)))))))))))))))))))))))))))))))))))))))))))))))))))))))))))))))
+          by ! (exits r w₂ ps′ fs′ ds′ (s₁ ∙ long₁ ys ps e₁) (s₂ ∙ long₂ ys fs e₂) (s₃ ∙ long₃ ys ds e₃) (searched-whole f (clauseSlices us vs) ys (k ys) refl ps fs ds ps′ fs′ ds′ r (many ys ps′ (s₁ ∙ long₁ ys ps e₁)) (many ys fs′ (s₂ ∙ long₂ ys fs e₂)) (many ys ds′ (s₃ ∙ long₃ ys ds e₃)) promised)))))))))))))))))))))))))))))))))))))))))))))))))))))))))))))))
 
 module _ {M : Type 1} (𝓤 : URA M) (H : Heap 𝓤) (A : Atoms 𝓤) (W : Given 𝓤 H A) (mem : Memory → SProp 𝓤) (run : Routine → Fun 𝓤) (𝓣 : Tables 𝓤 H) (known₀ : Triple 𝓤 (𝓣 .C #point-slices·least) (Least 𝓤 H A mem run)) (known₁ : Triple 𝓤 (𝓣 .C #slot-columns·copy-out) (CopyOut 𝓤 H A mem run))
     (known₂ : Triple 𝓤 (𝓣 .C #slot-prefixes·search-front) (SearchFront 𝓤 H A mem run)) (known₃ : Triple 𝓤 (𝓣 .C #slot-columns·copy-back) (CopyBack 𝓤 H A mem run)) where

@@ -9,17 +9,19 @@ use lib.ListN.{length, take, drop, length-map, length-append, length-drop, take-
 use lib.Seq.{length-take-le, drop-append-le}
 use Rattle.math.specs.Lists.{over}
 use Rattle.math.specs.Laws.SplitLaws.{map-append}
+use Rattle.point_slices.specs.Slices.{ClauseSlices, SlotSlices, slotSlices, wholeSlots}
 use Rattle.formula.specs.declared.Formula.{Formula}
-use Rattle.formula.specs.Limits.{capacity}
-use Rattle.formula.specs.Reply.{Fault, no-fault, fault, unlessKept}
-use Rattle.search.specs.declared.Outcome.{Outcome}
-use Rattle.search.specs.Search.{searchReply, searchFault, searchSlots, searchSlice, lentBy}
+use Rattle.formula.specs.Limits.{maxSlots, capacity}
+use Rattle.formula.specs.Reply.{Fault, no-fault, fault, pointIn, unlessKept}
+use Rattle.search.specs.declared.Found.{Found}
+use Rattle.search.specs.Search.{searchReply, searchFault, searchSlots, searchSlices}
 use Rattle.search.specs.Contract.{Searched}
+use Rattle.search_theory.specs.Slots.{filledWith}
 use Rattle.search_theory.specs.Walk as W
 use Rattle.slot_columns.specs.declared.Slot.{Slot}
-use Rattle.slot_columns.specs.Slots.{pointsIn, falsifiedIn, depthsIn}
+use Rattle.slot_columns.specs.Slots.{pointsIn, falsifiedIn, depthsIn, slotsIn}
 use Rattle.slot_columns.specs.Laws.Copies.{joined, front}
-use Rattle.slot_columns.specs.Laws.SlotLaws.{front-take, joined-columns, min-thrice}
+use Rattle.slot_columns.specs.Laws.SlotLaws.{words-whole, front-take, joined-columns, min-thrice}
 
 module _ {X : Type 0} where
   -- a list's own front changes nothing
@@ -75,36 +77,59 @@ joined-parts (suc k) (x ∷ xs) (n ∷ ns) (d ∷ ds) h₁ h₂ h₃ =
     let rest = joined-parts k xs ns ds (le-of-suc-le-suc h₁) (le-of-suc-le-suc h₂) (le-of-suc-le-suc h₃) in
     (ap (λ l. x ∷ l) (rest .0), (ap (λ l. n ∷ l) (rest .1 .0), ap (λ l. d ∷ l) (rest .1 .1)))
 
--- ---- what a slice's front becomes, the slice becomes
+-- ---- what the slices' fronts become, the slices become
 
-kept-whole : (fl : Fault) (k : ℕ) (new old found : List ℕ) → k ≤ length old → length found ≡ k
-    → found ≡ unlessKept fl (over new (take k old)) (take k old) → over found old ≡ unlessKept fl (over new old) old
-unfolding unlessKept over
-kept-whole no-fault k new old found h len e =
+-- a front with new contents
+filled-whole : (k : ℕ) (new old found : List ℕ) → k ≤ length old → length found ≡ k → found ≡ over new (take k old)
+    → over found old ≡ over new old
+unfolding over
+filled-whole k new old found h len e =
     let long : length found ≡ length new + length (drop (length new) (take k old)) = ap length e
     ∙ length-append new (drop (length new) (take k old)) in
     ap (λ l. over l old) e ∙ over-over k new old (let z : length new ≤ k = omega (arith, long, len) in z) h
-kept-whole (fault code place) k new old found h len e = ap (λ l. over l old) e ∙ front-self k old h
 
-pub slice-whole : (part : W.Slot → ℕ) (f : Formula) (positive negative : List ℕ) (lent k : ℕ) (old found : List ℕ)
-    → k ≤ length old → length found ≡ k
-    → found ≡ searchSlice part f positive negative lent (take k old)
-    → over found old ≡ searchSlice part f positive negative lent old
-unfolding searchSlice
-slice-whole part f positive negative lent k old found h len e = kept-whole (searchFault f positive negative lent) k
-    (map part (searchSlots f positive negative lent)) old found h len e
+module _ (k : ℕ) (p n d p′ n′ d′ : List ℕ) (hp : k ≤ length p) (hn : k ≤ length n) (hd : k ≤ length d)
+    (lp : length p′ ≡ k) (ln : length n′ ≡ k) (ld : length d′ ≡ k) where
+  abbrev fronts : SlotSlices
+  fronts = wholeSlots (take k p) (take k n) (take k d)
+
+  -- the fronts p′, n′ and d′ are found as the search leaves them, where the tests say so
+  kept-whole : (fl : Fault) (l : List W.Slot) → wholeSlots p′ n′ d′ ≡ unlessKept fl (filledWith l fronts) fronts
+      → wholeSlots (over p′ p) (over n′ n) (over d′ d)
+      ≡ unlessKept fl (filledWith l (wholeSlots p n d)) (wholeSlots p n d)
+  unfolding unlessKept
+  kept-whole no-fault l e =
+      λ i. wholeSlots
+      (filled-whole k (map (λ (t : W.Slot). t .point) l) p p′ hp lp (ap (λ (s : SlotSlices). s .points) e) i)
+      (filled-whole k (map (λ (t : W.Slot). t .falsified) l) n n′ hn ln (ap (λ (s : SlotSlices). s .falsified) e) i)
+      (filled-whole k (map (λ (t : W.Slot). t .depth) l) d d′ hd ld (ap (λ (s : SlotSlices). s .depths) e) i)
+  kept-whole (fault code place) l e =
+      (λ i. wholeSlots (over (e i .points) p) (over (e i .falsified) n) (over (e i .depths) d))
+      ∙ (λ i. wholeSlots (front-self k p hp i) (front-self k n hn i) (front-self k d hd i))
+
+  pub slices-whole : (f : Formula) (clauses : ClauseSlices) → capacity fronts ≡ capacity (wholeSlots p n d)
+      → wholeSlots p′ n′ d′ ≡ searchSlices f clauses fronts
+      → wholeSlots (over p′ p) (over n′ n) (over d′ d) ≡ searchSlices f clauses (wholeSlots p n d)
+  unfolding searchSlices
+  slices-whole f clauses room e =
+      let lent = capacity (wholeSlots p n d) in
+      kept-whole (searchFault f clauses lent) (searchSlots f clauses lent)
+      (e ∙ ap (λ j. unlessKept (searchFault f clauses j) (filledWith (searchSlots f clauses j) fronts) fronts) room)
 
 -- ---- the room that the fronts give is the room that the slices give
 
-min-again : (m : ℕ) → min 65536 (min 65536 m) ≡ min 65536 m
+min-again : (m : ℕ) → min maxSlots (min maxSlots m) ≡ min maxSlots m
 min-again m = omega arith
 
-same-room : (m : ℕ) → capacity (min 65536 m) (min 65536 m) (min 65536 m) ≡ capacity m m m
+same-room : (p n d p′ n′ d′ : List ℕ) (m : ℕ) → length p′ ≡ min maxSlots m → length n′ ≡ min maxSlots m
+    → length d′ ≡ min maxSlots m → length p ≡ m → length n ≡ m → length d ≡ m
+    → capacity (wholeSlots p′ n′ d′) ≡ capacity (wholeSlots p n d)
 unfolding capacity
-same-room m = ap (λ n. min 65536 n) (min-thrice (min 65536 m)) ∙ min-again m
-    ∙ sym (ap (λ n. min 65536 n) (min-thrice m))
+same-room p n d p′ n′ d′ m p₁ n₁ d₁ p₂ n₂ d₂ =
+    (λ i. min maxSlots (min (p₁ i) (min (n₁ i) (d₁ i)))) ∙ ap (min maxSlots) (min-thrice (min maxSlots m))
+    ∙ min-again m ∙ sym (ap (min maxSlots) (min-thrice m)) ∙ sym (λ i. min maxSlots (min (p₂ i) (min (n₂ i) (d₂ i))))
 
-module _ (f : Formula) (positive negative : List ℕ) (ys : List Slot) (k : ℕ) (is : k ≡ min 65536 (length ys))
+module _ (f : Formula) (clauses : ClauseSlices) (ys : List Slot) (k : ℕ) (is : k ≡ min maxSlots (length ys))
     (ps₀ fs₀ ds₀ : List ℕ) where
   -- what is searched: the copies' fronts
   abbrev part-of : (Slot → ℕ) → List ℕ → List ℕ
@@ -117,8 +142,8 @@ module _ (f : Formula) (positive negative : List ℕ) (ys : List Slot) (k : ℕ)
   found : (part : Slot → ℕ) (old : List ℕ) → part-of part old ≡ take k (map part ys)
   found part old = front-take k (map part ys) old (enough part)
 
-  long : (part : Slot → ℕ) (old : List ℕ) → length (part-of part old) ≡ k
-  long part old = ap length (found part old) ∙ length-take-le k (map part ys) (enough part)
+  long : (part : Slot → ℕ) → length (take k (map part ys)) ≡ min maxSlots (length ys)
+  long part = length-take-le k (map part ys) (enough part) ∙ is
 
   abbrev point-of : Slot → ℕ
   point-of s = s .point
@@ -129,50 +154,43 @@ module _ (f : Formula) (positive negative : List ℕ) (ys : List Slot) (k : ℕ)
   abbrev depth-of : Slot → ℕ
   depth-of s = s .depth
 
-  room : lentBy (part-of point-of ps₀) (part-of falsified-of fs₀) (part-of depth-of ds₀)
-      ≡ lentBy (pointsIn ys) (falsifiedIn ys) (depthsIn ys)
-  room = (λ i. capacity (long point-of ps₀ i) (long falsified-of fs₀ i) (long depth-of ds₀ i))
-      ∙ ap (λ j. capacity j j j) is ∙ same-room (length ys)
-      ∙ sym (λ i. capacity (length-map ys point-of i) (length-map ys falsified-of i) (length-map ys depth-of i))
+  -- the fronts of the copies are those of the slots
+  abbrev searched : SlotSlices
+  searched = wholeSlots (take k (pointsIn ys)) (take k (falsifiedIn ys)) (take k (depthsIn ys))
+
+  copies : slotSlices (part-of point-of ps₀) (part-of falsified-of fs₀) (part-of depth-of ds₀) ≡ searched
+  copies = words-whole (part-of point-of ps₀) (part-of falsified-of fs₀) (part-of depth-of ds₀)
+      ∙ (λ i. wholeSlots (found point-of ps₀ i) (found falsified-of fs₀ i) (found depth-of ds₀ i))
+
+  room : capacity searched ≡ capacity (slotsIn ys)
+  room = same-room (pointsIn ys) (falsifiedIn ys) (depthsIn ys) (take k (pointsIn ys)) (take k (falsifiedIn ys))
+      (take k (depthsIn ys)) (length ys) (long point-of) (long falsified-of) (long depth-of) (length-map ys point-of)
+      (length-map ys falsified-of) (length-map ys depth-of)
 
   -- copied out, searched and copied back
-  pub searched-whole : (ps fs ds : List ℕ) (r : Outcome) → k ≤ length ps → k ≤ length fs → k ≤ length ds
-      → Searched f positive negative (part-of point-of ps₀) (part-of falsified-of fs₀) (part-of depth-of ds₀) r
-      (take k ps) (take k fs) (take k ds)
-      → Searched f positive negative (pointsIn ys) (falsifiedIn ys) (depthsIn ys) r
-      (pointsIn (front k (joined ps fs ds) ys)) (falsifiedIn (front k (joined ps fs ds) ys))
-      (depthsIn (front k (joined ps fs ds) ys))
+  pub searched-whole : (ps fs ds : List ℕ) (r : Found) → k ≤ length ps → k ≤ length fs → k ≤ length ds
+      → Searched f clauses (slotSlices (part-of point-of ps₀) (part-of falsified-of fs₀) (part-of depth-of ds₀)) r
+      (slotSlices (take k ps) (take k fs) (take k ds))
+      → Searched f clauses (slotsIn ys) r (slotsIn (front k (joined ps fs ds) ys))
   searched-whole ps fs ds r h₁ h₂ h₃ s =
       let parts = joined-parts k ps fs ds h₁ h₂ h₃ in
+      let lent = ap capacity copies ∙ room in
       record {
-        reply = s .reply ∙ ap (λ n. searchReply f positive negative n) room;
-        points = column-front point-of k (joined ps fs ds) ys ∙ ap (λ l. over l (pointsIn ys)) (parts .0)
-            ∙ slice-whole (λ (t : W.Slot). t .point) f positive negative
-            (lentBy (pointsIn ys) (falsifiedIn ys) (depthsIn ys)) k (pointsIn ys) (take k ps) (enough point-of)
-            (length-take-le k ps h₁)
-            (s .points ∙ (λ i. searchSlice (λ (t : W.Slot). t .point) f positive negative (room i)
-            (found point-of ps₀ i)));
-        falsified = column-front falsified-of k (joined ps fs ds) ys ∙ ap (λ l. over l (falsifiedIn ys)) (parts .1 .0)
-            ∙ slice-whole (λ (t : W.Slot). t .falsified) f positive negative
-            (lentBy (pointsIn ys) (falsifiedIn ys) (depthsIn ys)) k (falsifiedIn ys) (take k fs) (enough falsified-of)
-            (length-take-le k fs h₂)
-            (s .falsified ∙ (λ i. searchSlice (λ (t : W.Slot). t .falsified) f positive negative (room i)
-            (found falsified-of fs₀ i)));
-        depths = column-front depth-of k (joined ps fs ds) ys ∙ ap (λ l. over l (depthsIn ys)) (parts .1 .1)
-            ∙ slice-whole (λ (t : W.Slot). t .depth) f positive negative
-            (lentBy (pointsIn ys) (falsifiedIn ys) (depthsIn ys)) k (depthsIn ys) (take k ds) (enough depth-of)
-            (length-take-le k ds h₃)
-            (s .depths ∙ (λ i. searchSlice (λ (t : W.Slot). t .depth) f positive negative (room i)
-            (found depth-of ds₀ i)));
+        reply = s .reply ∙ ap (searchReply f clauses) lent;
+        point = s .point ∙ ap (λ j. pointIn (searchReply f clauses j)) lent;
+        slots = (λ i. wholeSlots (column-front point-of k (joined ps fs ds) ys i)
+            (column-front falsified-of k (joined ps fs ds) ys i) (column-front depth-of k (joined ps fs ds) ys i))
+            ∙ (λ i. wholeSlots (over (parts .0 i) (pointsIn ys)) (over (parts .1 .0 i) (falsifiedIn ys))
+            (over (parts .1 .1 i) (depthsIn ys)))
+            ∙ slices-whole k (pointsIn ys) (falsifiedIn ys) (depthsIn ys) (take k ps) (take k fs) (take k ds)
+            (enough point-of) (enough falsified-of) (enough depth-of) (length-take-le k ps h₁)
+            (length-take-le k fs h₂) (length-take-le k ds h₃) f clauses room
+            (sym (words-whole (take k ps) (take k fs) (take k ds)) ∙ s .slots ∙ ap (searchSlices f clauses) copies);
       }
 
 -- so the slots that `search_slots` leaves are the three lists that the search leaves, joined
-pub slots-joined : (f : Formula) (positive negative : List ℕ) (xs zs : List Slot) (r : Outcome)
-    → Searched f positive negative (pointsIn xs) (falsifiedIn xs) (depthsIn xs) r (pointsIn zs) (falsifiedIn zs)
-    (depthsIn zs)
-    → let lent = lentBy (pointsIn xs) (falsifiedIn xs) (depthsIn xs) in
-    zs ≡ joined (searchSlice (λ (t : W.Slot). t .point) f positive negative lent (pointsIn xs))
-    (searchSlice (λ (t : W.Slot). t .falsified) f positive negative lent (falsifiedIn xs))
-    (searchSlice (λ (t : W.Slot). t .depth) f positive negative lent (depthsIn xs))
-slots-joined f positive negative xs zs r s = sym (joined-columns zs)
-    ∙ (λ i. joined (s .points i) (s .falsified i) (s .depths i))
+pub slots-joined : (f : Formula) (clauses : ClauseSlices) (xs zs : List Slot) (r : Found)
+    → Searched f clauses (slotsIn xs) r (slotsIn zs)
+    → let left = searchSlices f clauses (slotsIn xs) in zs ≡ joined (left .points) (left .falsified) (left .depths)
+slots-joined f clauses xs zs r s = sym (joined-columns zs)
+    ∙ (λ i. joined (s .slots i .points) (s .slots i .falsified) (s .slots i .depths))

@@ -44,9 +44,11 @@ use denote.Triple.Table.{entered, cited}
 use denote.Triple.Walked.{says, Stays, stay-slice, stay-none, stay-none-slice, walkOf, goes-slice, goes-none}
 use denote.Triple.Walked.{goes-none-slice, Walks, ends-at, walked, walk-meets}
 use denote.Exit.{yes}
+use Rattle.formula.specs.Limits.{maxSlots}
 use Rattle.formula.specs.declared.Formula.{Formula}
 use Rattle.formula.proofs.Formula as F
 use Rattle.formula.proofs.Formula.Laws as F′
+use Rattle.point_slices.specs.Slices.{clauseSlices}
 use Rattle.certificate_writer.specs.declared.Written.{Written}
 use Rattle.certificate_writer.specs.Contract.{Wrote}
 use Rattle.certificate_writer.proofs.Written as O
@@ -54,7 +56,7 @@ use Rattle.point_slices.proofs.least.Symbol as least-def
 use Rattle.point_slices.proofs.least.Symbol.{name as #point-slices·least}
 use Rattle.point_slices.proofs.least.Met as least-thm
 use Rattle.slot_columns.specs.declared.Slot.{Slot}
-use Rattle.slot_columns.specs.Slots.{pointsIn, falsifiedIn, depthsIn}
+use Rattle.slot_columns.specs.Slots.{slotsIn}
 use Rattle.slot_writer.specs.Laws.WriteLaws.{wrote-whole}
 use Rattle.slot_proofs.proofs.Places.{k, gk, P, N, D, long₁, long₂, long₃, fits-in, fronts-in}
 use Rattle.slot_columns.proofs.Row.{R, mut-again}
@@ -112,7 +114,7 @@ module _ {M : Type 1} (𝓤 : URA M) (H : Heap 𝓤) (A : Atoms 𝓤) (W : Given
     abbrev Had : Written → Val → List ℕ → List (Item 𝓤)
     Had r w zs = ‵ (flft κ₀ q₀) ∷ ‵ (flft κ₁ q₁) ∷ ‵ (flft κ₂ q₂) ∷ ‵ (flft κ₃ q₃) ∷ ‵ positive ∷ ‵ negative ∷ ‵ lent-slots ∷ ‵ (fobs δ₃ (codedHoleys u8 .code (heres u8 zs))) ∷ ‵ (fbor κ₃ (Held u8 (length zs) b₃ o₃ δ₃)) ∷ ‵ (O.the-row .own r (w ∷ [])) ∷ []
 
-    exits : (r : Written) (w : Val) (zs : List ℕ) → length zs ≡ length os → Wrote f us vs (pointsIn ys) (falsifiedIn ys) (depthsIn ys) filled os r zs → ent 𝓤 (⋆ 𝓤 H A (Had r w zs)) (Post w)
+    exits : (r : Written) (w : Val) (zs : List ℕ) → length zs ≡ length os → Wrote f (clauseSlices us vs) (slotsIn ys) filled os r zs → ent 𝓤 (⋆ 𝓤 H A (Had r w zs)) (Post w)
     exits r w zs same promised =
         qed W (Had r w zs) ∵ suffices ! _ (ends-at 𝓤 H A this.ended stayed (this.clauses 𝓤 H A mem run) W bound w r (tt, (tt, (tt, (tt, (tt, (zs, tt)))))) (tt, (tt, (tt, (tt, (tt, (same, tt))))))) $ says ! promised $
         nothing ! $ move ! (4 ∷ 0 ∷ []) $ join ! $ move ! (3 ∷ 0 ∷ []) $ join ! $ move ! (2 ∷ 0 ∷ []) $ join ! $ move ! (1 ∷ 0 ∷ []) $ join ! $ frame ! $
@@ -136,15 +138,15 @@ module _ {M : Type 1} (𝓤 : URA M) (H : Heap 𝓤) (A : Atoms 𝓤) (W : Given
           move ! (55 ∷ 54 ∷ []) $ fsplit ! $ drop ! $ fsplit ! $ move ! (1 ∷ []) $ fsplit ! $ move ! (1 ∷ []) $ fsplit ! $ move ! (1 ∷ []) $ fsplit ! $ drop ! $ fsplit ! $ fsplit ! $ drop ! $ fsplit ! $ move ! (6 ∷ []) $ split ! $
           move ! (1 ∷ []) $ split ! $ move ! (1 ∷ []) $ split ! $ move ! (1 ∷ []) $ split ! $ move ! (1 ∷ []) $ drop ! $ move ! (6 ∷ []) $ drop ! $ move ! (4 ∷ 5 ∷ 0 ∷ []) $ opens-slice ! tt u8 os b₃ o₃ $
           -- the three local arrays
-          zeros-typed ! w64 65536 (lit< tt) (λ z. assigns ! (rep ! 65536 (lit ! tt)) (from ! (stop !)) (init ! 48 refl z) $ move ! (48 ∷ []) $ abstracted ! w64 65536 l₇ (lit< tt) (λ ps e₁. zeros-typed ! w32 65536 (lit< tt) (λ z.
-          assigns ! (rep ! 65536 (lit ! tt)) (from ! (stop !)) (init ! 47 refl z) $ move ! (47 ∷ []) $ abstracted ! w32 65536 l₈ (lit< tt) (λ fs e₂. zeros-typed ! w32 65536 (lit< tt) (λ z.
-          assigns ! (rep ! 65536 (lit ! tt)) (from ! (stop !)) (init ! 46 refl z) $ move ! (46 ∷ []) $ abstracted ! w32 65536 l₉ (lit< tt) (λ ds e₃.
+          zeros-typed ! w64 maxSlots (lit< tt) (λ z. assigns ! (rep ! maxSlots (lit ! tt)) (from ! (stop !)) (init ! 48 refl z) $ move ! (48 ∷ []) $ abstracted ! w64 maxSlots l₇ (lit< tt) (λ ps e₁. zeros-typed ! w32 maxSlots (lit< tt) (λ z.
+          assigns ! (rep ! maxSlots (lit ! tt)) (from ! (stop !)) (init ! 47 refl z) $ move ! (47 ∷ []) $ abstracted ! w32 maxSlots l₈ (lit< tt) (λ fs e₂. zeros-typed ! w32 maxSlots (lit< tt) (λ z.
+          assigns ! (rep ! maxSlots (lit ! tt)) (from ! (stop !)) (init ! 46 refl z) $ move ! (46 ∷ []) $ abstracted ! w32 maxSlots l₉ (lit< tt) (λ ds e₃.
           -- [depths' array; falsified's; points'; the output's row; the open borrow; obs; auth; the tokens of slots,
           -- negative and positive; slots; negative; positive; _26; …; _0; …]
           assigns ! (of-opd ! (load ! (from ! (fld ! refl (stop !))) (look-in ! 54 (sub ! 1 refl (whole !))))) (from ! (stop !)) (init ! 43 refl (tt, record { fits = room .0 })) $
-          Count.asks 65536 (length ys) 𝓤 H A mem run W ! (lit< tt) (room .0) $
-          calls-at ! fm (Least 𝓤 H A mem run) known₀ (Count.bound 65536 (length ys) 𝓤 H A mem run) (and-then ! (big-lit ! (record { fits = lit< tt })) (and-then ! (load ! (from ! (stop !)) (look ! 44 refl)) (no-more !))) (λ w.
-          Count.has 65536 (length ys) 𝓤 H A mem run W ! tt w (λ is. land ! (from ! (stop !)) (init ! 45 refl (subst (λ (u : Val). T (hasTy (tyInt w64) u) × WT u) (sym (ap only is)) (tt, record { fits = gk ys }))) $
+          Count.asks maxSlots (length ys) 𝓤 H A mem run W ! (lit< tt) (room .0) $
+          calls-at ! fm (Least 𝓤 H A mem run) known₀ (Count.bound maxSlots (length ys) 𝓤 H A mem run) (and-then ! (big-lit ! (record { fits = lit< tt })) (and-then ! (load ! (from ! (stop !)) (look ! 44 refl)) (no-more !))) (λ w.
+          Count.has maxSlots (length ys) 𝓤 H A mem run W ! tt w (λ is. land ! (from ! (stop !)) (init ! 45 refl (subst (λ (u : Val). T (hasTy (tyInt w64) u) × WT u) (sym (ap only is)) (tt, record { fits = gk ys }))) $
           rewrite ! 45 (λ (u : Val). ‵ (fat fullShare (tyInt w64) l₁₀ 0 u)) (ap only is) refl $
           -- the slots are copied out
           assigns ! (addr ! (from ! (stop !))) (from ! (stop !)) (init ! 39 refl (tt, tt)) $
@@ -154,11 +156,11 @@ module _ {M : Type 1} (𝓤 : URA M) (H : Heap 𝓤) (A : Atoms 𝓤) (W : Given
           assigns ! (addr ! (from ! (stop !))) (from ! (stop !)) (init ! 31 refl (tt, tt)) $
           assigns ! (agg ! (and-then ! (load ! (from ! (stop !)) (look ! 31 refl)) (and-then ! (big-lit ! (record { fits = lit< tt })) (no-more !)))) (from ! (stop !)) (init ! 29 refl (tt, (tt, (record { fits = lit< tt }, tt)))) $
           move ! (10 ∷ []) $ use1 W (‵ lent-slots ⊛ ‵ lent-slots) (shr-slice-copy 𝓤 H A W (named 2) κ₂ R .twice (x .1 .1 .1 .0) (at .1 .1 .1 .0)) $ split ! $ move ! (4 ∷ []) $
-          lend ! tt u64 (named 1) 65536 ps l₇ 0 e₁ (room64 ps e₁) (λ ν₁ γ₁. move ! (6 ∷ []) $ lend ! tt u32 (named 2) 65536 fs l₈ 0 e₂ (room32 fs e₂) (λ ν₂ γ₂. move ! (8 ∷ []) $
-          lend ! tt u32 (named 3) 65536 ds l₉ 0 e₃ (room32 ds e₃) (λ ν₃ γ₃. move ! (10 ∷ 15 ∷ 6 ∷ 7 ∷ 3 ∷ 4 ∷ 0 ∷ 1 ∷ []) $
-          Out.asks b o l₇ 0 l₈ 0 l₉ 0 γ γ₁ γ₂ γ₃ ys ps fs ds (k ys) 65536 κ₂ q₂ ν₁ ν₂ ν₃ 𝓤 H A mem run W ! (gk ys) (fits-in ys ps fs ds e₁ e₂ e₃) $
-          calls-at ! fm (CopyOut 𝓤 H A mem run) known₁ (Out.bound b o l₇ 0 l₈ 0 l₉ 0 γ γ₁ γ₂ γ₃ ys ps fs ds (k ys) 65536 κ₂ q₂ ν₁ ν₂ ν₃ 𝓤 H A mem run) (and-then ! (load ! (from ! (stop !)) (look ! 54 refl)) (and-then ! (load ! (from ! (stop !)) (look ! 45 refl)) (and-then ! (load ! (from ! (stop !)) (look ! 37 refl)) (and-then ! (load ! (from ! (stop !)) (look ! 33 refl)) (and-then ! (load ! (from ! (stop !)) (look ! 29 refl)) (no-more !)))))) (λ w₁.
-          Out.has b o l₇ 0 l₈ 0 l₉ 0 γ γ₁ γ₂ γ₃ ys ps fs ds (k ys) 65536 κ₂ q₂ ν₁ ν₂ ν₃ 𝓤 H A mem run W ! tt w₁ (λ is₁. land ! (from ! (stop !)) (init ! 47 refl (subst (λ (u : Val). T (hasTy tyUnit u) × WT u) (sym (ap only is₁)) (tt, tt))) $
+          lend ! tt u64 (named 1) maxSlots ps l₇ 0 e₁ (room64 ps e₁) (λ ν₁ γ₁. move ! (6 ∷ []) $ lend ! tt u32 (named 2) maxSlots fs l₈ 0 e₂ (room32 fs e₂) (λ ν₂ γ₂. move ! (8 ∷ []) $
+          lend ! tt u32 (named 3) maxSlots ds l₉ 0 e₃ (room32 ds e₃) (λ ν₃ γ₃. move ! (10 ∷ 15 ∷ 6 ∷ 7 ∷ 3 ∷ 4 ∷ 0 ∷ 1 ∷ []) $
+          Out.asks b o l₇ 0 l₈ 0 l₉ 0 γ γ₁ γ₂ γ₃ ys ps fs ds (k ys) maxSlots κ₂ q₂ ν₁ ν₂ ν₃ 𝓤 H A mem run W ! (gk ys) (fits-in ys ps fs ds e₁ e₂ e₃) $
+          calls-at ! fm (CopyOut 𝓤 H A mem run) known₁ (Out.bound b o l₇ 0 l₈ 0 l₉ 0 γ γ₁ γ₂ γ₃ ys ps fs ds (k ys) maxSlots κ₂ q₂ ν₁ ν₂ ν₃ 𝓤 H A mem run) (and-then ! (load ! (from ! (stop !)) (look ! 54 refl)) (and-then ! (load ! (from ! (stop !)) (look ! 45 refl)) (and-then ! (load ! (from ! (stop !)) (look ! 37 refl)) (and-then ! (load ! (from ! (stop !)) (look ! 33 refl)) (and-then ! (load ! (from ! (stop !)) (look ! 29 refl)) (no-more !)))))) (λ w₁.
+          Out.has b o l₇ 0 l₈ 0 l₉ 0 γ γ₁ γ₂ γ₃ ys ps fs ds (k ys) maxSlots κ₂ q₂ ν₁ ν₂ ν₃ 𝓤 H A mem run W ! tt w₁ (λ is₁. land ! (from ! (stop !)) (init ! 47 refl (subst (λ (u : Val). T (hasTy tyUnit u) × WT u) (sym (ap only is₁)) (tt, tt))) $
           move ! (1 ∷ 9 ∷ 4 ∷ []) $ unlend ! tt u64 (P ys ps) l₇ 0 $ move ! (2 ∷ 7 ∷ 4 ∷ []) $ unlend ! tt u32 (N ys fs) l₈ 0 $ move ! (3 ∷ 5 ∷ 4 ∷ []) $ unlend ! tt u32 (D ys ds) l₉ 0 $
           -- the certificate is written from the copies
           assigns ! (addr ! (from ! (stop !))) (from ! (stop !)) (init ! 27 refl (tt, tt)) $
@@ -171,22 +173,22 @@ module _ {M : Type 1} (𝓤 : URA M) (H : Heap 𝓤) (A : Atoms 𝓤) (W : Given
           assigns ! (agg ! (and-then ! (load ! (from ! (stop !)) (look ! 15 refl)) (and-then ! (load ! (from ! (fld ! refl (stop !))) (look-in ! 50 (sub ! 1 refl (whole !)))) (no-more !)))) (from ! (stop !)) (init ! 13 refl (tt, (tt, (record { fits = room₃ .0 }, tt)))) $
           move ! (12 ∷ []) $ use1 W (‵ positive ⊛ ‵ positive) (shr-slice-copy 𝓤 H A W (named 0) κ₀ u64 .twice (x .1 .0) (at .1 .0)) $ split ! $ move ! (13 ∷ []) $
           use1 W (‵ negative ⊛ ‵ negative) (shr-slice-copy 𝓤 H A W (named 1) κ₁ u64 .twice (x .1 .1 .0) (at .1 .1 .0)) $ split ! $ move ! (6 ∷ []) $
-          share ! tt u64 (named 2) 65536 (P ys ps) l₇ 0 (long₁ ys ps e₁) (room64 (P ys ps) (long₁ ys ps e₁)) (λ ν₄ γ₄. move ! (8 ∷ []) $ share ! tt u32 (named 3) 65536 (N ys fs) l₈ 0 (long₂ ys fs e₂) (room32 (N ys fs) (long₂ ys fs e₂)) (λ ν₅ γ₅. move ! (10 ∷ []) $
-          share ! tt u32 (named 4) 65536 (D ys ds) l₉ 0 (long₃ ys ds e₃) (room32 (D ys ds) (long₃ ys ds e₃)) (λ ν₆ γ₆. move ! (15 ∷ []) $ lend ! tt u8 (named 5) (length os) os b₃ o₃ refl room₃ (λ ν₇ γ₇.
+          share ! tt u64 (named 2) maxSlots (P ys ps) l₇ 0 (long₁ ys ps e₁) (room64 (P ys ps) (long₁ ys ps e₁)) (λ ν₄ γ₄. move ! (8 ∷ []) $ share ! tt u32 (named 3) maxSlots (N ys fs) l₈ 0 (long₂ ys fs e₂) (room32 (N ys fs) (long₂ ys fs e₂)) (λ ν₅ γ₅. move ! (10 ∷ []) $
+          share ! tt u32 (named 4) maxSlots (D ys ds) l₉ 0 (long₃ ys ds e₃) (room32 (D ys ds) (long₃ ys ds e₃)) (λ ν₆ γ₆. move ! (15 ∷ []) $ lend ! tt u8 (named 5) (length os) os b₃ o₃ refl room₃ (λ ν₇ γ₇.
           move ! (15 ∷ 22 ∷ 13 ∷ 21 ∷ 9 ∷ 10 ∷ 6 ∷ 7 ∷ 3 ∷ 4 ∷ 0 ∷ 1 ∷ []) $
-          Front.asks f us vs κ₀ κ₁ q₀ q₁ c₀ d₀ c₁ d₁ δ₀ δ₁ l₇ 0 l₈ 0 l₉ 0 γ₄ γ₅ γ₆ (P ys ps) (N ys fs) (D ys ds) (k ys) 65536 ν₄ ν₅ ν₆ filled b₃ o₃ γ₇ os ν₇ 𝓤 H A mem run W ! gf (gk ys) gc (fronts-in ys (P ys ps) (N ys fs) (D ys ds) (long₁ ys ps e₁) (long₂ ys fs e₂) (long₃ ys ds e₃)) $
-          calls-at ! fm (WriteFront 𝓤 H A mem run) known₂ (Front.bound f us vs κ₀ κ₁ q₀ q₁ c₀ d₀ c₁ d₁ δ₀ δ₁ l₇ 0 l₈ 0 l₉ 0 γ₄ γ₅ γ₆ (P ys ps) (N ys fs) (D ys ds) (k ys) 65536 ν₄ ν₅ ν₆ filled b₃ o₃ γ₇ os ν₇ 𝓤 H A mem run) (and-then ! (load ! (from ! (stop !)) (look ! 59 refl)) (and-then ! (load ! (from ! (stop !)) (look ! 57 refl)) (and-then ! (load ! (from ! (stop !)) (look ! 55 refl)) (and-then ! (load ! (from ! (stop !)) (look ! 24 refl)) (and-then ! (load ! (from ! (stop !)) (look ! 20 refl)) (and-then ! (load ! (from ! (stop !)) (look ! 16 refl)) (and-then ! (load ! (from ! (stop !)) (look ! 44 refl)) (and-then ! (load ! (from ! (stop !)) (look ! 51 refl)) (and-then ! (load ! (from ! (stop !)) (look ! 12 refl)) (no-more !)))))))))) (λ w₂.
-          Front.has f us vs κ₀ κ₁ q₀ q₁ c₀ d₀ c₁ d₁ δ₀ δ₁ l₇ 0 l₈ 0 l₉ 0 γ₄ γ₅ γ₆ (P ys ps) (N ys fs) (D ys ds) (k ys) 65536 ν₄ ν₅ ν₆ filled b₃ o₃ γ₇ os ν₇ 𝓤 H A mem run W ! tt w₂ (λ r os′ same promised. move ! (7 ∷ []) $
+          Front.asks f us vs κ₀ κ₁ q₀ q₁ c₀ d₀ c₁ d₁ δ₀ δ₁ l₇ 0 l₈ 0 l₉ 0 γ₄ γ₅ γ₆ (P ys ps) (N ys fs) (D ys ds) (k ys) maxSlots ν₄ ν₅ ν₆ filled b₃ o₃ γ₇ os ν₇ 𝓤 H A mem run W ! gf (gk ys) gc (fronts-in ys (P ys ps) (N ys fs) (D ys ds) (long₁ ys ps e₁) (long₂ ys fs e₂) (long₃ ys ds e₃)) $
+          calls-at ! fm (WriteFront 𝓤 H A mem run) known₂ (Front.bound f us vs κ₀ κ₁ q₀ q₁ c₀ d₀ c₁ d₁ δ₀ δ₁ l₇ 0 l₈ 0 l₉ 0 γ₄ γ₅ γ₆ (P ys ps) (N ys fs) (D ys ds) (k ys) maxSlots ν₄ ν₅ ν₆ filled b₃ o₃ γ₇ os ν₇ 𝓤 H A mem run) (and-then ! (load ! (from ! (stop !)) (look ! 59 refl)) (and-then ! (load ! (from ! (stop !)) (look ! 57 refl)) (and-then ! (load ! (from ! (stop !)) (look ! 55 refl)) (and-then ! (load ! (from ! (stop !)) (look ! 24 refl)) (and-then ! (load ! (from ! (stop !)) (look ! 20 refl)) (and-then ! (load ! (from ! (stop !)) (look ! 16 refl)) (and-then ! (load ! (from ! (stop !)) (look ! 44 refl)) (and-then ! (load ! (from ! (stop !)) (look ! 51 refl)) (and-then ! (load ! (from ! (stop !)) (look ! 12 refl)) (no-more !)))))))))) (λ w₂.
+          Front.has f us vs κ₀ κ₁ q₀ q₁ c₀ d₀ c₁ d₁ δ₀ δ₁ l₇ 0 l₈ 0 l₉ 0 γ₄ γ₅ γ₆ (P ys ps) (N ys fs) (D ys ds) (k ys) maxSlots ν₄ ν₅ ν₆ filled b₃ o₃ γ₇ os ν₇ 𝓤 H A mem run W ! tt w₂ (λ r os′ same promised. move ! (7 ∷ []) $
           peeks ! O.the-row (Is O.the-row) (shows 𝓤 H A O.the-row) r (w₂ ∷ []) (λ iso. land ! (from ! (stop !)) (init ! 68 refl (written-typed 𝓤 H A W r w₂ iso)) $ move ! (3 ∷ 11 ∷ []) $ unshare ! tt u64 (P ys ps) l₇ 0 $ move ! (4 ∷ 10 ∷ []) $
           unshare ! tt u32 (N ys fs) l₈ 0 $ move ! (5 ∷ 9 ∷ []) $ unshare ! tt u32 (D ys ds) l₉ 0 $ move ! (6 ∷ 8 ∷ 7 ∷ []) $ unlend ! tt u8 os′ b₃ o₃ $
           -- the output's borrow is closed, and the locals are given up
-          move ! (0 ∷ 11 ∷ 12 ∷ 13 ∷ []) $ closes-slice ! tt u8 os os′ same b₃ o₃ $ move ! (5 ∷ []) $ emptied ! w64 65536 l₇ (P ys ps) (long₁ ys ps e₁) $ move ! (5 ∷ []) $ emptied ! w32 65536 l₈ (N ys fs) (long₂ ys fs e₂) $ move ! (5 ∷ []) $
-          emptied ! w32 65536 l₉ (D ys ds) (long₃ ys ds e₃) $ returns ! (look ! 62 refl) $ forget ! 62 refl $ forget ! 60 refl $ forget ! 58 refl $ forget ! 56 refl $ forget ! 54 refl $ forget ! 52 refl $ forget ! 50 refl $ forget ! 45 refl $
+          move ! (0 ∷ 11 ∷ 12 ∷ 13 ∷ []) $ closes-slice ! tt u8 os os′ same b₃ o₃ $ move ! (5 ∷ []) $ emptied ! w64 maxSlots l₇ (P ys ps) (long₁ ys ps e₁) $ move ! (5 ∷ []) $ emptied ! w32 maxSlots l₈ (N ys fs) (long₂ ys fs e₂) $ move ! (5 ∷ []) $
+          emptied ! w32 maxSlots l₉ (D ys ds) (long₃ ys ds e₃) $ returns ! (look ! 62 refl) $ forget ! 62 refl $ forget ! 60 refl $ forget ! 58 refl $ forget ! 56 refl $ forget ! 54 refl $ forget ! 52 refl $ forget ! 50 refl $ forget ! 45 refl $
           forget ! 43 refl $ forget ! 41 refl $ forget ! 39 refl $ forget ! 37 refl $ forget ! 35 refl $ forget ! 33 refl $ forget ! 31 refl $ forget ! 29 refl $ forget ! 27 refl $ forget ! 25 refl $ forget ! 23 refl $ forget ! 21 refl $
           forget ! 19 refl $ forget ! 17 refl $ forget ! 15 refl $ forget ! 13 refl $ move ! (62 ∷ 63 ∷ 60 ∷ 61 ∷ 58 ∷ 59 ∷ 56 ∷ 57 ∷ 54 ∷ 55 ∷ 52 ∷ 53 ∷ 50 ∷ 51 ∷ 2 ∷ 49 ∷ 1 ∷ 48 ∷ 0 ∷ 47 ∷ 45 ∷ 46 ∷ 43 ∷ 44 ∷ 41 ∷ 42 ∷ 39 ∷ 40 ∷ 37 ∷ 38 ∷ 35 ∷ 36 ∷ 33 ∷ 34 ∷ 31 ∷ 32 ∷ 29 ∷ 30 ∷ 27 ∷ 28 ∷ 25 ∷ 26 ∷ 23 ∷ 24 ∷ 21 ∷ 22 ∷ 19 ∷ 20 ∷ 17 ∷ 18 ∷ 15 ∷ 16 ∷ 13 ∷ 14 ∷ []) $
           free-all ! (placed mirs.locals (l₀ ∷ l₁ ∷ l₂ ∷ l₃ ∷ l₄ ∷ l₅ ∷ l₆ ∷ l₇ ∷ l₈ ∷ l₉ ∷ l₁₀ ∷ l₁₁ ∷ l₁₂ ∷ l₁₃ ∷ l₁₄ ∷ l₁₅ ∷ l₁₆ ∷ l₁₇ ∷ l₁₈ ∷ l₁₉ ∷ l₂₀ ∷ l₂₁ ∷ l₂₂ ∷ l₂₃ ∷ l₂₄ ∷ l₂₅ ∷ l₂₆ ∷ [])) (
           keep ! (4 ∷ 5 ∷ 8 ∷ 2 ∷ 7 ∷ 6 ∷ 9 ∷ 0 ∷ 1 ∷ 3 ∷ []) $
-          by ! (exits r w₂ os′ same (wrote-whole f us vs ys (k ys) refl filled os ps fs ds r os′ promised))))))))))))))))))))))))))))))))))))))))))))))))))
+          by ! (exits r w₂ os′ same (wrote-whole f (clauseSlices us vs) ys (k ys) refl filled os ps fs ds r os′ promised))))))))))))))))))))))))))))))))))))))))))))))))))
 
 module _ {M : Type 1} (𝓤 : URA M) (H : Heap 𝓤) (A : Atoms 𝓤) (W : Given 𝓤 H A) (mem : Memory → SProp 𝓤) (run : Routine → Fun 𝓤) (𝓣 : Tables 𝓤 H) (known₀ : Triple 𝓤 (𝓣 .C #point-slices·least) (Least 𝓤 H A mem run)) (known₁ : Triple 𝓤 (𝓣 .C #slot-columns·copy-out) (CopyOut 𝓤 H A mem run))
     (known₂ : Triple 𝓤 (𝓣 .C #slot-prefixes·write-front) (WriteFront 𝓤 H A mem run)) where

@@ -10,8 +10,9 @@ use lib.ListN.{length, take, drop, length-map}
 use lib.Seq.{take-take, length-take-le}
 use Rattle.math.specs.Lists.{firstFailing, below}
 use Rattle.points.specs.Points.{Numbered}
+use Rattle.point_slices.specs.Slices.{ClauseSlices, SlotSlices, slotSlices, wholeSlots}
 use Rattle.formula.specs.declared.Formula.{Formula}
-use Rattle.formula.specs.Limits.{capacity}
+use Rattle.formula.specs.Limits.{maxSlots, capacity}
 use Rattle.formula.specs.Problem.{problemOf}
 use Rattle.formula.specs.Refusals.{formulaFault, permutationFault, symmetryFault}
 use Rattle.formula.specs.Reply.{Fault, no-fault, fault, first, unless, unlessKept, written, faultAt}
@@ -23,9 +24,9 @@ use Rattle.certificate.specs.Laws.RowLaws.{points-fault-take, numbers-fault-tak
 use Rattle.certificate.specs.Writer.{writeFault, writeReply, writeOutput, certificateOf, lengthNeeded}
 use Rattle.certificate_writer.specs.Contract.{Wrote}
 use Rattle.slot_columns.specs.declared.Slot.{Slot}
-use Rattle.slot_columns.specs.Slots.{pointsIn, falsifiedIn, depthsIn}
+use Rattle.slot_columns.specs.Slots.{pointsIn, falsifiedIn, depthsIn, slotsIn}
 use Rattle.slot_columns.specs.Laws.Copies.{front}
-use Rattle.slot_columns.specs.Laws.SlotLaws.{column-long, front-take, min-thrice}
+use Rattle.slot_columns.specs.Laws.SlotLaws.{words-whole, column-long, front-take, min-thrice}
 
 -- ---- tests in order
 
@@ -70,7 +71,7 @@ numbers-same cs filled k xs ns h =
 
 -- ---- the writer on the first k places of each part
 
-module _ (f : Formula) (positive negative : List ℕ) (ys : List Slot) (k : ℕ) (is : k ≡ min 65536 (length ys))
+module _ (f : Formula) (clauses : ClauseSlices) (ys : List Slot) (k : ℕ) (is : k ≡ min maxSlots (length ys))
     (filled : ℕ) (out : List ℕ) where
   abbrev P : List ℕ
   P = pointsIn ys
@@ -80,6 +81,9 @@ module _ (f : Formula) (positive negative : List ℕ) (ys : List Slot) (k : ℕ)
 
   abbrev D : List ℕ
   D = depthsIn ys
+
+  abbrev fronts : SlotSlices
+  fronts = wholeSlots (take k P) (take k N) (take k D)
 
   used : k ≤ length ys
   used = omega (arith, is)
@@ -94,113 +98,116 @@ module _ (f : Formula) (positive negative : List ℕ) (ys : List Slot) (k : ℕ)
   longD = column-long (λ (s : Slot). s .depth) k ys used
 
   -- the limit of row 16 is k, on all places and on the first
-  limit : capacity (length P) (length N) (length D) ≡ k
+  limit : capacity (slotsIn ys) ≡ k
   unfolding capacity
-  limit = (λ i. capacity (length-map ys (λ (s : Slot). s .point) i) (length-map ys (λ (s : Slot). s .falsified) i)
-      (length-map ys (λ (s : Slot). s .depth) i)) ∙ ap (λ n. min 65536 n) (min-thrice (length ys)) ∙ sym is
+  limit = (λ i. min maxSlots (min (length-map ys (λ (s : Slot). s .point) i)
+      (min (length-map ys (λ (s : Slot). s .falsified) i) (length-map ys (λ (s : Slot). s .depth) i))))
+      ∙ ap (min maxSlots) (min-thrice (length ys)) ∙ sym is
 
-  front-limit : capacity (length (take k P)) (length (take k N)) (length (take k D)) ≡ k
+  front-limit : capacity fronts ≡ k
   unfolding capacity
-  front-limit = (λ i. capacity (length-take-le k P longP i) (length-take-le k N longN i) (length-take-le k D longD i))
-      ∙ ap (λ n. min 65536 n) (min-thrice k) ∙ (let z : min 65536 k ≡ k = omega (arith, is) in z)
+  front-limit = (λ i. min maxSlots (min (length-take-le k P longP i)
+      (min (length-take-le k N longN i) (length-take-le k D longD i))))
+      ∙ ap (min maxSlots) (min-thrice k) ∙ (let z : min maxSlots k ≡ k = omega (arith, is) in z)
 
-  abbrev Faults : List ℕ → List ℕ → List ℕ → Fault
-  Faults xs ns ds = writeFault f positive negative xs ns ds filled out
+  abbrev Faults : SlotSlices → Fault
+  Faults slots = writeFault f clauses slots filled out
 
-  abbrev Rest : List ℕ → List ℕ → List ℕ → List Fault
-  Rest xs ns ds =
-      let pb = problemOf f positive negative in
-      pointsFault (capacity (length xs) (length ns) (length ds)) (pb .variables) filled xs
-      ∷ numbersFault (pb .clauses) filled xs ns ∷ roomFault (lengthNeeded pb filled) (length out) ∷ []
+  abbrev Rest : SlotSlices → List Fault
+  Rest slots =
+      let pb = problemOf f clauses in
+      pointsFault (capacity slots) (pb .variables) filled (slots .points)
+      ∷ numbersFault (pb .clauses) filled (slots .points) (slots .falsified)
+      ∷ roomFault (lengthNeeded pb filled) (length out) ∷ []
 
   -- where no more slots are asked for than there are
-  faults-few : filled ≤ k → Faults (take k P) (take k N) (take k D) ≡ Faults P N D
+  faults-few : filled ≤ k → Faults fronts ≡ Faults (slotsIn ys)
   unfolding writeFault
   faults-few h =
-      let pb = problemOf f positive negative in
-      let e₁ : pointsFault (capacity (length (take k P)) (length (take k N)) (length (take k D))) (pb .variables) filled
-      (take k P) ≡ pointsFault (capacity (length P) (length N) (length D)) (pb .variables) filled P =
+      let pb = problemOf f clauses in
+      let e₁ : pointsFault (capacity fronts) (pb .variables) filled (take k P)
+      ≡ pointsFault (capacity (slotsIn ys)) (pb .variables) filled P =
       ap (λ l. pointsFault l (pb .variables) filled (take k P)) (front-limit ∙ sym limit)
-      ∙ points-same (capacity (length P) (length N) (length D)) (pb .variables) filled k P h in
+      ∙ points-same (capacity (slotsIn ys)) (pb .variables) filled k P h in
       let e₂ : numbersFault (pb .clauses) filled (take k P) (take k N)
       ≡ numbersFault (pb .clauses) filled P N = numbers-same (pb .clauses) filled k P N h in
-      (λ i. first (formulaFault f positive negative ∷ permutationFault (pb .variables) (pb .permutations)
+      (λ i. first (formulaFault f clauses ∷ permutationFault (pb .variables) (pb .permutations)
       ∷ symmetryFault (pb .clauses) (pb .permutations) ∷ e₁ i ∷ e₂ i ∷ roomFault (lengthNeeded pb filled) (length out)
       ∷ []))
 
   -- where more are: row 16, if nothing before it
-  over-limit : (xs ns ds : List ℕ) → capacity (length xs) (length ns) (length ds) ≡ k → leb filled k ≡ false
-      → first (Rest xs ns ds) ≡ fault 16 0
-  over-limit xs ns ds c e = first-stops _ _ 16 0 (too-many (capacity (length xs) (length ns) (length ds))
-      (problemOf f positive negative .variables) filled xs (ap (λ l. leb filled l) c ∙ e))
+  over-limit : (slots : SlotSlices) → capacity slots ≡ k → leb filled k ≡ false → first (Rest slots) ≡ fault 16 0
+  over-limit slots c e = first-stops _ _ 16 0 (too-many (capacity slots) (problemOf f clauses .variables) filled
+      (slots .points) (ap (λ l. leb filled l) c ∙ e))
 
-  faults-many : leb filled k ≡ false → Faults (take k P) (take k N) (take k D) ≡ Faults P N D
+  faults-many : leb filled k ≡ false → Faults fronts ≡ Faults (slotsIn ys)
   unfolding writeFault
   faults-many e =
-      let pb = problemOf f positive negative in
+      let pb = problemOf f clauses in
       let row11 = permutationFault (pb .variables) (pb .permutations) in
       let row12 = symmetryFault (pb .clauses) (pb .permutations) in
-      let those = Rest (take k P) (take k N) (take k D) in
-      let these = Rest P N D in
-      first-same (formulaFault f positive negative) (row11 ∷ row12 ∷ those) (row11 ∷ row12 ∷ these)
+      let those = Rest fronts in
+      let these = Rest (slotsIn ys) in
+      first-same (formulaFault f clauses) (row11 ∷ row12 ∷ those) (row11 ∷ row12 ∷ these)
       (first-same row11 (row12 ∷ those) (row12 ∷ these) (first-same row12 those these
-      (over-limit (take k P) (take k N) (take k D) front-limit e ∙ sym (over-limit P N D limit e))))
+      (over-limit fronts front-limit e ∙ sym (over-limit (slotsIn ys) limit e))))
 
-  fault-many : leb filled k ≡ false → IsFault (Faults P N D)
+  fault-many : leb filled k ≡ false → IsFault (Faults (slotsIn ys))
   unfolding writeFault
   fault-many e =
-      let pb = problemOf f positive negative in
+      let pb = problemOf f clauses in
       let row11 = permutationFault (pb .variables) (pb .permutations) in
       let row12 = symmetryFault (pb .clauses) (pb .permutations) in
-      first-fault (formulaFault f positive negative) (row11 ∷ row12 ∷ Rest P N D)
-      (first-fault row11 (row12 ∷ Rest P N D) (first-fault row12 (Rest P N D)
-      (subst IsFault (sym (over-limit P N D limit e)) tt)))
+      let these = Rest (slotsIn ys) in
+      first-fault (formulaFault f clauses) (row11 ∷ row12 ∷ these)
+      (first-fault row11 (row12 ∷ these) (first-fault row12 these
+      (subst IsFault (sym (over-limit (slotsIn ys) limit e)) tt)))
 
-  certificate-few : filled ≤ k → certificateOf (problemOf f positive negative) (take k P) (take k N) filled
-      ≡ certificateOf (problemOf f positive negative) P N filled
+  certificate-few : filled ≤ k → certificateOf (problemOf f clauses) fronts filled
+      ≡ certificateOf (problemOf f clauses) (slotsIn ys) filled
   unfolding certificateOf
-  certificate-few h = (λ i. certificateOf′ (take-take filled k P h i) (take-take filled k N h i))
-    where
-      certificateOf′ : List ℕ → List ℕ → List ℕ
-      certificateOf′ xs ns = encode (problemOf f positive negative .variables) (problemOf f positive negative .total)
-          (problemOf f positive negative .permutations) xs ns
+  certificate-few h =
+      let pb = problemOf f clauses in
+      (λ i. encode (pb .variables) (pb .total) (pb .permutations) (take-take filled k P h i)
+      (take-take filled k N h i))
 
   -- both at once
   abbrev Same : Type 0
-  Same = (Faults (take k P) (take k N) (take k D) ≡ Faults P N D)
-      × (writeOutput f positive negative (take k P) (take k N) (take k D) filled out
-      ≡ writeOutput f positive negative P N D filled out)
+  Same = (Faults fronts ≡ Faults (slotsIn ys))
+      × (writeOutput f clauses fronts filled out ≡ writeOutput f clauses (slotsIn ys) filled out)
 
   same : Same
   unfolding writeOutput
   same = by (leb filled k) refl
     where
-      contents : List ℕ → List ℕ → List ℕ
-      contents xs ns = certificateOf (problemOf f positive negative) xs ns filled
-          ++ drop (lengthNeeded (problemOf f positive negative) filled) out
+      contents : SlotSlices → List ℕ
+      contents slots = certificateOf (problemOf f clauses) slots filled
+          ++ drop (lengthNeeded (problemOf f clauses) filled) out
 
       by : (b : Bool) → leb filled k ≡ b → Same
       by true e = let h : filled ≤ k = leb→le filled k (subst T (sym e) tt) in (
         faults-few h,
         (λ i. unlessKept (faults-few h i)
-            (certificate-few h i ++ drop (lengthNeeded (problemOf f positive negative) filled) out) out),
+            (certificate-few h i ++ drop (lengthNeeded (problemOf f clauses) filled) out) out),
       )
       by false e = (
         faults-many e,
-        ap (λ t. unlessKept t (contents (take k P) (take k N)) out) (faults-many e)
-            ∙ kept-same (Faults P N D) (contents (take k P) (take k N)) (contents P N) out (fault-many e),
+        ap (λ t. unlessKept t (contents fronts) out) (faults-many e)
+            ∙ kept-same (Faults (slotsIn ys)) (contents fronts) (contents (slotsIn ys)) out (fault-many e),
       )
 
   -- copied out and written from the copies
   pub wrote-whole : (ps₀ ns₀ ds₀ : List ℕ) (r : Written) (out₁ : List ℕ)
-      → Wrote f positive negative (take k (front k P ps₀)) (take k (front k N ns₀)) (take k (front k D ds₀)) filled out
-      r out₁
-      → Wrote f positive negative P N D filled out r out₁
+      → Wrote f clauses (slotSlices (take k (front k P ps₀)) (take k (front k N ns₀)) (take k (front k D ds₀))) filled
+      out r out₁
+      → Wrote f clauses (slotsIn ys) filled out r out₁
   unfolding writeReply
-  wrote-whole ps₀ ns₀ ds₀ r out₁ w = record {
-    reply = w .reply ∙ (λ i. writeReply f positive negative (front-take k P ps₀ longP i) (front-take k N ns₀ longN i)
-        (front-take k D ds₀ longD i) filled out)
-        ∙ ap (λ t. unless t (written (lengthNeeded (problemOf f positive negative) filled))) (same .0);
-    output = w .output ∙ (λ i. writeOutput f positive negative (front-take k P ps₀ longP i) (front-take k N ns₀ longN i)
-        (front-take k D ds₀ longD i) filled out) ∙ same .1;
-  }
+  wrote-whole ps₀ ns₀ ds₀ r out₁ w =
+      let copies : slotSlices (take k (front k P ps₀)) (take k (front k N ns₀)) (take k (front k D ds₀)) ≡ fronts =
+      words-whole (take k (front k P ps₀)) (take k (front k N ns₀)) (take k (front k D ds₀))
+      ∙ (λ i. wholeSlots (front-take k P ps₀ longP i) (front-take k N ns₀ longN i) (front-take k D ds₀ longD i)) in
+      record {
+        reply = w .reply ∙ ap (λ (s : SlotSlices). writeReply f clauses s filled out) copies
+            ∙ ap (λ t. unless t (written (lengthNeeded (problemOf f clauses) filled))) (same .0);
+        output = w .output ∙ ap (λ (s : SlotSlices). writeOutput f clauses s filled out) copies ∙ same .1;
+      }

@@ -14,19 +14,19 @@ confirm-requires : tie.Need-confirm-requires
 unfolding replyOfWritten
 confirm-requires c κs =
     let wrote = c .before .before .before .before .before .before .write in
-    acceptable _ _ _ _ _ _ _ (c .before .before .before .before .before .before .before .before .before .before .before .before .before .before .pre) _ _ (wrote .ensures .output) (wrote .kept .1 .1 .1 .1 .1 .1 .1 .0) _ (ap replyOfWritten (sym (c .before .before .written .given .1)) ∙ wrote .ensures .reply)
+    acceptable _ _ _ _ (c .before .before .before .before .before .before .before .before .before .before .before .before .before .before .pre) _ _ (wrote .ensures .output) (wrote .kept .1 .1 .1 .1 .1 .1 .1 .0) _ (ap replyOfWritten (sym (c .before .before .written .given .1)) ∙ wrote .ensures .reply)
 
 returns : tie.Need-returns
 unfolding replyOfWritten
 returns c =
     let wrote = c .before .before .before .before .before .before .before .write in
-    certifies _ _ _ _ _ _ _ (c .before .before .before .before .before .before .before .before .before .before .before .before .before .before .before .pre) _ _ (wrote .ensures .output) _ _ (c .confirm .ensures) (ap replyOfWritten (sym (c .before .before .before .written .given .1)) ∙ wrote .ensures .reply)
+    certifies _ _ _ _ (c .before .before .before .before .before .before .before .before .before .before .before .before .before .before .before .pre) _ _ (wrote .ensures .output) _ _ (c .confirm .ensures) (ap replyOfWritten (sym (c .before .before .before .written .given .1)) ∙ wrote .ensures .reply)
 
 returns-2 : tie.Need-returns-2
 unfolding replyOfWritten
 returns-2 c =
     let wrote = c .before .before .before .before .before .write in
-    uncertifies _ _ _ _ _ _ _ (c .before .before .before .before .before .before .before .before .before .before .before .before .before .pre) _ _ (wrote .ensures .output) _ _ (ap replyOfWritten (sym (c .before .written2 .given .1)) ∙ wrote .ensures .reply)
+    uncertifies _ _ _ _ (c .before .before .before .before .before .before .before .before .before .before .before .before .before .pre) _ _ (wrote .ensures .output) _ _ (ap replyOfWritten (sym (c .before .written2 .given .1)) ∙ wrote .ensures .reply)
 
 pub certify-spec : {M : Type 1} → statement M
 certify-spec =

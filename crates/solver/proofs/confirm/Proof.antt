@@ -4,6 +4,7 @@ use Prim.Native.Nat.{ℕ}
 use native.Mathlib.Nat.{sub-zero}
 use lib.ListN.{take}
 use borrow.Author.Needs.{needs}
+use Rattle.point_slices.specs.Slices.{clauseSlices}
 use Rattle.formula.specs.Laws.ReplyLaws.{accepted-not-refused}
 use Rattle.checker.specs.Checker.{checkReply}
 use Rattle.checker.specs.Contract.{replyOfVerdict}
@@ -17,7 +18,7 @@ returns-2 : tie.Need-returns-2
 unfolding replyOfVerdict
 returns-2 c =
     let a = c .before .before .before .before .before .before .before .before .args in
-    absurd (accepted-not-refused _ _ (sym (c .before .before .before .before .before .before .before .before .pre .1) ∙ ap (λ (k : ℕ). checkReply (a .f) (a .positive .now) (a .negative .now) (take k (a .file .now))) (sym (sub-zero (a .size)))
+    absurd (accepted-not-refused _ _ (sym (c .before .before .before .before .before .before .before .before .pre .1) ∙ ap (λ (k : ℕ). checkReply (a .f) (clauseSlices (a .positive .now) (a .negative .now)) (take k (a .file .now))) (sym (sub-zero (a .size)))
     ∙ sym (c .before .before .before .check .ensures .reply) ∙ ap replyOfVerdict (c .before .verdict .given .1)))
 
 pub confirm-spec : {M : Type 1} → statement M

@@ -1,13 +1,13 @@
--- `solver::solve` meets its contract: a text that is refused leaves everything, any other is solved as its formula is.
--- Assumes nothing.
+-- `solver::solve` meets its contract: what small slices take is solved as with the largest, and where these are refused
+-- by 4 the largest are lent. Assumes nothing.
 use mathlib.Core.Path.{sym, ap, _∙_}
-use native.Mathlib.Nat.{le-trans, le-of-eq}
-use lib.ListN.{length-replicate}
 use borrow.Author.Needs.{needs}
-use Prim.Native.Nat.{ℕ}
+use lib.Dec.{lit≤}
+use Rattle.dimacs_lines.specs.Laws.ParsedAs.{fewClauses}
+use Rattle.point_slices.specs.Laws.SliceLaws.{room-kept}
 use Rattle.dimacs_lines.specs.Reply.{replyOfParse}
-use Rattle.solver.specs.Solver.{blank}
-use Rattle.solver.specs.Laws.SolverLaws.{solves-refused, solves-read, clauses-held}
+use Rattle.solver.specs.Laws.SolverLaws.{solves-refused, solves-read, clauses-held, solves-few, few-room}
+use Rattle.solver.specs.Laws.SolverLaws.{parsed-not-4, other-not-4}
 use Rattle.solver.proofs.solve.Statement.{statement}
 use Rattle.solver.proofs.solve.Tie as tie
 
@@ -17,18 +17,25 @@ read-requires c κs = search needs
 solve-read-requires : tie.Need-solve-read-requires
 solve-read-requires c κs =
     let called = c .before .before .before .before .before .before .before .before .before .before .before .read in
-    let few = clauses-held _ _ _ (ap replyOfParse (sym (c .before .before .before .before .before .before .enum-told .given .1)) ∙ called .ensures .reply) _ (called .ensures .formula) in
-    (le-trans few (le-of-eq (sym (called .kept .1 .0 ∙ length-replicate {A = ℕ} 4096 0))), le-trans few (le-of-eq (sym (called .kept .1 .1 .0 ∙ length-replicate {A = ℕ} 4096 0))))
+    room-kept _ _ _ _ (clauses-held _ _ (ap replyOfParse (sym (c .before .before .before .before .before .before .enum-told .given .1)) ∙ called .ensures .reply) _ (called .ensures .formula))
+    (called .kept .1 .0) (called .kept .1 .1 .0)
 
-returns : tie.Need-returns
-unfolding blank
-returns c =
-    let called = c .before .before .before .before .before .before .before .before .before .before .before .before .before .before .before .before .before .before .before .before .read in
-    solves-read _ _ _ _ _ (ap replyOfParse (sym (c .before .before .before .before .before .before .before .before .before .before .before .before .before .before .before .enum-told .given .1)) ∙ called .ensures .reply) _ _ _ _ _ _ _ _ (called .ensures .formula) (called .ensures .positive) (called .ensures .negative) (c .before .before .before .before .before .before .before .before .solve-read .ensures)
+solve-many-requires : tie.Need-solve-many-requires
+solve-many-requires c κs = search needs
+
+refused-requires : tie.Need-refused-requires
+refused-requires c κs = search needs
 
 returns-2 : tie.Need-returns-2
-unfolding blank
-returns-2 c = solves-refused _ _ _ _ _ _ _ (ap replyOfParse (sym (c .before .answer .given .1)) ∙ c .before .before .before .before .before .before .read .ensures .reply)
+returns-2 c =
+    let called = c .before .before .before .before .before .before .before .before .before .before .before .before .before .before .before .before .before .before .before .before .read in
+    let e = ap replyOfParse (sym (c .before .before .before .before .before .before .before .before .before .before .before .before .before .before .before .enum-told .given .1)) ∙ called .ensures .reply in
+    solves-few _ _ _ (few-room fewClauses (lit≤ tt)) (parsed-not-4 e) _ _ _ _ _ (solves-read _ _ _ _ e _ _ _ _ _ (called .ensures .formula) (called .ensures .clauses) (c .before .before .before .before .before .before .before .before .solve-read .ensures))
+
+returns-3 : tie.Need-returns-3
+returns-3 c =
+    let e = ap replyOfParse (sym (c .before .before .before .answer .given .1)) ∙ c .before .before .before .before .before .before .before .before .read .ensures .reply in
+    solves-few _ _ _ (few-room fewClauses (lit≤ tt)) (other-not-4 _ _ e (c .before .if1 .left)) _ _ _ _ _ (solves-refused _ _ _ _ _ _ _ (c .refused .ensures) e)
 
 pub solve-spec : {M : Type 1} → statement M
 solve-spec =
@@ -42,9 +49,16 @@ solve-spec =
     (λ c. search needs)
     solve-read-requires
     (λ c. search needs)
+    solve-many-requires
     (λ c. search needs)
     (λ c. search needs)
     (λ c. search needs)
     (λ c. search needs)
-    returns
-    returns-2)
+    (λ c. search needs)
+    refused-requires
+    (λ c. search needs)
+    (λ c. search needs)
+    (λ c. search needs)
+    (λ c. search needs)
+    returns-2
+    returns-3)

@@ -12,23 +12,23 @@ search-requires : tie.Need-search-requires
 search-requires c κs = search needs
 
 certify-requires : tie.Need-certify-requires
-certify-requires c κs = refuted _ _ _ _ _ _ _ _ (c .before .before .before .before .before .before .before .before .before .before .before .before .before .search .ensures) _ (c .before .before .before .before .before .outcome2 .given .1)
+certify-requires c κs = refuted _ _ _ _ _ (c .before .before .before .before .before .before .before .before .before .before .before .before .before .search .ensures) _ (c .before .before .before .before .before .outcome2 .given .1)
 
 returns : tie.Need-returns
 unfolding replyOfSolution
-returns c = solves _ _ _ _ _ _ _ _ _ (c .before .before .before .before .before .before .before .before .before .search .ensures) _ _ (c .before .outcome .given .1) refl refl satisfiable-differs
+returns c = solves _ _ _ _ _ _ (c .before .before .before .before .before .before .before .before .before .search .ensures) _ _ (c .before .outcome .given .1) refl refl satisfiable-differs
 
 returns-2 : tie.Need-returns-2
 returns-2 c =
-    solves-refuted _ _ _ _ _ _ _ _ _ (c .before .before .before .before .before .before .before .before .before .before .before .before .before .before .before .before .search .ensures) _ (c .before .before .before .before .before .before .before .before .outcome2 .given .1) _ _ (c .before .before .certify .ensures)
+    solves-refuted _ _ _ _ _ _ (c .before .before .before .before .before .before .before .before .before .before .before .before .before .before .before .before .search .ensures) _ (c .before .before .before .before .before .before .before .before .outcome2 .given .1) _ _ (c .before .before .certify .ensures)
 
 returns-3 : tie.Need-returns-3
 unfolding replyOfSolution
-returns-3 c = solves _ _ _ _ _ _ _ _ _ (c .before .before .before .before .before .before .before .before .before .search .ensures) _ _ (c .before .outcome3 .given .1) refl refl unknown-differs
+returns-3 c = solves _ _ _ _ _ _ (c .before .before .before .before .before .before .before .before .before .search .ensures) _ _ (c .before .outcome3 .given .1) refl refl unknown-differs
 
 returns-4 : tie.Need-returns-4
 unfolding replyOfSolution
-returns-4 c = solves _ _ _ _ _ _ _ _ _ (c .before .before .before .before .before .before .before .before .before .search .ensures) _ _ (c .before .outcome4 .given .1) refl refl refusal-differs
+returns-4 c = solves _ _ _ _ _ _ (c .before .before .before .before .before .before .before .before .before .search .ensures) _ _ (c .before .outcome4 .given .1) refl refl refusal-differs
 
 pub solve-formula-spec : {M : Type 1} → statement M
 solve-formula-spec =

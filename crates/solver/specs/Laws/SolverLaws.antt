@@ -8,31 +8,36 @@ use Prim.Native.Nat.{ℕ, _≤_, _<_}
 use native.Mathlib.Nat.{le-trans, le-of-eq}
 use native.Mathlib.Omega.{arith}
 use lib.Dec.{leb}
-use lib.ListN.{length, take, drop}
+use lib.ListN.{length, take, drop, replicate, length-replicate}
 use borrow.Author.Tests.{leb-true, leb-false}
+use Rattle.point_slices.specs.Slices.{ClauseSlices, SlotSlices, clauseSlices, clauseRoom, firstClauses}
 use Rattle.formula.specs.declared.Formula.{Formula}
+use Rattle.formula.specs.Limits.{maxClauses, capacity}
 use Rattle.formula.specs.Reply.{Reply, refused, satisfiable, unsatisfiable, unknown, parsed, written, opened, accepted}
+use Rattle.formula.specs.Reply.{pointIn}
 use Rattle.formula.specs.Laws.ReplyLaws.{written-not-refused}
-use Rattle.dimacs_format.specs.Laws.Handed.{accepted-handed}
-use Rattle.dimacs_format.specs.Input.{Input}
-use Rattle.dimacs_format.specs.Reader.{Step, goes, refuses, replyTo, reading, readReply, readFormula, readPositive}
-use Rattle.dimacs_format.specs.Reader.{readNegative}
-use Rattle.search_theory.specs.Walk.{Slot}
-use Rattle.search.specs.Search.{searchReply, searchSlice}
-use Rattle.search.specs.Contract.{replyOfOutcome, Searched}
+use Rattle.point_slices.specs.Laws.SliceLaws.{points-blank, clauses-blank}
+use Rattle.dimacs_format.specs.Laws.ReaderLaws.{parsed-accepts}
+use Rattle.dimacs_format.specs.Laws.RoomLaws.{reads-alike}
+use Rattle.dimacs_format.specs.Input.{Input, formulaOf}
+use Rattle.dimacs_format.specs.Reader.{Step, goes, refuses, replyTo, reading, readReply, readFormula, readClauses}
+use Rattle.search.specs.Search.{searchReply, searchSlices}
+use Rattle.search.specs.Contract.{replyOfOutcome, replyOfFound, Searched}
+use Rattle.search.specs.declared.Found.{Found}
 use Rattle.search.specs.declared.Outcome.{Outcome}
 use Rattle.search.specs.declared.Outcome.the-variants.{Unsatisfiable}
 use Rattle.certificate.specs.Writer.{lengthNeeded, writeReply, writeOutput}
 use Rattle.checker.specs.Checker.{checkReply}
-use Rattle.claims.specs.Claim.{Sheet, from-text, by-value, formulaIn, positiveIn, negativeIn, problemIn, Slots, lent}
+use Rattle.claims.specs.Claim.{Sheet, from-text, by-value, formulaIn, clausesIn, problemIn}
 use Rattle.claims.specs.Claim.{SearchAnswers, writerReply, writerOutput, Certified}
 use Rattle.claims.specs.Laws.Theorem.{claim}
 use Rattle.solver.specs.declared.Solution.{Solution}
 use Rattle.solver.specs.declared.Solution.the-variants.{Uncertified, Refused}
-use Rattle.solver.specs.Solver.{afterReading, sheetReply, sheetSlice, onRefutation, certificateReply}
-use Rattle.solver.specs.Solver.{certificateOutput}
-use Rattle.solver.specs.Contract.{SolverReply, replyOfSolution, Promises, Solved}
-use Rattle.solver.specs.Laws.Steps.{unsatisfiableWith, Refuted, Certifies}
+use Rattle.solver.specs.Solver.{blank, readingOf, afterReading, sheetReply, sheetSlices, onRefutation}
+use Rattle.solver.specs.Solver.{certificateReply, certificateOutput}
+use Rattle.solver.specs.declared.Settled.{Settled}
+use Rattle.solver.specs.Contract.{SolverReply, replyOfSolution, replyOfSettled, Promises, Solved}
+use Rattle.solver.specs.Laws.Steps.{unsatisfiableWith, refusedWith, Refuted, Certifies}
 
 -- ---- replies that are no refusal
 
@@ -67,14 +72,14 @@ unfolding replyTo afterReading
 read-then (goes d) new a e ok = (refl, e)
 read-then (refuses code place) new a e ok = absurd (ok code place (sym e))
 
-answered : (s : Sheet) (l : Slots) (a : Reply) → sheetReply s (lent l) ≡ a → NoRefusal a → SearchAnswers s l a
+answered : (s : Sheet) (slots : SlotSlices) (a : Reply) → sheetReply s (capacity slots) ≡ a → NoRefusal a
+    → SearchAnswers s slots a
 unfolding sheetReply readReply
-answered (from-text text p q) l a e ok =
-    let w = read-then (reading text (length p) (length q))
-    (searchReply (formulaIn (from-text text p q)) (positiveIn (from-text text p q)) (negativeIn (from-text text p q))
-    (lent l)) a e ok in
+answered (from-text text clauses) slots a e ok =
+    let w = read-then (reading text (clauseRoom clauses))
+    (searchReply (formulaIn (from-text text clauses)) (clausesIn (from-text text clauses)) (capacity slots)) a e ok in
     record { readable = w .0; reply = w .1; accepted = ok }
-answered (by-value f p q) l a e ok = record { readable = tt; reply = e; accepted = ok }
+answered (by-value f clauses) slots a e ok = record { readable = tt; reply = e; accepted = ok }
 
 -- ---- the certificate is answered for where the sheet cannot be met
 
@@ -90,142 +95,148 @@ refuted-of (written size) w c e = let z : _≡_ {A = ℕ} 0 1 = cc in absurd (om
 refuted-of opened w c e = let z : _≡_ {A = ℕ} 0 1 = cc in absurd (omega arith)
 refuted-of accepted w c e = let z : _≡_ {A = ℕ} 0 1 = cc in absurd (omega arith)
 
-module _ (s : Sheet) (l : Slots) (filled : ℕ) (a : SearchAnswers s l (unsatisfiable filled)) (out : List ℕ) where
-  abbrev needed : ℕ
-  needed = lengthNeeded (problemIn s) filled
+module _ (s : Sheet) (slots : SlotSlices) (filled : ℕ) (a : SearchAnswers s slots (unsatisfiable filled)) (out : List ℕ)
+  where
+    abbrev needed : ℕ
+    needed = lengthNeeded (problemIn s) filled
 
-  certified : Certified s l filled needed out
-  certified = claim .certified s l filled a out
+    certified : Certified s slots filled needed out
+    certified = claim .certified s slots filled a out
 
-  -- a certificate that is written has that length, there was room for it, and it is accepted
-  pub written-accepted : (size : ℕ) → writerReply s l filled out ≡ written size
-      → (size ≤ length out) × (checkReply (formulaIn s) (positiveIn s) (negativeIn s)
-      (take size (writerOutput s l filled out)) ≡ accepted) × (drop size (writerOutput s l filled out) ≡ drop size out)
-  written-accepted size e = by (leb needed (length out)) refl
-    where
-      by : (b : Bool) → leb needed (length out) ≡ b
-          → (size ≤ length out) × (checkReply (formulaIn s) (positiveIn s) (negativeIn s)
-          (take size (writerOutput s l filled out)) ≡ accepted)
-          × (drop size (writerOutput s l filled out) ≡ drop size out)
-      by false q = absurd (written-not-refused size 19 needed
-          (sym e ∙ certified .too-short (leb-false needed (length out) q) .0))
-      by true q =
-          let le = leb-true needed (length out) q in
-          let both : written size ≡ written needed = sym e ∙ certified .answers le in
-          let same : needed ≡ size = cc in
-          subst (λ (n : ℕ). (n ≤ length out) × (checkReply (formulaIn s) (positiveIn s) (negativeIn s)
-          (take n (writerOutput s l filled out)) ≡ accepted) × (drop n (writerOutput s l filled out) ≡ drop n out)) same
-          (le, certified .checks le, certified .behind le)
+    -- a certificate that is written has that length, there was room for it, and it is accepted
+    pub written-accepted : (size : ℕ) → writerReply s slots filled out ≡ written size
+        → (size ≤ length out) × (checkReply (formulaIn s) (clausesIn s)
+        (take size (writerOutput s slots filled out)) ≡ accepted) × (drop size (writerOutput s slots filled out)
+        ≡ drop size out)
+    written-accepted size e = by (leb needed (length out)) refl
+      where
+        by : (b : Bool) → leb needed (length out) ≡ b
+            → (size ≤ length out) × (checkReply (formulaIn s) (clausesIn s)
+            (take size (writerOutput s slots filled out)) ≡ accepted)
+            × (drop size (writerOutput s slots filled out) ≡ drop size out)
+        by false q = absurd (written-not-refused size 19 needed
+            (sym e ∙ certified .too-short (leb-false needed (length out) q) .0))
+        by true q =
+            let le = leb-true needed (length out) q in
+            let both : written size ≡ written needed = sym e ∙ certified .answers le in
+            let same : needed ≡ size = cc in
+            subst (λ (n : ℕ). (n ≤ length out) × (checkReply (formulaIn s) (clausesIn s)
+            (take n (writerOutput s slots filled out)) ≡ accepted) × (drop n (writerOutput s slots filled out)
+            ≡ drop n out)) same
+            (le, certified .checks le, certified .behind le)
 
-  -- the writer refuses for want of room alone, and then leaves the output
-  pub refused-short : (code place : ℕ) → writerReply s l filled out ≡ refused code place
-      → (code ≡ 19) × (length out < place) × (writerOutput s l filled out ≡ out)
-  refused-short code place e = by (leb needed (length out)) refl
-    where
-      by : (b : Bool) → leb needed (length out) ≡ b
-          → (code ≡ 19) × (length out < place) × (writerOutput s l filled out ≡ out)
-      by false q =
-          let lt = leb-false needed (length out) q in
-          let both : refused code place ≡ refused 19 needed = sym e ∙ certified .too-short lt .0 in
-          let c : code ≡ 19 = cc in
-          let p : needed ≡ place = cc in
-          (c, subst (λ (n : ℕ). length out < n) p lt, certified .too-short lt .1)
-      by true q = absurd (written-not-refused needed code place
-          (sym (certified .answers (leb-true needed (length out) q)) ∙ e))
+    -- the writer refuses for want of room alone, and then leaves the output
+    pub refused-short : (code place : ℕ) → writerReply s slots filled out ≡ refused code place
+        → (code ≡ 19) × (length out < place) × (writerOutput s slots filled out ≡ out)
+    refused-short code place e = by (leb needed (length out)) refl
+      where
+        by : (b : Bool) → leb needed (length out) ≡ b
+            → (code ≡ 19) × (length out < place) × (writerOutput s slots filled out ≡ out)
+        by false q =
+            let lt = leb-false needed (length out) q in
+            let both : refused code place ≡ refused 19 needed = sym e ∙ certified .too-short lt .0 in
+            let c : code ≡ 19 = cc in
+            let p : needed ≡ place = cc in
+            (c, subst (λ (n : ℕ). length out < n) p lt, certified .too-short lt .1)
+        by true q = absurd (written-not-refused needed code place
+            (sym (certified .answers (leb-true needed (length out) q)) ∙ e))
 
 -- ---- the claim's sentences, about what is answered
 
-module _ (s : Sheet) (l : Slots) (t : SolverReply) (out₀ out₁ : List ℕ) (reply : t .reply ≡ sheetReply s (lent l))
-    (certificate : t .certificate ≡ certificateReply s l out₀)
-    (output : out₁ ≡ certificateOutput s l out₀) where
-  answers : (a : Reply) → t .reply ≡ a → NoRefusal a → SearchAnswers s l a
-  answers a e ok = answered s l a (sym reply ∙ e) ok
+module _ (s : Sheet) (slots : SlotSlices) (t : SolverReply) (out₀ out₁ : List ℕ) (reply : t .reply ≡ sheetReply s
+    (capacity slots))
+    (certificate : t .certificate ≡ certificateReply s slots out₀)
+    (output : out₁ ≡ certificateOutput s slots out₀) where
+  answers : (a : Reply) → t .reply ≡ a → NoRefusal a → SearchAnswers s slots a
+  answers a e ok = answered s slots a (sym reply ∙ e) ok
 
   -- where there is a reply on the certificate, the sheet cannot be met, and the output is the writer's
   certificate-of : (c : Reply) → t .certificate ≡ some c
-      → (filled : ℕ) × SearchAnswers s l (unsatisfiable filled) × (writerReply s l filled out₀ ≡ c)
-      × (out₁ ≡ writerOutput s l filled out₀)
+      → (filled : ℕ) × SearchAnswers s slots (unsatisfiable filled) × (writerReply s slots filled out₀ ≡ c)
+      × (out₁ ≡ writerOutput s slots filled out₀)
   unfolding certificateReply certificateOutput
   certificate-of c e =
-      let w = refuted-of (sheetReply s (lent l)) (λ filled. writerReply s l filled out₀) c (sym certificate ∙ e) in (
+      let w = refuted-of (sheetReply s (capacity slots)) (λ filled. writerReply s slots filled out₀) c (sym certificate
+      ∙ e) in (
         w .0,
-        answered s l (unsatisfiable (w .0)) (w .1) unsatisfiable-stands,
+        answered s slots (unsatisfiable (w .0)) (w .1) unsatisfiable-stands,
         w .2,
-        output ∙ ap (λ (a : Reply). onRefutation a out₀ (λ filled. writerOutput s l filled out₀)) (w .1),
+        output ∙ ap (λ (a : Reply). onRefutation a out₀ (λ filled. writerOutput s slots filled out₀)) (w .1),
       )
 
-  pub promised : Promises s l t out₀ out₁
+  pub promised : Promises s slots t out₀ out₁
   promised =
       record {
-        nearest = λ x d filled e. claim .nearest s l x d filled (answers (satisfiable x d filled) e satisfiable-stands);
-        exactly = λ ok known. claim .exactly s l (t .reply) (answers (t .reply) refl ok) known;
+        nearest = λ x d filled e. claim .nearest s slots x d filled (answers (satisfiable x d filled)
+            e satisfiable-stands);
+        exactly = λ ok known. claim .exactly s slots (t .reply) (answers (t .reply) refl ok) known;
         certified =
             λ size e.
             let w = certificate-of (written size) e in
-            let c = written-accepted s l (w .0) (w .1) out₀ size (w .2) in (
-              subst (λ o. checkReply (formulaIn s) (positiveIn s) (negativeIn s) (take size o) ≡ accepted) (sym (w .3))
+            let c = written-accepted s slots (w .0) (w .1) out₀ size (w .2) in (
+              subst (λ o. checkReply (formulaIn s) (clausesIn s) (take size o) ≡ accepted) (sym (w .3))
                   (c .1),
               subst (λ o. drop size o ≡ drop size out₀) (sym (w .3)) (c .2),
             );
         uncertified =
             λ code place e.
             let w = certificate-of (refused code place) e in
-            let c = refused-short s l (w .0) (w .1) out₀ code place (w .2) in
+            let c = refused-short s slots (w .0) (w .1) out₀ code place (w .2) in
             (c .0, c .1, w .3 ∙ c .2);
-        refutes = claim .refutes (formulaIn s) (positiveIn s) (negativeIn s);
-        bound = λ b filled e. claim .bound s l b filled (answers (unknown b filled) e unknown-stands);
-        enough-room = λ b filled few p q r e. claim .enough-room s l b filled few p q r
+        refutes = claim .refutes (formulaIn s) (clausesIn s);
+        bound = λ b filled e. claim .bound s slots b filled (answers (unknown b filled) e unknown-stands);
+        enough-room = λ b filled few p q r e. claim .enough-room s slots b filled few p q r
             (answers (unknown b filled) e unknown-stands);
       }
 
 -- ---- the certificate of the slots that a search left
 
-module _ (f : Formula) (positive negative points falsified depths : List ℕ) (filled : ℕ)
-    (ok : Refuted f positive negative points falsified depths filled) (out : List ℕ) where
+module _ (f : Formula) (clauses : ClauseSlices) (slots : SlotSlices) (filled : ℕ) (ok : Refuted f clauses slots filled)
+    (out : List ℕ) where
   abbrev sheet : Sheet
-  sheet = by-value f positive negative
+  sheet = by-value f clauses
 
-  answer : SearchAnswers sheet (ok .slots) (unsatisfiable filled)
+  answer : SearchAnswers sheet (ok .lent) (unsatisfiable filled)
   answer = record { readable = tt; reply = ok .reply; accepted = unsatisfiable-stands }
 
-  same-reply : writeReply f positive negative points falsified depths filled out
-      ≡ writerReply sheet (ok .slots) filled out
-  same-reply = rw (ok .left-points, ok .left-falsified, ok .left-depths)
+  same-reply : writeReply f clauses slots filled out
+      ≡ writerReply sheet (ok .lent) filled out
+  same-reply = ap (λ s. writeReply f clauses s filled out) (ok .left)
 
-  same-output : writeOutput f positive negative points falsified depths filled out
-      ≡ writerOutput sheet (ok .slots) filled out
-  same-output = rw (ok .left-points, ok .left-falsified, ok .left-depths)
+  same-output : writeOutput f clauses slots filled out
+      ≡ writerOutput sheet (ok .lent) filled out
+  same-output = ap (λ s. writeOutput f clauses s filled out) (ok .left)
 
-  module _ (after : List ℕ) (output : after ≡ writeOutput f positive negative points falsified depths filled out) where
+  module _ (after : List ℕ) (output : after ≡ writeOutput f clauses slots filled out) where
     -- the checker is handed what it accepts
     pub acceptable : length after ≡ length out → (size : ℕ)
-        → written size ≡ writeReply f positive negative points falsified depths filled out
-        → (size ≤ length after) × (checkReply f positive negative (take size after) ≡ accepted)
+        → written size ≡ writeReply f clauses slots filled out
+        → (size ≤ length after) × (checkReply f clauses (take size after) ≡ accepted)
     acceptable long size e =
-        let w = written-accepted sheet (ok .slots) filled answer out size (sym (e ∙ same-reply)) in (
+        let w = written-accepted sheet (ok .lent) filled answer out size (sym (e ∙ same-reply)) in (
           le-trans (w .0) (le-of-eq (sym long)),
-          ap (λ o. checkReply f positive negative (take size o))
+          ap (λ o. checkReply f clauses (take size o))
               (output ∙ same-output) ∙ w .1,
         )
 
     pub certifies : (size : ℕ) (r : Solution) → r ≡ unsatisfiableWith filled size
-        → written size ≡ writeReply f positive negative points falsified depths filled out
-        → Certifies f positive negative points falsified depths filled out r after
+        → written size ≡ writeReply f clauses slots filled out
+        → Certifies f clauses slots filled out r after
     unfolding replyOfSolution
     certifies size r e w =
         record {
-          reply = ap (λ (x : Solution). replyOfSolution x .reply) e;
+          reply = ap (λ (x : Solution). replyOfSolution 0 x .reply) e;
           certificate = ap
-              (λ (x : Solution). replyOfSolution x .certificate) e ∙ ap some w;
+              (λ (x : Solution). replyOfSolution 0 x .certificate) e ∙ ap some w;
           output = output;
         }
 
     pub uncertifies : (code place : ℕ)
-        → refused code place ≡ writeReply f positive negative points falsified depths filled out
-        → Certifies f positive negative points falsified depths filled out (Uncertified filled place) after
+        → refused code place ≡ writeReply f clauses slots filled out
+        → Certifies f clauses slots filled out (Uncertified filled place) after
     unfolding replyOfSolution
     uncertifies code place w =
-        let short = refused-short sheet (ok .slots) filled answer out code place (sym (w ∙ same-reply)) in
+        let short = refused-short sheet (ok .lent) filled answer out code place (sym (w ∙ same-reply)) in
         record {
           reply = refl;
           certificate = ap (λ (c : ℕ). some (refused c place)) (sym (short .0))
@@ -249,178 +260,209 @@ kept-of opened kept new ne = refl
 kept-of accepted kept new ne = refl
 
 -- a search that refutes leaves slots of which a certificate can be written
-pub refuted : (f : Formula) (positive negative : List ℕ) (l : Slots) (outcome : Outcome)
-    (points₁ falsified₁ depths₁ : List ℕ)
-    → Searched f positive negative (l .points) (l .falsified) (l .depths) outcome points₁ falsified₁ depths₁
-    → (filled : ℕ)
-    → outcome ≡ Unsatisfiable filled
-    → Refuted f positive negative points₁ falsified₁ depths₁ filled
-refuted f positive negative l outcome points₁ falsified₁ depths₁ call filled e =
+pub refuted : (f : Formula) (clauses : ClauseSlices) (slots₀ : SlotSlices) (found : Found) (slots₁ : SlotSlices)
+    → Searched f clauses slots₀ found slots₁ → (filled : ℕ) → found .answer ≡ Unsatisfiable filled
+    → Refuted f clauses slots₁ filled
+refuted f clauses slots₀ found slots₁ call filled e =
     record {
-      slots = l;
-      reply = sym (call .reply) ∙ ap replyOfOutcome e;
-      left-points = call .points;
-      left-falsified = call .falsified;
-      left-depths = call .depths;
+      lent = slots₀;
+      reply = sym (call .reply) ∙ ap (replyOfOutcome (found .point)) e;
+      left = call .slots;
     }
 
-module _ (f : Formula) (positive negative : List ℕ) (l : Slots) (out : List ℕ) (outcome : Outcome)
-    (points₁ falsified₁ depths₁ : List ℕ)
-    (call : Searched f positive negative (l .points) (l .falsified) (l .depths) outcome points₁ falsified₁ depths₁)
-  where
-    abbrev by-value-sheet : Sheet
-    by-value-sheet = by-value f positive negative
+-- the point that goes with a reply that has one is the reply's; with any other it is 0
+module _ (f : Formula) (clauses : ClauseSlices) (slots₀ : SlotSlices) (out : List ℕ) (found : Found)
+    (slots₁ : SlotSlices) (call : Searched f clauses slots₀ found slots₁) where
+  abbrev by-value-sheet : Sheet
+  by-value-sheet = by-value f clauses
 
-    reply-is : sheetReply by-value-sheet (lent l) ≡ replyOfOutcome outcome
-    unfolding sheetReply
-    reply-is = sym (call .reply)
+  reply-is : sheetReply by-value-sheet (capacity slots₀) ≡ replyOfFound found
+  unfolding sheetReply
+  reply-is = sym (call .reply)
 
-    slice-is : (part : Slot → ℕ) (old : List ℕ)
-        → searchSlice part f positive negative (lent l) old ≡ sheetSlice part by-value-sheet (lent l) old
-    unfolding sheetSlice
-    slice-is part old = refl
+  slots-are : slots₁ ≡ sheetSlices by-value-sheet slots₀
+  unfolding sheetSlices
+  slots-are = call .slots
 
-    -- a search that refutes nothing leaves the output
-    pub solves : (r : Solution) (q : Outcome) → outcome ≡ q → replyOfSolution r .reply ≡ replyOfOutcome q
-        → replyOfSolution r .certificate ≡ none → ((filled : ℕ) → replyOfOutcome q ≡ unsatisfiable filled → ⊥)
-        → Solved by-value-sheet l out r points₁ falsified₁ depths₁ out
-    unfolding certificateReply certificateOutput
-    solves r q same e n ne =
-        let said : sheetReply by-value-sheet (lent l) ≡ replyOfOutcome q = reply-is ∙ ap replyOfOutcome same in
-        let reply = e ∙ sym said in
-        let known : (filled : ℕ) → sheetReply by-value-sheet (lent l) ≡ unsatisfiable filled
-        → ⊥ = λ filled h. ne filled (sym said ∙ h) in
-        let certificate = n ∙ sym (kept-of (sheetReply by-value-sheet (lent l)) none
-        (λ filled. some (writerReply by-value-sheet l filled out)) known) in
-        let output = sym (kept-of (sheetReply by-value-sheet (lent l)) out
-        (λ filled. writerOutput by-value-sheet l filled out)
-        known) in
-        record {
-          reply = reply;
-          certificate = certificate;
-          points = call .points ∙ slice-is (λ (t : Slot). t .point) (l .points);
-          falsified = call .falsified ∙ slice-is (λ (t : Slot). t .falsified) (l .falsified);
-          depths = call .depths ∙ slice-is (λ (t : Slot). t .depth) (l .depths);
-          output = output;
-          promises = promised by-value-sheet l (replyOfSolution r) out out reply certificate output;
-        }
+  point-is : found .point ≡ pointIn (sheetReply by-value-sheet (capacity slots₀))
+  unfolding sheetReply
+  point-is = call .point
 
-    module _ (filled : ℕ) (refutation : outcome ≡ Unsatisfiable filled) where
-      abbrev slots-refuted : Refuted f positive negative points₁ falsified₁ depths₁ filled
-      slots-refuted = refuted f positive negative l outcome points₁ falsified₁ depths₁ call filled refutation
-
-      pub solves-refuted : (r : Solution) (out₁ : List ℕ)
-          → Certifies f positive negative points₁ falsified₁ depths₁ filled out r out₁
-          → Solved by-value-sheet l out r points₁ falsified₁ depths₁ out₁
-      unfolding certificateReply certificateOutput refuted
-      solves-refuted r out₁ c =
-          let now-refuted : sheetReply by-value-sheet (lent l) ≡ unsatisfiable filled = reply-is
-          ∙ ap replyOfOutcome refutation in
-          let reply = c .reply ∙ sym now-refuted in
-          let certificate : replyOfSolution r .certificate ≡ certificateReply by-value-sheet l out =
-          c .certificate ∙ ap some (same-reply f positive negative points₁ falsified₁ depths₁ filled slots-refuted out)
-          ∙ ap (λ (a : Reply). onRefutation a none (λ filled. some (writerReply by-value-sheet l filled out)))
-          (sym now-refuted)
-          in
-          let output : out₁ ≡ certificateOutput by-value-sheet l out =
-          c .output ∙ same-output f positive negative points₁ falsified₁ depths₁ filled slots-refuted out
-          ∙ ap (λ (a : Reply). onRefutation a out (λ filled. writerOutput by-value-sheet l filled out))
-          (sym now-refuted) in
-          record {
-            reply = reply;
-            certificate = certificate;
-            points = call .points ∙ slice-is (λ (t : Slot). t .point) (l .points);
-            falsified = call .falsified ∙ slice-is (λ (t : Slot). t .falsified) (l .falsified);
-            depths = call .depths ∙ slice-is (λ (t : Slot). t .depth) (l .depths);
-            output = output;
-            promises = promised by-value-sheet l (replyOfSolution r) out out₁ reply certificate output;
-          }
-
--- ---- a text
-
-module _ (text positive negative : List ℕ) (l : Slots) (out : List ℕ) where
-  abbrev read-sheet : Sheet
-  read-sheet = from-text text positive negative
-
-  -- a text that is refused leaves everything
-  pub solves-refused : (code place : ℕ) → refused code place ≡ readReply text positive negative
-      → Solved read-sheet l out (Refused code place) (l .points) (l .falsified) (l .depths) out
-  unfolding replyOfSolution sheetReply sheetSlice certificateReply certificateOutput
-  solves-refused code place e =
-      let reply : refused code place ≡ sheetReply read-sheet (lent l) =
-      ap (λ (a : Reply). afterReading a a (searchReply (formulaIn read-sheet) (positiveIn read-sheet)
-      (negativeIn read-sheet) (lent l))) e in
-      let slice : (part : Slot → ℕ) (old : List ℕ) → old ≡ sheetSlice part read-sheet (lent l) old =
-      λ part old. ap (λ (a : Reply). afterReading a old
-      (searchSlice part (formulaIn read-sheet) (positiveIn read-sheet) (negativeIn read-sheet) (lent l) old)) e in
-      let certificate : none ≡ certificateReply read-sheet l out = ap
-      (λ (a : Reply). onRefutation a none (λ filled. some (writerReply read-sheet l filled out))) reply in
-      let output : out ≡ certificateOutput read-sheet l out = ap
-      (λ (a : Reply). onRefutation a out (λ filled. writerOutput read-sheet l filled out)) reply in
+  -- a search that refutes nothing leaves the output
+  pub solves : (q : Outcome) (r : Solution) → found .answer ≡ q
+      → replyOfSolution (found .point) r .reply ≡ replyOfOutcome (found .point) q
+      → replyOfSolution (found .point) r .certificate ≡ none
+      → ((filled : ℕ) → replyOfOutcome (found .point) q ≡ unsatisfiable filled → ⊥)
+      → Solved by-value-sheet slots₀ out (record { answer = r; point = found .point }) slots₁ out
+  unfolding certificateReply certificateOutput
+  solves q r same e n ne =
+      let said : sheetReply by-value-sheet (capacity slots₀) ≡ replyOfOutcome (found .point) q = reply-is
+      ∙ ap (replyOfOutcome (found .point)) same in
+      let reply = e ∙ sym said in
+      let known : (filled : ℕ) → sheetReply by-value-sheet (capacity slots₀) ≡ unsatisfiable filled
+      → ⊥ = λ filled h. ne filled (sym said ∙ h) in
+      let certificate = n ∙ sym (kept-of (sheetReply by-value-sheet (capacity slots₀)) none
+      (λ filled. some (writerReply by-value-sheet slots₀ filled out)) known) in
+      let output = sym (kept-of (sheetReply by-value-sheet (capacity slots₀)) out
+      (λ filled. writerOutput by-value-sheet slots₀ filled out) known) in
       record {
         reply = reply;
         certificate = certificate;
-        points = slice (λ (t : Slot). t .point) (l .points);
-        falsified = slice (λ (t : Slot). t .falsified) (l .falsified);
-        depths = slice (λ (t : Slot). t .depth) (l .depths);
+        point = point-is;
+        slots = slots-are;
         output = output;
-        promises = promised read-sheet l (replyOfSolution (Refused code place)) out out reply certificate output;
+        promises = promised by-value-sheet slots₀ (replyOfSolution (found .point) r) out out reply certificate output;
       }
 
+  module _ (filled : ℕ) (refutation : found .answer ≡ Unsatisfiable filled) where
+    abbrev slots-refuted : Refuted f clauses slots₁ filled
+    slots-refuted = refuted f clauses slots₀ found slots₁ call filled refutation
+
+    pub solves-refuted : (r : Solution) (out₁ : List ℕ) → Certifies f clauses slots₁ filled out r out₁
+        → Solved by-value-sheet slots₀ out (record { answer = r; point = 0 }) slots₁ out₁
+    unfolding certificateReply certificateOutput refuted pointIn
+    solves-refuted r out₁ c =
+        let now-refuted : sheetReply by-value-sheet (capacity slots₀) ≡ unsatisfiable filled = reply-is
+        ∙ ap (replyOfOutcome (found .point)) refutation in
+        let reply = c .reply ∙ sym now-refuted in
+        let certificate : replyOfSolution 0 r .certificate ≡ certificateReply by-value-sheet slots₀ out =
+        c .certificate ∙ ap some (same-reply f clauses slots₁ filled slots-refuted out)
+        ∙ ap (λ (a : Reply). onRefutation a none (λ filled. some (writerReply by-value-sheet slots₀ filled out)))
+        (sym now-refuted) in
+        let output : out₁ ≡ certificateOutput by-value-sheet slots₀ out =
+        c .output ∙ same-output f clauses slots₁ filled slots-refuted out
+        ∙ ap (λ (a : Reply). onRefutation a out (λ filled. writerOutput by-value-sheet slots₀ filled out))
+        (sym now-refuted) in
+        record {
+          reply = reply;
+          certificate = certificate;
+          point = ap pointIn (sym now-refuted);
+          slots = slots-are;
+          output = output;
+          promises = promised by-value-sheet slots₀ (replyOfSolution 0 r) out out₁ reply certificate output;
+        }
+
+-- ---- sheets that say the same are solved alike
+
+module _ (s t : Sheet) (reading-same : readingOf s ≡ readingOf t) (formula-same : formulaIn s ≡ formulaIn t)
+    (clauses-same : clausesIn s ≡ clausesIn t) (slots₀ : SlotSlices) (out : List ℕ) where
+  abbrev lent : ℕ
+  lent = capacity slots₀
+
+  same-answer : sheetReply s lent ≡ sheetReply t lent
+  unfolding sheetReply
+  same-answer = λ i. afterReading (reading-same i) (reading-same i)
+      (searchReply (formula-same i) (clauses-same i) lent)
+
+  same-slots : sheetSlices s slots₀ ≡ sheetSlices t slots₀
+  unfolding sheetSlices
+  same-slots = λ i. afterReading (reading-same i) slots₀ (searchSlices (formula-same i) (clauses-same i) slots₀)
+
+  same-certificate : certificateReply s slots₀ out ≡ certificateReply t slots₀ out
+  unfolding certificateReply
+  same-certificate = λ i. onRefutation (same-answer i) none (λ filled. some (writeReply (formula-same i)
+      (clauses-same i) (searchSlices (formula-same i) (clauses-same i) slots₀) filled out))
+
+  same-put : certificateOutput s slots₀ out ≡ certificateOutput t slots₀ out
+  unfolding certificateOutput
+  same-put = λ i. onRefutation (same-answer i) out (λ filled. writeOutput (formula-same i)
+      (clauses-same i) (searchSlices (formula-same i) (clauses-same i) slots₀) filled out)
+
+  pub solved-alike : (r : Settled) (slots₁ : SlotSlices) (out₁ : List ℕ) → Solved s slots₀ out r slots₁ out₁
+      → Solved t slots₀ out r slots₁ out₁
+  solved-alike r slots₁ out₁ v =
+      let reply = v .reply ∙ same-answer in
+      let certificate = v .certificate ∙ same-certificate in
+      let output = v .output ∙ same-put in
+      record {
+        reply = reply;
+        certificate = certificate;
+        point = v .point ∙ ap pointIn same-answer;
+        slots = v .slots ∙ same-slots;
+        output = output;
+        promises = promised t slots₀ (replyOfSettled r) out out₁ reply certificate output;
+      }
+
+-- ---- a text
+
+module _ (text : List ℕ) (clauses₀ : ClauseSlices) (slots₀ : SlotSlices) (out : List ℕ) where
+  abbrev read-sheet : Sheet
+  read-sheet = from-text text clauses₀
+
+  -- a text that is refused leaves everything
+  refused-solved : (code place : ℕ) → refused code place ≡ readReply text clauses₀
+      → Solved read-sheet slots₀ out (refusedWith code place) slots₀ out
+  unfolding replyOfSolution sheetReply sheetSlices certificateReply certificateOutput pointIn
+  refused-solved code place e =
+      let reply : refused code place ≡ sheetReply read-sheet (capacity slots₀) =
+      ap (λ (a : Reply). afterReading a a (searchReply (formulaIn read-sheet) (clausesIn read-sheet)
+      (capacity slots₀))) e in
+      let certificate : none ≡ certificateReply read-sheet slots₀ out = ap
+      (λ (a : Reply). onRefutation a none (λ filled. some (writerReply read-sheet slots₀ filled out))) reply in
+      let output : out ≡ certificateOutput read-sheet slots₀ out = ap
+      (λ (a : Reply). onRefutation a out (λ filled. writerOutput read-sheet slots₀ filled out)) reply in
+      record {
+        reply = reply;
+        certificate = certificate;
+        point = ap pointIn reply;
+        slots = ap (λ (a : Reply). afterReading a slots₀
+            (searchSlices (formulaIn read-sheet) (clausesIn read-sheet) slots₀)) e;
+        output = output;
+        promises = promised read-sheet slots₀ (replyOfSolution 0 (Refused code place)) out out reply certificate output;
+      }
+
+  pub solves-refused : (code place : ℕ) (r : Settled) → r ≡ refusedWith code place
+      → refused code place ≡ readReply text clauses₀ → Solved read-sheet slots₀ out r slots₀ out
+  solves-refused code place r same e = subst (λ q. Solved read-sheet slots₀ out q slots₀ out) (sym same)
+      (refused-solved code place e)
+
   -- the formula and the clauses that a text yields are solved as the text is
-  module _ (e : parsed ≡ readReply text positive negative) (r : Solution) (points₁ falsified₁ depths₁ out₁ : List ℕ)
-    where
-      abbrev yielded : Sheet
-      yielded = by-value (formulaIn read-sheet) (positiveIn read-sheet) (negativeIn read-sheet)
+  pub solves-read : parsed ≡ readReply text clauses₀ → (r : Settled) (slots₁ : SlotSlices) (out₁ : List ℕ)
+      (f : Formula) (clauses₁ : ClauseSlices) → f ≡ readFormula text clauses₀ → clauses₁ ≡ readClauses text clauses₀
+      → Solved (by-value f (firstClauses (f .clauses) clauses₁)) slots₀ out r slots₁ out₁
+      → Solved read-sheet slots₀ out r slots₁ out₁
+  solves-read e r slots₁ out₁ f clauses₁ ef ec solved =
+      solved-alike (by-value f (firstClauses (f .clauses) clauses₁)) read-sheet e ef
+      (λ i. firstClauses (ef i .clauses) (ec i)) slots₀ out r slots₁ out₁ solved
 
-      same-answer : sheetReply yielded (lent l) ≡ sheetReply read-sheet (lent l)
-      unfolding sheetReply
-      same-answer = ap (λ (a : Reply). afterReading a a (searchReply (formulaIn read-sheet) (positiveIn read-sheet)
-          (negativeIn read-sheet) (lent l))) e
+-- arrays of zeros are the blank slices
+pub solved-blank : (text : List ℕ) {slots₀ slots₁ : SlotSlices} {out out₁ : List ℕ} {r : Settled}
+    → Solved (from-text text (clauseSlices (replicate maxClauses 0) (replicate maxClauses 0))) slots₀ out r slots₁ out₁
+    → Solved (from-text text blank) slots₀ out r slots₁ out₁
+unfolding blank
+solved-blank text {slots₀} {slots₁} {out} {out₁} {r} v =
+    subst (λ clauses. Solved (from-text text clauses) slots₀ out r slots₁ out₁) (clauses-blank maxClauses) v
 
-      same-slice : (part : Slot → ℕ) (old : List ℕ)
-          → sheetSlice part yielded (lent l) old ≡ sheetSlice part read-sheet (lent l) old
-      unfolding sheetSlice
-      same-slice part old = ap (λ (a : Reply). afterReading a old
-          (searchSlice part (formulaIn read-sheet) (positiveIn read-sheet) (negativeIn read-sheet) (lent l) old)) e
+-- the slices that take a text have room for its clauses
+pub clauses-held : (text : List ℕ) (clauses₀ : ClauseSlices) → parsed ≡ readReply text clauses₀ → (f : Formula)
+    → f ≡ readFormula text clauses₀ → f .clauses ≤ clauseRoom clauses₀
+unfolding formulaOf
+clauses-held text clauses₀ e f ef =
+    let w = parsed-accepts text clauses₀ (sym e) in
+    subst (λ (g : Formula). g .clauses ≤ clauseRoom clauses₀) (sym (ef ∙ w .2 .formula)) (w .1 .enough-room)
 
-      as-read : Solved yielded l out r points₁ falsified₁ depths₁ out₁
-          → Solved read-sheet l out r points₁ falsified₁ depths₁ out₁
-      unfolding certificateReply certificateOutput
-      as-read v =
-          let reply = v .reply ∙ same-answer in
-          let certificate : replyOfSolution r .certificate ≡ certificateReply read-sheet l out = v .certificate
-          ∙ ap (λ (a : Reply). onRefutation a none (λ filled. some (writerReply read-sheet l filled out))) same-answer
-          in
-          let output : out₁ ≡ certificateOutput read-sheet l out = v .output
-          ∙ ap (λ (a : Reply). onRefutation a out (λ filled. writerOutput read-sheet l filled out)) same-answer in
-          record {
-            reply = reply;
-            certificate = certificate;
-            points = v .points ∙ same-slice (λ (t : Slot). t .point) (l .points);
-            falsified = v .falsified ∙ same-slice (λ (t : Slot). t .falsified) (l .falsified);
-            depths = v .depths ∙ same-slice (λ (t : Slot). t .depth) (l .depths);
-            output = output;
-            promises = promised read-sheet l (replyOfSolution r) out out₁ reply certificate output;
-          }
+-- a text that smaller slices take is solved as it is with larger ones
+pub solves-few : (text : List ℕ) (few more : ClauseSlices) → clauseRoom few ≤ clauseRoom more
+    → ((place : ℕ) → readReply text few ≡ refused 4 place → ⊥) → (slots₀ : SlotSlices) (out : List ℕ) (r : Settled)
+    (slots₁ : SlotSlices) (out₁ : List ℕ) → Solved (from-text text few) slots₀ out r slots₁ out₁
+    → Solved (from-text text more) slots₀ out r slots₁ out₁
+solves-few text few more le not-4 slots₀ out r slots₁ out₁ v =
+    let a = reads-alike text few more le not-4 in
+    solved-alike (from-text text few) (from-text text more) (a .reply) (a .formula) (a .first-clauses) slots₀ out r
+    slots₁ out₁ v
 
-      pub solves-read : (f : Formula) (positive₁ negative₁ : List ℕ) → f ≡ readFormula text positive negative
-          → positive₁ ≡ readPositive text positive negative → negative₁ ≡ readNegative text positive negative
-          → Solved (by-value f (take (f .clauses) positive₁) (take (f .clauses) negative₁)) l out r points₁ falsified₁
-          depths₁ out₁
-          → Solved read-sheet l out r points₁ falsified₁ depths₁ out₁
-      solves-read f positive₁ negative₁ ef ep en solved =
-          as-read
-          (subst (λ ns. Solved (by-value (formulaIn read-sheet) (positiveIn read-sheet)
-          (take (formulaIn read-sheet .clauses) ns)) l out r points₁ falsified₁ depths₁ out₁) en
-          (subst (λ ps. Solved (by-value (formulaIn read-sheet) (take (formulaIn read-sheet .clauses) ps)
-          (take (formulaIn read-sheet .clauses) negative₁)) l out r points₁ falsified₁ depths₁ out₁) ep
-          (subst (λ (g : Formula). Solved (by-value g (take (g .clauses) positive₁) (take (g .clauses) negative₁)) l out
-          r
-          points₁ falsified₁ depths₁ out₁) ef solved)))
+-- local arrays for fewer clauses than the most are smaller than the blank ones
+pub few-room : (k : ℕ) → k ≤ maxClauses → clauseRoom (clauseSlices (replicate k 0) (replicate k 0)) ≤ clauseRoom blank
+unfolding blank
+few-room k le =
+    rw (points-blank k, length-replicate {A = ℕ} k 0, length-replicate {A = ℕ} maxClauses 0)
+    (omega arith)
 
--- there is room for the clauses of a text that is accepted where the slices take 4,096
-pub clauses-held : (text positive negative : List ℕ) → parsed ≡ readReply text positive negative → (f : Formula)
-    → f ≡ readFormula text positive negative → f .clauses ≤ 4096
-clauses-held text positive negative e f ef = subst (λ (g : Formula). g .clauses ≤ 4096) (sym ef)
-    (accepted-handed text positive negative (sym e) .fits .few-clauses)
+-- what is accepted, or refused by another number, is not refused by 4
+pub parsed-not-4 : {a : Reply} → parsed ≡ a → (place : ℕ) → a ≡ refused 4 place → ⊥
+parsed-not-4 e place h = let both : parsed ≡ refused 4 place = e ∙ h in let z : _≡_ {A = ℕ} 0 1 = cc in omega arith
+
+pub other-not-4 : {a : Reply} (code place : ℕ) → refused code place ≡ a → (code ≡ 4 → ⊥) → (place′ : ℕ)
+    → a ≡ refused 4 place′ → ⊥
+other-not-4 code place e ne place′ h =
+    let both : refused code place ≡ refused 4 place′ = e ∙ h in let same : code ≡ 4 = cc in ne same

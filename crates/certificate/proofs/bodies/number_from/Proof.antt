@@ -7,8 +7,9 @@ use native.Mathlib.Omega.{arith}
 use lib.ListN.{length, getD, drop}
 use lib.Seq.{drop-length}
 use borrow.Author.Needs.{needs}
+use Rattle.math.specs.Numerals.{value}
 use Rattle.certificate.specs.Bytes.{numberFrom}
-use Rattle.certificate.specs.Laws.BytesLaws.{number-next}
+use Rattle.math.specs.Laws.NumeralLaws.{value-next}
 use Rattle.certificate.proofs.bodies.number_from.Statement.{statement}
 use Rattle.certificate.proofs.bodies.number_from.Tie as tie
 
@@ -19,7 +20,7 @@ abbrev μ-loop : tie.MeasureT-loop
 μ-loop bytes r₀ i₀ r i = i
 
 loop-holds : tie.Need-loop-holds Inv-loop μ-loop
-unfolding numberFrom
+unfolding value
 loop-holds c =
     let bytes = c .args .bytes .now in
     let one : 0 < 256 ^ (length bytes - length bytes) = one-le-pow (length bytes - length bytes) 256 (zero-lt-suc 255) in
@@ -60,7 +61,7 @@ loop-again c =
     let l = c .before .before .loop in
     let bytes = c .before .before .before .args .bytes .now in
     let back : suc (l .i - 1) ≡ l .i = omega arith in
-    let next = number-next bytes (l .i - 1) (omega arith) in
+    let next = value-next 8 bytes (l .i - 1) (omega arith) in
     let same : numberFrom (drop (suc (l .i - 1)) bytes) ≡ l .r = ap (λ (j : ℕ). numberFrom (drop j bytes)) back ∙ sym (l .inv .1) in
     (omega arith, omega (arith, next, same), bound c .0)
 

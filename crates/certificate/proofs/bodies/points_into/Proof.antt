@@ -1,6 +1,9 @@
 -- `certificate::bodies::points_into` meets its contract: before index i the first i are copied. Assumes nothing.
+use mathlib.Core.Path.{_≡_}
 use Prim.Native.Nat.{_-_}
+use lib.ListN.{length}
 use borrow.Author.Needs.{needs}
+use Rattle.point_slices.specs.Slices.{pointsOf}
 use Rattle.certificate.specs.Bytes.{pointWidth}
 use Rattle.certificate.specs.Laws.BytesLaws.{Copying, copying-begins, copying-whole, copying-goes-on}
 use Rattle.certificate.specs.Laws.BytesLaws.{copying-ends}
@@ -8,7 +11,7 @@ use Rattle.certificate.proofs.bodies.points_into.Statement.{statement}
 use Rattle.certificate.proofs.bodies.points_into.Tie as tie
 
 abbrev Inv-loop : tie.InvT-loop
-Inv-loop to₀ body count i₀ to i = Copying pointWidth count body to₀ i to
+Inv-loop to₀ body count i₀ to i = (length to ≡ length to₀) × Copying pointWidth count body (pointsOf to₀) i (pointsOf to)
 
 abbrev μ-loop : tie.MeasureT-loop
 μ-loop to₀ body count i₀ to i = count - i

@@ -1,5 +1,6 @@
 -- `exports::checking::jugbowo_check` meets its contract: with room for the answer it tells what the checker answers.
 -- Assumes nothing.
+use Rattle.point_slices.specs.Slices.{clauseSlices}
 use Rattle.exports.specs.Laws.CheckingLaws.{tells-no-verdict, tells-verdict}
 use Rattle.exports.proofs.checking.jugbowo_check.Statement.{statement}
 use Rattle.exports.proofs.checking.jugbowo_check.Tie as tie
@@ -7,7 +8,7 @@ use Rattle.exports.proofs.checking.jugbowo_check.Tie as tie
 returns : tie.Need-returns
 returns c =
     let a = c .before .before .before .before .before .before .args in
-    tells-no-verdict _ (a .positive .now) (a .negative .now) (a .file .now) (a .reply .now) (c .if1 .taken)
+    tells-no-verdict _ (clauseSlices (a .positive .now) (a .negative .now)) (a .file .now) (a .reply .now) (c .if1 .taken)
 
 formula-from-requires : tie.Need-formula-from-requires
 formula-from-requires c κs = tt
@@ -28,7 +29,7 @@ returns-2 c =
     let made = answered .before in
     let with-room = made .before in
     let a = with-room .before .before .before .before .before .before .args in
-    tells-verdict _ (a .positive .now) (a .negative .now) (a .file .now) (a .reply .now) _ (answered .check .result) _
+    tells-verdict _ (clauseSlices (a .positive .now) (a .negative .now)) (a .file .now) (a .reply .now) _ (answered .check .result) _
     (with-room .if1 .left) (made .formula-from .ensures) (answered .check .ensures) (put .put-verdict .ensures)
 
 pub jugbowo-check-spec : {M : Type 1} → statement M

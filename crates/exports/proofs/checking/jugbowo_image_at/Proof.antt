@@ -17,7 +17,7 @@ put-entry-requires c κs = c .before .before .if1 .left
 returns-2 : tie.Need-returns-2
 returns-2 c =
     let answered = c .before .before .before .before in
-    tells-entry _ _ _ _ (answered .before .if1 .left) (answered .image-at .ensures .value) (c .before .before .put-entry .ensures)
+    tells-entry _ _ (answered .image-at .result) _ (answered .before .if1 .left) (answered .image-at .ensures .held) (c .before .before .put-entry .ensures)
 
 pub jugbowo-image-at-spec : {M : Type 1} → statement M
 jugbowo-image-at-spec =

@@ -1,5 +1,6 @@
 -- `exports::reading::jugbowo_read` meets its contract: with room for the answer it tells what the reader answers.
 -- Assumes nothing.
+use Rattle.point_slices.specs.Slices.{clauseSlices}
 use Rattle.exports.specs.Laws.ReadingLaws.{without-reply, without-numbers, without-images, tells-reading}
 use Rattle.exports.proofs.reading.jugbowo_read.Statement.{statement}
 use Rattle.exports.proofs.reading.jugbowo_read.Tie as tie
@@ -7,17 +8,17 @@ use Rattle.exports.proofs.reading.jugbowo_read.Tie as tie
 returns : tie.Need-returns
 returns c =
     let a = c .before .before .before .before .before .before .before .args in
-    without-reply (a .text .now) (a .positive .now) (a .negative .now) (a .numbers .now) (a .images .now) (a .reply .now) (c .if1 .taken)
+    without-reply (a .text .now) (clauseSlices (a .positive .now) (a .negative .now)) (a .numbers .now) (a .images .now) (a .reply .now) (c .if1 .taken)
 
 returns-2 : tie.Need-returns-2
 returns-2 c =
     let a = c .before .before .before .before .before .before .before .before .args in
-    without-numbers (a .text .now) (a .positive .now) (a .negative .now) (a .numbers .now) (a .images .now) (a .reply .now) (c .before .if1 .left) (c .if2 .taken)
+    without-numbers (a .text .now) (clauseSlices (a .positive .now) (a .negative .now)) (a .numbers .now) (a .images .now) (a .reply .now) (c .before .if1 .left) (c .if2 .taken)
 
 returns-3 : tie.Need-returns-3
 returns-3 c =
     let a = c .before .before .before .before .before .before .before .before .before .args in
-    without-images (a .text .now) (a .positive .now) (a .negative .now) (a .numbers .now) (a .images .now) (a .reply .now) (c .before .before .if1 .left) (c .before .if2 .left) (c .if3 .taken)
+    without-images (a .text .now) (clauseSlices (a .positive .now) (a .negative .now)) (a .numbers .now) (a .images .now) (a .reply .now) (c .before .before .if1 .left) (c .before .if2 .left) (c .if3 .taken)
 
 read-requires : tie.Need-read-requires
 read-requires c κs = tt
@@ -51,7 +52,7 @@ returns-4 c =
     let answered = returned .before .before .before .before .before .before .before .before in
     let with-room = answered .before .before .before in
     let a = with-room .before .before .before .before .before .before .before .before .before .args in
-    tells-reading (a .text .now) (a .positive .now) (a .negative .now) (a .numbers .now) (a .images .now) (a .reply .now) (answered .read .result) _ _ _ _ _
+    tells-reading (a .text .now) (clauseSlices (a .positive .now) (a .negative .now)) (a .numbers .now) (a .images .now) (a .reply .now) (answered .read .result) _ _ _ _
     (with-room .before .before .if1 .left) (with-room .before .if2 .left) (with-room .if3 .left) (answered .read .ensures)
     (returned .put-formula .ensures .0) (returned .put-formula .ensures .1) (c .before .before .put-parse .ensures)
 

@@ -1,5 +1,6 @@
 -- `exports::writing::jugbowo_write` meets its contract: with room for the answer it tells what the writer answers.
 -- Assumes nothing.
+use Rattle.point_slices.specs.Slices.{clauseSlices, slotSlices}
 use Rattle.exports.specs.Laws.WritingLaws.{tells-nothing, tells-writing}
 use Rattle.exports.proofs.writing.jugbowo_write.Statement.{statement}
 use Rattle.exports.proofs.writing.jugbowo_write.Tie as tie
@@ -7,7 +8,7 @@ use Rattle.exports.proofs.writing.jugbowo_write.Tie as tie
 returns : tie.Need-returns
 returns c =
     let a = c .before .before .before .before .before .before .before .before .before .args in
-    tells-nothing _ (a .positive .now) (a .negative .now) (a .points .now) (a .falsified .now) (a .depths .now) (a .filled) (a .out .now) (a .reply .now) (c .if1 .taken)
+    tells-nothing _ (clauseSlices (a .positive .now) (a .negative .now)) (slotSlices (a .points .now) (a .falsified .now) (a .depths .now)) (a .filled) (a .out .now) (a .reply .now) (c .if1 .taken)
 
 formula-from-requires : tie.Need-formula-from-requires
 formula-from-requires c κs = tt
@@ -30,7 +31,7 @@ returns-2 c =
     let made = answered .before .before in
     let with-room = made .before in
     let a = with-room .before .before .before .before .before .before .before .before .before .args in
-    tells-writing _ (a .positive .now) (a .negative .now) (a .points .now) (a .falsified .now) (a .depths .now) (a .filled) (a .out .now) (a .reply .now) _ (answered .write .result) _ _
+    tells-writing _ (clauseSlices (a .positive .now) (a .negative .now)) (slotSlices (a .points .now) (a .falsified .now) (a .depths .now)) (a .filled) (a .out .now) (a .reply .now) _ (answered .write .result) _ _
     (with-room .if1 .left) (made .formula-from .ensures) (answered .write .ensures) (c .before .before .put-written .ensures)
 
 pub jugbowo-write-spec : {M : Type 1} → statement M

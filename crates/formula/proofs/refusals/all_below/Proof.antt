@@ -8,12 +8,13 @@ use lib.ListN.{length, getD, drop}
 use borrow.Author.Needs.{needs}
 use borrow.Author.Tests.{not-true, not-false}
 use Rattle.math.specs.Laws.ScanLaws.{all-ends, all-stops, all-goes-on}
+use Rattle.point_slices.specs.Slices.{pointsOf}
 use Rattle.formula.specs.Refusals.{allBelow}
 use Rattle.formula.proofs.refusals.all_below.Statement.{statement}
 use Rattle.formula.proofs.refusals.all_below.Tie as tie
 
 abbrev Inv-loop : tie.InvT-loop
-Inv-loop xs n end i₀ i = (end ≡ length xs) × (allBelow n xs ≡ allBelow n (drop i xs))
+Inv-loop xs n end i₀ i = (end ≡ length (pointsOf xs)) × (allBelow n (pointsOf xs) ≡ allBelow n (drop i (pointsOf xs)))
 
 abbrev μ-loop : tie.MeasureT-loop
 μ-loop xs n end i₀ i = end - i
@@ -32,7 +33,7 @@ below-requires c κs = search needs
 
 -- what the test says of the number at i
 tested : (c : tie.After-below Inv-loop μ-loop)
-    → ltb (getD (c .before .before .before .before .before .before .args .xs .now) (c .before .before .before .loop .i) 0) (2 ^ c .before .before .before .before .before .before .args .n) ≡ c .below .result
+    → ltb (getD (pointsOf (c .before .before .before .before .before .before .args .xs .now)) (c .before .before .before .loop .i) 0) (2 ^ c .before .before .before .before .before .before .args .n) ≡ c .below .result
 tested c = ap (λ (x : ℕ). ltb x (2 ^ c .before .before .before .before .before .before .args .n)) (sym (c .before .point-at .ensures)) ∙ sym (c .below .ensures)
 
 returns : tie.Need-returns Inv-loop μ-loop

@@ -3,8 +3,10 @@
 use mathlib.Core.Path.{_≡_, sym, ap, _∙_, subst}
 use lib.ListN.{length}
 use borrow.Author.Needs.{needs}
+use Rattle.point_slices.specs.Slices.{clauseSlices}
 use Rattle.formula.specs.Laws.RefusalLaws.{stops-10, stops-11, ends-12, formula-passes, images-room}
 use Rattle.formula.specs.Laws.RefusalLaws.{formula-listed}
+use Rattle.formula.specs.Limits.{maxImages}
 use Rattle.formula.specs.Refusals.{formulaFault, permutationFault, faultOf}
 use Rattle.formula.specs.Reply.{no-fault}
 use Rattle.formula.specs.Laws.ReplyLaws.{IsFault}
@@ -17,25 +19,25 @@ formula-refusal-requires c κs = search needs
 
 returns : tie.Need-returns
 returns c =
-    stops-10 _ _ _ (faultOf (c .before .before .formula-refusal .result)) (c .before .before .formula-refusal .ensures)
+    stops-10 _ _ (faultOf (c .before .before .formula-refusal .result)) (c .before .before .formula-refusal .ensures)
     (subst IsFault (sym (ap faultOf (c .enum-told2 .given .1))) tt)
 
 -- the array of the images is as long as its type says
-size : (c : tie.Start) → length (c .args .f .images) ≡ 1024
+size : (c : tie.Start) → length (c .args .f .images) ≡ maxImages
 size c = search needs
 
 -- the second arm is reached where refusal 10 found nothing
-ten : (c : tie.After-enum-told) → formulaFault (c .before .before .before .before .before .args .f) (c .before .before .before .before .before .args .positive .now) (c .before .before .before .before .before .args .negative .now) ≡ no-fault
+ten : (c : tie.After-enum-told) → formulaFault (c .before .before .before .before .before .args .f) (clauseSlices (c .before .before .before .before .before .args .positive .now) (c .before .before .before .before .before .args .negative .now)) ≡ no-fault
 ten c = sym (c .before .before .formula-refusal .ensures) ∙ ap faultOf (c .enum-told .given .1)
 
 permutations-refusal-requires : tie.Need-permutations-refusal-requires
 permutations-refusal-requires c κs =
-    let few = formula-passes _ _ _ (ten (c .before .before)) .0 .few-variables in
-    (few, images-room (c .before .before .before .before .before .before .before .args .f) (c .before .before .before .before .before .before .before .args .positive .now) (c .before .before .before .before .before .before .before .args .negative .now) few (size (c .before .before .before .before .before .before .before)))
+    let few = formula-passes _ _ (ten (c .before .before)) .0 .few-variables in
+    (few, images-room (c .before .before .before .before .before .before .before .args .f) (clauseSlices (c .before .before .before .before .before .before .before .args .positive .now) (c .before .before .before .before .before .before .before .args .negative .now)) few (size (c .before .before .before .before .before .before .before)))
 
 returns-2 : tie.Need-returns-2
 returns-2 c =
-    stops-11 _ _ _ (faultOf (c .before .before .permutations-refusal .result)) (ten (c .before .before .before .before .before)) (c .before .before .permutations-refusal .ensures)
+    stops-11 _ _ (faultOf (c .before .before .permutations-refusal .result)) (ten (c .before .before .before .before .before)) (c .before .before .permutations-refusal .ensures)
     (subst IsFault (sym (ap faultOf (c .enum-told4 .given .1))) tt)
 
 -- and the last call where refusal 11 did not either
@@ -45,10 +47,10 @@ eleven c = sym (c .before .before .permutations-refusal .ensures) ∙ ap faultOf
 
 symmetry-refusal-requires : tie.Need-symmetry-refusal-requires
 symmetry-refusal-requires c κs =
-    formula-listed (c .before .before .before .before .before .before .before .before .before .before .before .args .f) (c .before .before .before .before .before .before .before .before .before .before .before .args .positive .now) (c .before .before .before .before .before .before .before .before .before .before .before .args .negative .now) (ten (c .before .before .before .before .before .before)) (eleven (c .before)) (size (c .before .before .before .before .before .before .before .before .before .before .before))
+    formula-listed (c .before .before .before .before .before .before .before .before .before .before .before .args .f) (clauseSlices (c .before .before .before .before .before .before .before .before .before .before .before .args .positive .now) (c .before .before .before .before .before .before .before .before .before .before .before .args .negative .now)) (ten (c .before .before .before .before .before .before)) (eleven (c .before)) (size (c .before .before .before .before .before .before .before .before .before .before .before))
 
 returns-3 : tie.Need-returns-3
-returns-3 c = c .symmetry-refusal .ensures ∙ ends-12 _ _ _ (ten (c .before .before .before .before .before .before .before)) (eleven (c .before .before))
+returns-3 c = c .symmetry-refusal .ensures ∙ ends-12 _ _ (ten (c .before .before .before .before .before .before .before)) (eleven (c .before .before))
 
 pub problem-refusal-spec : {M : Type 1} → statement M
 problem-refusal-spec =

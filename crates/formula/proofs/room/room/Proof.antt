@@ -1,7 +1,7 @@
 -- `formula::room::room` meets its contract. Assumes nothing.
 use mathlib.Core.Path.{ap, ap₂, _∙_}
 use Prim.Native.Nat.{min}
-use Rattle.formula.specs.Limits.{capacity}
+use Rattle.formula.specs.Limits.{maxSlots, capacity}
 use borrow.Author.Needs.{needs}
 use Rattle.formula.proofs.room.room.Statement.{statement}
 use Rattle.formula.proofs.room.room.Tie as tie
@@ -20,7 +20,7 @@ least-requires-3 c κs = search needs
 
 returns : tie.Need-returns
 unfolding capacity
-returns c = c .least3 .ensures ∙ ap (min 65536) (c .before .least2 .ensures ∙ ap₂ min (c .before .before .before .point-count .ensures) (c .before .before .least .ensures))
+returns c = c .least3 .ensures ∙ ap (min maxSlots) (c .before .least2 .ensures ∙ ap₂ min (c .before .before .before .point-count .ensures) (c .before .before .least .ensures))
 
 pub room-spec : {M : Type 1} → statement M
 room-spec =
