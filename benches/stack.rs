@@ -66,6 +66,13 @@ fn main() {
     let report = |name: &str, bytes: usize| println!("{name} {}", bytes - idle);
     let (mut p, mut q, mut four, mut kilo) = (vec![0; 4096], vec![0; 4096], vec![0; 4], vec![0; 1024]);
     report("read", used(&mut || assert_eq!(library::read(clash, &mut p, &mut q, &mut four, &mut kilo, &mut reply), 1)));
+    // one clause more than the small arrays of the reader and the solver hold
+    let many = [b"p cnf 2 257\nc exch 2 1\n-1 2 0\n1 -2 0\n-1 -2 0\n".to_vec(), b"1 2 0\n".repeat(254)].concat();
+    report(
+        "read, 257 clauses",
+        used(&mut || assert_eq!(library::read(&many, &mut p, &mut q, &mut four, &mut kilo, &mut reply), 1)),
+    );
+    assert_eq!(reply[0], 4);
     report(
         "search",
         used(&mut || assert_eq!(library::search(&s, &mut points, &mut numbers, &mut depths, &mut reply), 1)),
@@ -89,6 +96,13 @@ fn main() {
         "solve",
         used(&mut || {
             assert_eq!(library::solve(clash, &mut points, &mut numbers, &mut depths, &mut file, &mut reply), 1)
+        }),
+    );
+    assert_eq!(reply[..3], [8, 3, 70]);
+    report(
+        "solve, 257 clauses",
+        used(&mut || {
+            assert_eq!(library::solve(&many, &mut points, &mut numbers, &mut depths, &mut file, &mut reply), 1)
         }),
     );
     assert_eq!(reply[..3], [8, 3, 70]);

@@ -5,8 +5,9 @@ this repository.
 usage: tools/definitions.py VECTORS SCRATCH KIND [MOST]
 
 VECTORS is a file of one JSON object a line, SCRATCH a folder that is made anew, KIND reader, builder, checker or
-writer. A vector is left out if its line has more than MOST characters (default 6000), if it comes in parts, or if its n is beyond what antt should raise 2 to. Prints how
-many vectors of each answer were computed, which ids were left out, and what the check says. Not part of the gate."""
+writer. A vector is left out if its line has more than MOST characters (default 6000), if it comes in parts, or if its n
+is beyond what antt should raise 2 to. Prints how many vectors of each answer were computed, which ids were left out,
+and what the check says. Not part of the gate."""
 import collections
 import json
 import os

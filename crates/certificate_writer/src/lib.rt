@@ -17,7 +17,7 @@ ghost use mathlib.Core.Path.{_≡_};
 ghost use Prim.Native.Nat.{_≤_};
 ghost use Rattle.math.specs.Lists.{over};
 ghost use Rattle.points.specs.Points.{numbered};
-ghost use Rattle.point_slices.specs.Slices.{pointsOf, clausesOf, clauseSlices, slotSlices};
+ghost use Rattle.point_slices.specs.Slices.{pointsOf, clauseSlices, slotSlices, lentClauses};
 ghost use Rattle.formula.specs.Limits.{maxVariables, maxPermutations, maxSlots};
 ghost use Rattle.formula.specs.Refusals.{faultOf};
 ghost use Rattle.formula.specs.Reply.{no-fault};
@@ -35,7 +35,6 @@ pub enum Written {
 // What was found before; else refusals 16 and 17, in this order, of the first `filled` slots of at most `lent`. `write`
 // sees to what it requires.
 fn slots_refusal(
-    found: Checked,
     n: u32,
     positive: &[u64],
     negative: &[u64],
@@ -43,11 +42,12 @@ fn slots_refusal(
     falsified: &[u32],
     lent: usize,
     filled: u32,
+    found: Checked,
 ) -> Checked
     requires { ⌜ (faultOf found ≡ no-fault → Counted maxSlots n lent (pointsOf (now points))) ⌝ }
     ensures { λ r. ⌜ faultOf r ≡ slotsFault (faultOf found) lent n
-        (numbered (clausesOf (clauseSlices (now (positive .entry)) (now (negative .entry))))) filled
-        (pointsOf (now (points .entry))) (now (falsified .entry)) ⌝ }
+        (numbered (lentClauses (now (positive .entry)) (now (negative .entry)))) filled (pointsOf (now (points .entry)))
+        (now (falsified .entry)) ⌝ }
 {
     let Checked::Passed = found else {
         return found;
@@ -73,7 +73,6 @@ fn length_needed(n: u32, permutations: u32, filled: u32) -> usize
 // C3: stores a certificate at the front of `out`: its contents, the permutations, the points and the clause numbers.
 // The writer sees to what it requires.
 fn put_certificate(
-    out: &mut [u8],
     n: u32,
     m: u32,
     permutations: u32,
@@ -81,6 +80,7 @@ fn put_certificate(
     points: &[u64],
     falsified: &[u32],
     filled: u32,
+    out: &mut [u8],
 )
     requires { ⌜ Storable n permutations (now images) (pointsOf (now points)) (now falsified) filled (now out) ⌝ }
     ensures { λ _. ⌜ now (out .exit) ≡ over (parts n m permutations (now (images .entry))
@@ -118,7 +118,6 @@ pub fn write(
     let n = f.variables;
     let permutations = f.permutations;
     let refusal = slots_refusal(
-        found,
         n,
         positive,
         negative,
@@ -126,6 +125,7 @@ pub fn write(
         falsified,
         lent,
         filled,
+        found,
     );
     match refusal {
         Checked::Passed => {}
@@ -142,7 +142,6 @@ pub fn write(
     }
     let images = f.images;
     put_certificate(
-        out,
         n,
         f.clauses,
         permutations,
@@ -150,6 +149,7 @@ pub fn write(
         points,
         falsified,
         filled,
+        out,
     );
     Written::Bytes(size)
 }

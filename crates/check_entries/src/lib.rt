@@ -11,7 +11,7 @@ use permutation_coverage::Lookup;
 ghost use mathlib.Core.Path.{_≡_};
 ghost use lib.ListN.{take};
 ghost use Rattle.points.specs.Points.{numbered};
-ghost use Rattle.point_slices.specs.Slices.{pointsOf, clausesOf, clauseSlices};
+ghost use Rattle.point_slices.specs.Slices.{pointsOf, lentClauses};
 ghost use Rattle.permutation_theory.specs.Permutations.{permutationsIn};
 ghost use Rattle.formula.specs.Limits.{maxSlots};
 ghost use Rattle.formula.specs.Refusals.{faultOf};
@@ -30,10 +30,10 @@ fn lists_refusal(
     links: &mut [u32],
     count: usize,
 ) -> Checked
-    requires { ⌜ Ready g (now images) (clauseSlices (now positive) (now negative)) (pointsOf (now points)) (now links)
-        count ⌝ }
-    ensures { λ r. ⌜ faultOf r ≡ listsFault (g .variables) (numbered (clausesOf (clauseSlices (now (positive .entry))
-        (now (negative .entry)))))
+    requires { ⌜ Ready g (now images) (lentClauses (now positive) (now negative)) (pointsOf (now points))
+        (now links) count ⌝ }
+    ensures { λ r. ⌜ faultOf r ≡ listsFault (g .variables)
+        (numbered (lentClauses (now (positive .entry)) (now (negative .entry))))
         (permutationsIn (g .variables) (g .permutations) (now (images .entry)))
         (take count (pointsOf (now (points .entry)))) (take count (now (falsified .entry))) ⌝ }
 {
@@ -70,12 +70,12 @@ fn copied_refusal(
     links: &mut [u32],
     count: usize,
 ) -> Checked
-    requires { ⌜ Decodable (g .variables) (g .permutations) (now images) (clauseSlices (now positive) (now negative))
+    requires { ⌜ Decodable (g .variables) (g .permutations) (now images) (lentClauses (now positive) (now negative))
         (now points) (now falsified) count (g .heads)
         × Lent (g .heads) (pointsOf (now held)) (now named) (now links) ⌝ }
     ensures { λ r. ⌜ faultOf r ≡ entriesFault (g .variables) (g .permutations) (now (images .entry))
-        (clauseSlices (now (positive .entry)) (now (negative .entry))) (now (points .entry)) (now (falsified .entry))
-        count ⌝ }
+        (lentClauses (now (positive .entry)) (now (negative .entry))) (now (points .entry))
+        (now (falsified .entry)) count ⌝ }
 {
     points_into(held, points, count);
     numbers_into(named, falsified, count);
@@ -93,11 +93,11 @@ fn few_refusal(
     falsified: &[u8],
     count: usize,
 ) -> Checked
-    requires { ⌜ Decodable n permutations (now images) (clauseSlices (now positive) (now negative))
-        (now points) (now falsified) count fewPoints ⌝ }
-    ensures { λ r. ⌜ faultOf r ≡ entriesFault n permutations (now (images .entry)) (clauseSlices (now (positive .entry))
-        (now (negative .entry)))
-        (now (points .entry)) (now (falsified .entry)) count ⌝ }
+    requires { ⌜ Decodable n permutations (now images) (lentClauses (now positive) (now negative)) (now points)
+        (now falsified) count fewPoints ⌝ }
+    ensures { λ r. ⌜ faultOf r ≡ entriesFault n permutations (now (images .entry))
+        (lentClauses (now (positive .entry)) (now (negative .entry))) (now (points .entry))
+        (now (falsified .entry)) count ⌝ }
 {
     let g = Lookup {
         variables: n,
@@ -132,11 +132,11 @@ fn many_refusal(
     falsified: &[u8],
     count: usize,
 ) -> Checked
-    requires { ⌜ Decodable n permutations (now images) (clauseSlices (now positive) (now negative))
-        (now points) (now falsified) count maxSlots ⌝ }
-    ensures { λ r. ⌜ faultOf r ≡ entriesFault n permutations (now (images .entry)) (clauseSlices (now (positive .entry))
-        (now (negative .entry)))
-        (now (points .entry)) (now (falsified .entry)) count ⌝ }
+    requires { ⌜ Decodable n permutations (now images) (lentClauses (now positive) (now negative)) (now points)
+        (now falsified) count maxSlots ⌝ }
+    ensures { λ r. ⌜ faultOf r ≡ entriesFault n permutations (now (images .entry))
+        (lentClauses (now (positive .entry)) (now (negative .entry))) (now (points .entry))
+        (now (falsified .entry)) count ⌝ }
 {
     let g = Lookup {
         variables: n,
@@ -172,11 +172,11 @@ pub fn decoded_refusal(
     falsified: &[u8],
     count: usize,
 ) -> Checked
-    requires { ⌜ Decodable n permutations (now images) (clauseSlices (now positive) (now negative))
-        (now points) (now falsified) count maxSlots ⌝ }
-    ensures { λ r. ⌜ faultOf r ≡ entriesFault n permutations (now (images .entry)) (clauseSlices (now (positive .entry))
-        (now (negative .entry)))
-        (now (points .entry)) (now (falsified .entry)) count ⌝ }
+    requires { ⌜ Decodable n permutations (now images) (lentClauses (now positive) (now negative)) (now points)
+        (now falsified) count maxSlots ⌝ }
+    ensures { λ r. ⌜ faultOf r ≡ entriesFault n permutations (now (images .entry))
+        (lentClauses (now (positive .entry)) (now (negative .entry))) (now (points .entry))
+        (now (falsified .entry)) count ⌝ }
 {
     if count <= FEW_POINTS {
         few_refusal(

@@ -9,14 +9,14 @@ use points::Point;
 ghost use mathlib.Core.Path.{_≡_};
 ghost use Rattle.math.specs.Lists.{firstFailing, below};
 ghost use Rattle.points.specs.Points.{numbered};
-ghost use Rattle.point_slices.specs.Slices.{pointsOf, clausesOf, clauseSlices};
+ghost use Rattle.point_slices.specs.Slices.{pointsOf, lentClauses};
 ghost use Rattle.formula.specs.Refusals.{faultOf};
 ghost use Rattle.certificate.specs.Rows.{clauseNumbered, falsifies, numberPasses, numbersFault};
 
 // Whether some clause has the number k, and the point falsifies it.
 fn falsifies(positive: &[u64], negative: &[u64], k: u32, x: Point) -> bool
-    ensures { λ r. ⌜ r ≡ falsifies (clauseNumbered (numbered
-        (clausesOf (clauseSlices (now (positive .entry)) (now (negative .entry))))) k) x ⌝ }
+    ensures { λ r. ⌜ r ≡ falsifies (clauseNumbered
+        (numbered (lentClauses (now (positive .entry)) (now (negative .entry)))) k) x ⌝ }
 {
     if k < 1 {
         return false;
@@ -39,9 +39,8 @@ fn number_passes(
     falsified: &[u32],
     i: usize,
 ) -> bool
-    ensures { λ r. ⌜ r ≡ numberPasses (numbered (clausesOf
-        (clauseSlices (now (positive .entry)) (now (negative .entry))))) (pointsOf (now (points .entry)))
-        (now (falsified .entry)) i ⌝ }
+    ensures { λ r. ⌜ r ≡ numberPasses (numbered (lentClauses (now (positive .entry)) (now (negative .entry))))
+        (pointsOf (now (points .entry))) (now (falsified .entry)) i ⌝ }
 {
     let k = number_at(falsified, i);
     let x = point_at(points, i);
@@ -56,8 +55,8 @@ fn first_bad_number(
     falsified: &[u32],
     count: usize,
 ) -> usize
-    ensures { λ r. ⌜ r ≡ firstFailing (numberPasses (numbered
-        (clausesOf (clauseSlices (now (positive .entry)) (now (negative .entry))))) (pointsOf (now (points .entry)))
+    ensures { λ r. ⌜ r ≡ firstFailing (numberPasses
+        (numbered (lentClauses (now (positive .entry)) (now (negative .entry)))) (pointsOf (now (points .entry)))
         (now (falsified .entry))) (below count) ⌝ }
 {
     let mut i = 0;
@@ -79,9 +78,8 @@ pub fn numbers_refusal(
     falsified: &[u32],
     count: usize,
 ) -> Checked
-    ensures { λ r. ⌜ faultOf r ≡ numbersFault (numbered
-        (clausesOf (clauseSlices (now (positive .entry)) (now (negative .entry))))) count
-        (pointsOf (now (points .entry))) (now (falsified .entry)) ⌝ }
+    ensures { λ r. ⌜ faultOf r ≡ numbersFault (numbered (lentClauses (now (positive .entry)) (now (negative .entry))))
+        count (pointsOf (now (points .entry))) (now (falsified .entry)) ⌝ }
 {
     let k = first_bad_number(positive, negative, points, falsified, count);
     if k == 0 {

@@ -15,7 +15,7 @@ ghost use Prim.Native.Nat.{_<_, _^_};
 ghost use lib.ListN.{getD, take};
 ghost use Rattle.math.specs.Lists.{firstFailing, below};
 ghost use Rattle.points.specs.Points.{numbered};
-ghost use Rattle.point_slices.specs.Slices.{pointsOf, clausesOf, clauseSlices};
+ghost use Rattle.point_slices.specs.Slices.{pointsOf, lentClauses};
 ghost use Rattle.permutation_theory.specs.Permutations.{covered, permutationsIn};
 ghost use Rattle.permutation_coverage.specs.Laws.Coverage.{Imaged, Coverable};
 ghost use Rattle.formula.specs.Refusals.{faultOf};
@@ -26,7 +26,7 @@ ghost use Rattle.check_flips.specs.Laws.Loops.{listedBy, allFlips, Testa
 // The set of the variables that the clause with the number k lists; the empty set where no clause has it.
 fn variables_of(positive: &[u64], negative: &[u64], k: u32) -> Point
     ensures { λ r. ⌜ r ≡ listedBy (clauseNumbered (numbered
-        (clausesOf (clauseSlices (now (positive .entry)) (now (negative .entry))))) k) ⌝ }
+        (lentClauses (now (positive .entry)) (now (negative .entry)))) k) ⌝ }
 {
     if k < 1 {
         return points::EMPTY;
@@ -86,11 +86,11 @@ fn flips_pass(
     count: usize,
     i: usize,
 ) -> bool
-    requires { ⌜ Testable g (now images) (clauseSlices (now positive) (now negative)) (pointsOf (now points))
+    requires { ⌜ Testable g (now images) (lentClauses (now positive) (now negative)) (pointsOf (now points))
         (now links) count × (i < count) × Imaged (g .variables) (g .permutations) (now images)
         (getD (pointsOf (now points)) i 0) (pointsOf (now moved)) ⌝ }
     ensures { λ r. ⌜ r ≡ flipsPass (g .variables) (numbered
-        (clausesOf (clauseSlices (now (positive .entry)) (now (negative .entry)))))
+        (lentClauses (now (positive .entry)) (now (negative .entry))))
         (permutationsIn (g .variables) (g .permutations) (now (images .entry)))
         (take count (pointsOf (now (points .entry)))) (now (falsified .entry)) i ⌝ }
 {
@@ -112,10 +112,10 @@ fn first_uncovered(
     links: &[u32],
     count: usize,
 ) -> usize
-    requires { ⌜ Testable g (now images) (clauseSlices (now positive) (now negative)) (pointsOf (now points))
+    requires { ⌜ Testable g (now images) (lentClauses (now positive) (now negative)) (pointsOf (now points))
         (now links) count ⌝ }
-    ensures { λ r. ⌜ r ≡ firstFailing (flipsPass (g .variables) (numbered
-        (clausesOf (clauseSlices (now (positive .entry)) (now (negative .entry)))))
+    ensures { λ r. ⌜ r ≡ firstFailing (flipsPass (g .variables)
+        (numbered (lentClauses (now (positive .entry)) (now (negative .entry))))
         (permutationsIn (g .variables) (g .permutations) (now (images .entry)))
         (take count (pointsOf (now (points .entry)))) (now (falsified .entry))) (below count) ⌝ }
 {
@@ -159,10 +159,10 @@ pub fn flips_refusal(
     links: &[u32],
     count: usize,
 ) -> Checked
-    requires { ⌜ Testable g (now images) (clauseSlices (now positive) (now negative)) (pointsOf (now points))
+    requires { ⌜ Testable g (now images) (lentClauses (now positive) (now negative)) (pointsOf (now points))
         (now links) count ⌝ }
-    ensures { λ r. ⌜ faultOf r ≡ flipsFault (g .variables) (numbered (clausesOf (clauseSlices (now (positive .entry))
-        (now (negative .entry)))))
+    ensures { λ r. ⌜ faultOf r ≡ flipsFault (g .variables)
+        (numbered (lentClauses (now (positive .entry)) (now (negative .entry))))
         (permutationsIn (g .variables) (g .permutations) (now (images .entry)))
         (take count (pointsOf (now (points .entry)))) (now (falsified .entry)) ⌝ }
 {

@@ -9,7 +9,7 @@ use formula::refusals::permutations_refusal;
 use formula::refusals::symmetry_refusal;
 ghost use mathlib.Core.Path.{_≡_};
 ghost use Rattle.points.specs.Points.{numbered};
-ghost use Rattle.point_slices.specs.Slices.{clausesOf, clauseSlices};
+ghost use Rattle.point_slices.specs.Slices.{clauseSlices, lentClauses};
 ghost use Rattle.formula.specs.Refusals.{Fits, faultOf};
 ghost use Rattle.formula.specs.Reply.{accepted, unless};
 ghost use Rattle.certificate.specs.Certificate.{filePermutations, filePoints, fileNumbers};
@@ -37,8 +37,8 @@ fn as_verdict(checked: Checked) -> Verdict
 fn bodies_refusal(c: Contents, positive: &[u64], negative: &[u64], file: &[u8]) -> Checked
     requires { ⌜ Readable c (clauseSlices (now positive) (now negative)) (now file) ⌝ }
     ensures { λ r. ⌜ faultOf r ≡ bodiesFault (c .variables)
-        (numbered (clausesOf (clauseSlices (now (positive .entry)) (now (negative .entry)))))
-        (filePermutations (now (file .entry))) (filePoints (now (file .entry))) (fileNumbers (now (file .entry))) ⌝ }
+        (numbered (lentClauses (now (positive .entry)) (now (negative .entry)))) (filePermutations (now (file .entry)))
+        (filePoints (now (file .entry))) (fileNumbers (now (file .entry))) ⌝ }
 {
     let n = c.variables;
     let permutations = c.permutations;

@@ -34,28 +34,28 @@ abbrev pub formulaIn : Sheet → Formula
 formulaIn (from-text text clauses) = readFormula text clauses
 formulaIn (by-value f clauses) = f
 
-abbrev pub clausesIn : Sheet → ClauseSlices
-clausesIn (from-text text clauses) = firstClauses (readFormula text clauses .clauses) (readClauses text clauses)
-clausesIn (by-value f clauses) = clauses
+abbrev pub slicesIn : Sheet → ClauseSlices
+slicesIn (from-text text clauses) = firstClauses (readFormula text clauses .clauses) (readClauses text clauses)
+slicesIn (by-value f clauses) = clauses
 
 abbrev pub problemIn : Sheet → Problem
-problemIn s = problemOf (formulaIn s) (clausesIn s)
+problemIn s = problemOf (formulaIn s) (slicesIn s)
 
 -- the search answers r, which is no refusal: W12: "an accepted sheet is one that neither reader nor builder refuses"
 pub record SearchAnswers (s : Sheet) (slots : SlotSlices) (r : Reply) : Type 0 where
   pub readable : Readable s
-  pub reply : searchReply (formulaIn s) (clausesIn s) (capacity slots) ≡ r
+  pub reply : searchReply (formulaIn s) (slicesIn s) (capacity slots) ≡ r
   pub accepted : (code place : ℕ) → r ≡ refused code place → ⊥
 
 -- C7: "what the writer puts out from that sheet and its rules, the lent slots as the builder left them and the number
 -- it reported as filled"
 abbrev pub writerReply : Sheet → SlotSlices → ℕ → List ℕ → Reply
-writerReply s slots filled out = writeReply (formulaIn s) (clausesIn s)
-    (searchSlices (formulaIn s) (clausesIn s) slots) filled out
+writerReply s slots filled out = writeReply (formulaIn s) (slicesIn s)
+    (searchSlices (formulaIn s) (slicesIn s) slots) filled out
 
 abbrev pub writerOutput : Sheet → SlotSlices → ℕ → List ℕ → List ℕ
-writerOutput s slots filled out = writeOutput (formulaIn s) (clausesIn s)
-    (searchSlices (formulaIn s) (clausesIn s) slots) filled out
+writerOutput s slots filled out = writeOutput (formulaIn s) (slicesIn s)
+    (searchSlices (formulaIn s) (slicesIn s) slots) filled out
 
 -- ---- what is said of it
 
@@ -75,7 +75,7 @@ pub record Certified (s : Sheet) (slots : SlotSlices) (filled size : ℕ) (out :
       × (writerOutput s slots filled out ≡ out)
   pub answers : size ≤ length out → writerReply s slots filled out ≡ written size
   pub behind : size ≤ length out → drop size (writerOutput s slots filled out) ≡ drop size out
-  pub checks : size ≤ length out → checkReply (formulaIn s) (clausesIn s)
+  pub checks : size ≤ length out → checkReply (formulaIn s) (slicesIn s)
       (take size (writerOutput s slots filled out)) ≡ accepted
 
 -- ---- the claim: D3.5: "This holds of 01's walk and checker for every accepted sheet, with exchanges or without,

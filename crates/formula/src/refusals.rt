@@ -12,7 +12,7 @@ ghost use Prim.Native.Nat.{_*_, _≤_};
 ghost use lib.ListN.{length};
 ghost use Rattle.math.specs.Lists.{firstFailing};
 ghost use Rattle.points.specs.Points.{numbered};
-ghost use Rattle.point_slices.specs.Slices.{pointsOf, clausesOf, clauseSlices};
+ghost use Rattle.point_slices.specs.Slices.{pointsOf, clauseSlices, lentClauses};
 ghost use Rattle.permutation_images.specs.Laws.Contracts.{Listed};
 ghost use Rattle.permutation_theory.specs.Permutations.{isPermutation, keeps, permutationsIn};
 ghost use Rattle.formula.specs.Limits.{maxVariables, maxPermutations};
@@ -135,8 +135,7 @@ fn first_non_symmetry(
     negative: &[u64],
 ) -> usize
     requires { ⌜ Listed n permutations (now images) ⌝ }
-    ensures { λ r. ⌜ r ≡ firstFailing (keeps (numbered
-        (clausesOf (clauseSlices (now (positive .entry)) (now (negative .entry))))))
+    ensures { λ r. ⌜ r ≡ firstFailing (keeps (numbered (lentClauses (now (positive .entry)) (now (negative .entry)))))
         (permutationsIn n permutations (now (images .entry))) ⌝ }
 {
     let size = n as usize;
@@ -162,8 +161,7 @@ fn guessed_non_symmetry(
     negative: &[u64],
 ) -> usize
     requires { ⌜ Listed n permutations (now images) ⌝ }
-    ensures { λ r. ⌜ r ≡ firstFailing (keeps (numbered
-        (clausesOf (clauseSlices (now (positive .entry)) (now (negative .entry))))))
+    ensures { λ r. ⌜ r ≡ firstFailing (keeps (numbered (lentClauses (now (positive .entry)) (now (negative .entry)))))
         (permutationsIn n permutations (now (images .entry))) ⌝ }
 {
     let mut guesses = [0u32; ENTRIES];
@@ -182,8 +180,7 @@ pub fn symmetry_refusal(
     negative: &[u64],
 ) -> Checked
     requires { ⌜ Listed n permutations (now images) ⌝ }
-    ensures { λ r. ⌜ faultOf r ≡ symmetryFault (numbered
-        (clausesOf (clauseSlices (now (positive .entry)) (now (negative .entry)))))
+    ensures { λ r. ⌜ faultOf r ≡ symmetryFault (numbered (lentClauses (now (positive .entry)) (now (negative .entry))))
         (permutationsIn n permutations (now (images .entry))) ⌝ }
 {
     if permutations < 1 {

@@ -13,7 +13,7 @@ ghost use mathlib.Core.Path.{_≡_};
 ghost use Prim.Native.Nat.{_<_};
 ghost use Rattle.math.specs.Lists.{any};
 ghost use Rattle.points.specs.Laws.Contracts.{clauseOf};
-ghost use Rattle.point_slices.specs.Slices.{clauseSlices, clausesOf};
+ghost use Rattle.point_slices.specs.Slices.{lentClauses};
 ghost use Rattle.permutation_theory.specs.Permutations.{sameClause};
 
 // How many entries the slice should have; with fewer there are fewer guesses. At most half of them hold one.
@@ -32,7 +32,7 @@ fn place_of(c: Clause) -> usize
 // Whether the clause at index i is the clause c.
 fn stands_at(positive: &[u64], negative: &[u64], i: usize, c: Clause) -> bool
     ensures { λ r. ⌜ (r ≡ true → any (sameClause (clauseOf c))
-        (clausesOf (clauseSlices (now (positive .entry)) (now (negative .entry)))) ≡ true) ⌝ }
+        (lentClauses (now (positive .entry)) (now (negative .entry))) ≡ true) ⌝ }
 {
     let end = clause_count(positive, negative);
     if end <= i {
@@ -46,7 +46,7 @@ fn stands_at(positive: &[u64], negative: &[u64], i: usize, c: Clause) -> bool
 // first is right.
 pub fn guessed(guesses: &[u32], positive: &[u64], negative: &[u64], c: Clause) -> bool
     ensures { λ r. ⌜ (r ≡ true → any (sameClause (clauseOf c))
-        (clausesOf (clauseSlices (now (positive .entry)) (now (negative .entry)))) ≡ true) ⌝ }
+        (lentClauses (now (positive .entry)) (now (negative .entry))) ≡ true) ⌝ }
 {
     let mut i = place_of(c);
     let end = i + 16;

@@ -8,7 +8,7 @@ ghost use mathlib.Core.Path.{_≡_};
 ghost use Rattle.math.specs.Lists.{any};
 ghost use Rattle.points.specs.Laws.Contracts.{clauseOf};
 ghost use Rattle.points.specs.Points.{numbered};
-ghost use Rattle.point_slices.specs.Slices.{clauseSlices, clausesOf};
+ghost use Rattle.point_slices.specs.Slices.{lentClauses};
 ghost use Rattle.permutation_theory.specs.Permutations.{sameClause, keeps};
 ghost use Rattle.permutation_images.specs.Laws.Contracts.{Movable};
 
@@ -27,8 +27,7 @@ pub fn same_clause(c: Clause, d: Clause) -> bool
 
 // Whether a clause is among those of the slices, whatever the guesses are. Where none is right, one step a clause.
 pub fn has_clause(guesses: &[u32], positive: &[u64], negative: &[u64], c: Clause) -> bool
-    ensures { λ r. ⌜ r ≡ any (sameClause (clauseOf c))
-        (clausesOf (clauseSlices (now (positive .entry)) (now (negative .entry)))) ⌝ }
+    ensures { λ r. ⌜ r ≡ any (sameClause (clauseOf c)) (lentClauses (now (positive .entry)) (now (negative .entry))) ⌝ }
 {
     if guessed(guesses, positive, negative, c) {
         return true;
@@ -49,7 +48,7 @@ pub fn has_clause(guesses: &[u32], positive: &[u64], negative: &[u64], c: Clause
 // where the guesses have it, never more than 16 and one a clause.
 pub fn keeps(e: &[u8], guesses: &[u32], positive: &[u64], negative: &[u64]) -> bool
     requires { ⌜ Movable (now e) ⌝ }
-    ensures { λ r. ⌜ r ≡ keeps (numbered (clausesOf (clauseSlices (now (positive .entry)) (now (negative .entry)))))
+    ensures { λ r. ⌜ r ≡ keeps (numbered (lentClauses (now (positive .entry)) (now (negative .entry))))
         (record { images = now (e .entry) }) ⌝ }
 {
     let end = clause_count(positive, negative);

@@ -8,7 +8,7 @@ ghost use Prim.Native.Nat.{min, _≤_};
 ghost use lib.ListN.{length, getD, set, take};
 ghost use Rattle.points.specs.Laws.Contracts.{clauseOf};
 ghost use Rattle.points.specs.Points.{firstFalsified, numbered, numberOf};
-ghost use Rattle.point_slices.specs.Slices.{pointsOf, restOf, clauseSlices, clausesOf, noLiterals};
+ghost use Rattle.point_slices.specs.Slices.{pointsOf, restOf, noLiterals, lentClauses};
 
 // How many points a slice holds.
 pub fn point_count(points: &[u64]) -> usize
@@ -71,15 +71,14 @@ pub fn least(a: usize, b: usize) -> usize
 
 // How many clauses two parallel slices hold.
 pub fn clause_count(positive: &[u64], negative: &[u64]) -> usize
-    ensures { λ r. ⌜ r ≡ length (clausesOf (clauseSlices (now (positive .entry)) (now (negative .entry)))) ⌝ }
+    ensures { λ r. ⌜ r ≡ length (lentClauses (now (positive .entry)) (now (negative .entry))) ⌝ }
 {
     least(positive.len(), negative.len())
 }
 
 // The clause at index i, the one without literals past the end.
 pub fn clause_at(positive: &[u64], negative: &[u64], i: usize) -> Clause
-    ensures { λ r. ⌜ clauseOf r ≡ getD (clausesOf (clauseSlices (now (positive .entry)) (now (negative .entry))))
-        i noLiterals ⌝ }
+    ensures { λ r. ⌜ clauseOf r ≡ getD (lentClauses (now (positive .entry)) (now (negative .entry))) i noLiterals ⌝ }
 {
     if positive.len() <= i {
         return Clause {
@@ -102,7 +101,7 @@ pub fn clause_at(positive: &[u64], negative: &[u64], i: usize) -> Clause
 // The number, from 1, of the first clause that the point falsifies; 0 where it satisfies all. One step a clause.
 pub fn first_falsified(positive: &[u64], negative: &[u64], x: Point) -> usize
     ensures { λ r. ⌜ r ≡ numberOf (firstFalsified (numbered
-        (clausesOf (clauseSlices (now (positive .entry)) (now (negative .entry))))) x) ⌝ }
+        (lentClauses (now (positive .entry)) (now (negative .entry)))) x) ⌝ }
 {
     let end = clause_count(positive, negative);
     let mut i = 0;

@@ -13,7 +13,7 @@ ghost use mathlib.Core.Bool.{_&&_};
 ghost use mathlib.Core.Path.{_≡_};
 ghost use Prim.Native.Nat.{_+_, _≤_};
 ghost use lib.Dec.{ltb};
-ghost use Rattle.point_slices.specs.Slices.{clauseSlices, slotSlices};
+ghost use Rattle.point_slices.specs.Slices.{lentClauses, slotSlices};
 ghost use Rattle.formula.specs.Limits.{maxVariables, maxSlots};
 ghost use Rattle.search_expansion.specs.Laws.Memory.{Lends};
 ghost use Rattle.search_step.specs.Laws.Stepping.{framed, Searchable, Linked, Midway};
@@ -61,12 +61,12 @@ pub fn explore(
     links: &mut [u32],
     from: Position,
 ) -> Explored
-    requires { ⌜ Searchable g (now images) (clauseSlices (now positive) (now negative))
+    requires { ⌜ Searchable g (now images) (lentClauses (now positive) (now negative))
         × Lends (g .room) (slotSlices (now points) (now falsified) (now depths))
-        × Midway (framed g (now images) (clauseSlices (now positive) (now negative))) (g .room)
+        × Midway (framed g (now images) (lentClauses (now positive) (now negative))) (g .room)
         (slotSlices (now points) (now falsified) (now depths)) from
         × Linked g (slotSlices (now points) (now falsified) (now depths)) (now links) (from .filled) ⌝ }
-    ensures { λ r. ⌜ Explores g (now (images .entry)) (clauseSlices (now (positive .entry)) (now (negative .entry)))
+    ensures { λ r. ⌜ Explores g (now (images .entry)) (lentClauses (now (positive .entry)) (now (negative .entry)))
         (slotSlices (now (points .entry)) (now (falsified .entry)) (now (depths .entry))) from (r .stage) (r .point)
         (slotSlices (now (points .exit)) (now (falsified .exit)) (now (depths .exit))) ⌝ }
 {

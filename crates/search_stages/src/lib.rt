@@ -14,7 +14,7 @@ use search_loop::explore;
 use search_step::Conclusion;
 use search_step::Position;
 ghost use mathlib.Core.List.{[], _∷_};
-ghost use Rattle.point_slices.specs.Slices.{clauseSlices, slotSlices};
+ghost use Rattle.point_slices.specs.Slices.{lentClauses, slotSlices};
 ghost use Rattle.search_theory.specs.Walk.{slot};
 ghost use Rattle.check_distinct.specs.Laws.Indexing.{Links};
 ghost use Rattle.search_expansion.specs.Laws.Memory.{Lends};
@@ -49,12 +49,12 @@ fn explore_with(
     heads: usize,
     from: Position,
 ) -> Explored
-    requires { ⌜ Searchable g (now images) (clauseSlices (now positive) (now negative))
+    requires { ⌜ Searchable g (now images) (lentClauses (now positive) (now negative))
         × Lends (g .room) (slotSlices (now points) (now falsified) (now depths))
-        × Midway (framed g (now images) (clauseSlices (now positive) (now negative))) (g .room)
+        × Midway (framed g (now images) (lentClauses (now positive) (now negative))) (g .room)
         (slotSlices (now points) (now falsified) (now depths)) from × Links heads (now links) ⌝ }
     ensures { λ r. ⌜ Explores (headedBy heads g) (now (images .entry))
-        (clauseSlices (now (positive .entry)) (now (negative .entry)))
+        (lentClauses (now (positive .entry)) (now (negative .entry)))
         (slotSlices (now (points .entry)) (now (falsified .entry)) (now (depths .entry))) from (r .stage) (r .point)
         (slotSlices (now (points .exit)) (now (falsified .exit)) (now (depths .exit))) ⌝ }
 {
@@ -104,12 +104,12 @@ fn finish(
     depths: &mut [Depth],
     from: Position,
 ) -> Answer
-    requires { ⌜ Searchable g (now images) (clauseSlices (now positive) (now negative))
+    requires { ⌜ Searchable g (now images) (lentClauses (now positive) (now negative))
         × Lends (g .room) (slotSlices (now points) (now falsified) (now depths))
-        × Midway (framed g (now images) (clauseSlices (now positive) (now negative))) (g .room)
+        × Midway (framed g (now images) (lentClauses (now positive) (now negative))) (g .room)
         (slotSlices (now points) (now falsified) (now depths)) from ⌝ }
     ensures { λ r. ⌜ Concludes
-        (framed g (now (images .entry)) (clauseSlices (now (positive .entry)) (now (negative .entry)))) (g .room)
+        (framed g (now (images .entry)) (lentClauses (now (positive .entry)) (now (negative .entry)))) (g .room)
         (slotSlices (now (points .entry)) (now (falsified .entry)) (now (depths .entry))) from (replyOfAnswer r)
         (slotSlices (now (points .exit)) (now (falsified .exit)) (now (depths .exit))) ⌝ }
 {
@@ -151,12 +151,12 @@ fn resume(
     depths: &mut [Depth],
     from: Position,
 ) -> Answer
-    requires { ⌜ Searchable g (now images) (clauseSlices (now positive) (now negative))
+    requires { ⌜ Searchable g (now images) (lentClauses (now positive) (now negative))
         × Lends (g .room) (slotSlices (now points) (now falsified) (now depths))
-        × Midway (framed g (now images) (clauseSlices (now positive) (now negative))) (g .room)
+        × Midway (framed g (now images) (lentClauses (now positive) (now negative))) (g .room)
         (slotSlices (now points) (now falsified) (now depths)) from ⌝ }
     ensures { λ r. ⌜ Concludes
-        (framed g (now (images .entry)) (clauseSlices (now (positive .entry)) (now (negative .entry)))) (g .room)
+        (framed g (now (images .entry)) (lentClauses (now (positive .entry)) (now (negative .entry)))) (g .room)
         (slotSlices (now (points .entry)) (now (falsified .entry)) (now (depths .entry))) from (replyOfAnswer r)
         (slotSlices (now (points .exit)) (now (falsified .exit)) (now (depths .exit))) ⌝ }
 {
@@ -192,10 +192,10 @@ pub fn start(
     falsified: &mut [u32],
     depths: &mut [Depth],
 ) -> Answer
-    requires { ⌜ Searchable g (now images) (clauseSlices (now positive) (now negative))
+    requires { ⌜ Searchable g (now images) (lentClauses (now positive) (now negative))
         × Lends (g .room) (slotSlices (now points) (now falsified) (now depths)) ⌝ }
     ensures { λ r. ⌜ Ended
-        (framed g (now (images .entry)) (clauseSlices (now (positive .entry)) (now (negative .entry)))) (g .room)
+        (framed g (now (images .entry)) (lentClauses (now (positive .entry)) (now (negative .entry)))) (g .room)
         (slotSlices (now (points .entry)) (now (falsified .entry)) (now (depths .entry))) []
         (slot (g .target) 0 0 ∷ []) (replyOfAnswer r)
         (slotSlices (now (points .exit)) (now (falsified .exit)) (now (depths .exit))) ⌝ }

@@ -7,7 +7,7 @@ use search_expansion::Frame;
 use search_expansion::Visit;
 use search_expansion::expand;
 ghost use Prim.Native.Nat.{_+_, _<_};
-ghost use Rattle.point_slices.specs.Slices.{pointsOf, slotSlices, clauseSlices};
+ghost use Rattle.point_slices.specs.Slices.{pointsOf, slotSlices, lentClauses};
 ghost use Rattle.search_expansion.specs.Laws.Filling.{Headed};
 ghost use Rattle.search_expansion.specs.Laws.Memory.{Lends};
 ghost use Rattle.search_step.specs.Laws.Stepping.{framed, Searchable, Linked, Next, StillLinked, Midway, Steps};
@@ -46,15 +46,15 @@ pub fn process(
     moved: &[u64],
     position: Position,
 ) -> Step
-    requires { ⌜ Searchable g (now images) (clauseSlices (now positive) (now negative))
+    requires { ⌜ Searchable g (now images) (lentClauses (now positive) (now negative))
         × Lends (g .room) (slotSlices (now points) (now falsified) (now depths)) × (position .at < position .filled)
-        × Midway (framed g (now images) (clauseSlices (now positive) (now negative))) (g .room)
+        × Midway (framed g (now images) (lentClauses (now positive) (now negative))) (g .room)
         (slotSlices (now points) (now falsified) (now depths)) position
         × Linked g (slotSlices (now points) (now falsified) (now depths)) (now links) (position .filled)
         × Headed g (position .filled + g .lookup .variables)
         × Next g (now images) (slotSlices (now points) (now falsified) (now depths)) (pointsOf (now moved)) position ⌝ }
     ensures { λ r. ⌜ Steps
-        (framed g (now (images .entry)) (clauseSlices (now (positive .entry)) (now (negative .entry)))) (g .room)
+        (framed g (now (images .entry)) (lentClauses (now (positive .entry)) (now (negative .entry)))) (g .room)
         (slotSlices (now (points .entry)) (now (falsified .entry)) (now (depths .entry))) position r
         (slotSlices (now (points .exit)) (now (falsified .exit)) (now (depths .exit)))
         × StillLinked g (slotSlices (now (points .exit)) (now (falsified .exit)) (now (depths .exit)))

@@ -12,7 +12,7 @@ use Rattle.formula.specs.Limits.{maxSlots, capacity}
 use Rattle.formula.specs.Problem.{Unsatisfiable}
 use Rattle.formula.specs.Reply.{Reply, refused, satisfiable, unsatisfiable, unknown, written, accepted, pointIn}
 use Rattle.checker.specs.Checker.{checkReply}
-use Rattle.claims.specs.Claim.{Sheet, formulaIn, clausesIn, problemIn, Meets, AtLeast}
+use Rattle.claims.specs.Claim.{Sheet, formulaIn, slicesIn, problemIn, Meets, AtLeast}
 use Rattle.solver.specs.Solver.{sheetReply, sheetSlices, certificateReply, certificateOutput}
 use Rattle.solver.specs.declared.Settled.{Settled}
 use Rattle.solver.specs.declared.Solution.{Solution}
@@ -52,13 +52,13 @@ pub record Promises (s : Sheet) (slots : SlotSlices) (t : SolverReply) (out₀ o
       → ((filled : ℕ) × (t .reply ≡ unsatisfiable filled)) ↔ Unsatisfiable (problemIn s)
   -- D3.4: "Its certificate is then accepted.": the first `size` bytes of the output; those behind them are as they were
   pub certified : (size : ℕ) → t .certificate ≡ some (written size)
-      → (checkReply (formulaIn s) (clausesIn s) (take size out₁) ≡ accepted)
+      → (checkReply (formulaIn s) (slicesIn s) (take size out₁) ≡ accepted)
       × (drop size out₁ ≡ drop size out₀)
   -- R19: "output too short | 19 | length needed": the one refusal of the writer here; the output is as it was
   pub uncertified : (code needed : ℕ) → t .certificate ≡ some (refused code needed)
       → (code ≡ 19) × (length out₀ < needed) × (out₁ ≡ out₀)
   -- D3.6: "An accepted certificate .. means that none of the 2^n choices meets the rules it was checked against."
-  pub refutes : (file : List ℕ) → checkReply (formulaIn s) (clausesIn s) file ≡ accepted
+  pub refutes : (file : List ℕ) → checkReply (formulaIn s) (slicesIn s) file ≡ accepted
       → Unsatisfiable (problemIn s)
   -- D3.7: "'No room' carries a number d, and every choice that meets the rules differs from the wish in at least d
   -- names."

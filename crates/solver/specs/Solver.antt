@@ -9,7 +9,7 @@ use Rattle.formula.specs.Limits.{maxClauses, capacity}
 use Rattle.formula.specs.Reply.{Reply, refused, satisfiable, unsatisfiable, unknown, parsed, written, opened, accepted}
 use Rattle.dimacs_format.specs.Reader.{readReply}
 use Rattle.search.specs.Search.{searchReply, searchSlices}
-use Rattle.claims.specs.Claim.{Sheet, from-text, by-value, formulaIn, clausesIn, writerReply, writerOutput}
+use Rattle.claims.specs.Claim.{Sheet, from-text, by-value, formulaIn, slicesIn, writerReply, writerOutput}
 
 -- the clause slices that the solver lends to the reader: the most clauses, 0 throughout
 unfoldable pub blank : ClauseSlices
@@ -37,11 +37,11 @@ module _ {A : Type 0} where
 unfoldable pub sheetReply : Sheet → ℕ → Reply
 unfolding afterReading
 sheetReply s lent = afterReading (readingOf s) (readingOf s)
-    (searchReply (formulaIn s) (clausesIn s) lent)
+    (searchReply (formulaIn s) (slicesIn s) lent)
 
 unfoldable pub sheetSlices : Sheet → SlotSlices → SlotSlices
 unfolding afterReading
-sheetSlices s slots = afterReading (readingOf s) slots (searchSlices (formulaIn s) (clausesIn s) slots)
+sheetSlices s slots = afterReading (readingOf s) slots (searchSlices (formulaIn s) (slicesIn s) slots)
 
 -- ---- then, for 'cannot be met', the writer
 

@@ -13,14 +13,13 @@ use lib.Seq.{length-take-le, take-at, drop-at, getD-take}
 use borrow.Author.Tests.{leb-true, eqb-true}
 use Rattle.math.specs.Laws.ListLaws.{and-split, in-getD}
 use Rattle.math.specs.Lists.{_∈_, Distinct}
-use Rattle.point_slices.specs.Laws.SliceLaws.{clauses-le}
 use Rattle.point_slices.specs.Slices.{ClauseSlices, SlotSlices, clausesOf}
 use Rattle.permutation_theory.specs.Permutations.{Permutation, isPermutation}
 use Rattle.formula.specs.declared.Formula.{Formula}
 use Rattle.formula.specs.Limits.{maxVariables, maxClauses, maxPermutations, maxSlots, capacity}
 use Rattle.formula.specs.Problem.{Problem, problemOf}
 use Rattle.formula.specs.Refusals.{Fits, formulaFault, permutationFault, symmetryFault}
-use Rattle.formula.specs.Laws.RefusalLaws.{digits-suffice, formula-passes}
+use Rattle.formula.specs.Laws.RefusalLaws.{digits-suffice, fits-count, formula-passes}
 use Rattle.formula.specs.Reply.{unlessKept, no-fault, first, written}
 use Rattle.certificate.specs.Certificate.{FileContents, layout, certificateLength, Encodable}
 use Rattle.certificate.specs.Laws.CertificateLaws.{length-encode, contents-encode, encode-wellFormed}
@@ -140,9 +139,8 @@ module _ (f : Formula) (clauses : ClauseSlices) (slots : SlotSlices) (filled : �
         0 lt in
         let same : getD ks (w .0) 0 ≡ k = w .2 in
         let within = numbered-range 1 (clausesOf clauses) (r .0) (r .1) in
-        let size : length (clausesOf clauses) ≤ length (clauses .positive) = clauses-le (clauses .positive)
-        (clauses .negative) in
         let l = limited in
+        let size : length (clausesOf clauses) ≡ f .clauses = fits-count (f .variables) (f .clauses) clauses l in
         omega arith
 
     -- what passes the writer's tests fits into a certificate

@@ -4,13 +4,15 @@ use Prim.Native.Nat.{_+_, _*_, _≤_}
 use native.Mathlib.Omega.{arith}
 use lib.ListN.{length}
 use borrow.Author.Needs.{needs}
-use Rattle.certificate.specs.Certificate.{certificateLength}
+use Rattle.certificate.specs.Bytes.{pointWidth, numberWidth}
+use Rattle.certificate.specs.Certificate.{certificateLength, contentsLength}
 use Rattle.certificate_writer.specs.Laws.PartsLaws.{certificate-stored}
 use Rattle.certificate_writer.proofs.put_certificate.Statement.{statement}
 use Rattle.certificate_writer.proofs.put_certificate.Tie as tie
 
 -- the room that is required, as a sum
-room : (c : tie.Start) → 32 + c .args .permutations * c .args .n + c .args .filled * 8 + c .args .filled * 4 ≤ length (c .args .out .now)
+room : (c : tie.Start) → contentsLength + c .args .permutations * c .args .n + c .args .filled * pointWidth
+    + c .args .filled * numberWidth ≤ length (c .args .out .now)
 unfolding certificateLength
 room c = c .pre .room
 

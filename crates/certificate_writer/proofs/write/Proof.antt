@@ -43,7 +43,7 @@ whole c = search needs
 
 slice-aggregate-put-certificate : tie.Need-slice-aggregate-put-certificate
 slice-aggregate-put-certificate c =
-    let slots = c .before .before .before .before .before .before .before in
+    let slots = c .before .before .before .before .before .before in
     sym (whole (slots .before .before .before .before .before .before .before .before .before))
 
 put-certificate-requires : tie.Need-put-certificate-requires
@@ -58,7 +58,7 @@ put-certificate-requires c κs =
     _ (enough-room .before .length-needed .ensures) (enough-room .if1 .left) (whole start)
 
 same-length : tie.Need-same-length
-same-length c = c .before .before .put-certificate .kept .0
+same-length c = c .before .before .put-certificate .kept .1 .1 .1 .1 .1 .1 .1 .0
 
 returns-3 : tie.Need-returns-3
 returns-3 c =

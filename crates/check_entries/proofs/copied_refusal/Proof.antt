@@ -4,7 +4,7 @@ use mathlib.Core.Path.{ap₂, _∙_}
 use borrow.Author.Needs.{needs}
 use Rattle.point_slices.specs.Laws.SliceLaws.{same-count}
 use Rattle.points.specs.Points.{numbered}
-use Rattle.point_slices.specs.Slices.{clausesOf, clauseSlices}
+use Rattle.point_slices.specs.Slices.{lentClauses}
 use Rattle.permutation_theory.specs.Permutations.{permutationsIn}
 use Rattle.certificate.specs.Bytes.{pointWidth, numberWidth}
 use Rattle.check_entries.specs.Laws.EntryLaws.{copied, lent-ready}
@@ -25,7 +25,7 @@ returns : tie.Need-returns
 returns c =
     let a = c .before .before .before .before .before .before .before .before .before .before .before .before .before .before .before .before .before .before .before .before .before .before .args in
     c .before .before .lists-refusal .ensures
-    ∙ ap₂ (listsFault (a .g .variables) (numbered (clausesOf (clauseSlices (a .positive .now) (a .negative .now)))) (permutationsIn (a .g .variables) (a .g .permutations) (a .images .now)))
+    ∙ ap₂ (listsFault (a .g .variables) (numbered (lentClauses (a .positive .now) (a .negative .now))) (permutationsIn (a .g .variables) (a .g .permutations) (a .images .now)))
     (copied pointWidth (a .count) (a .points .now) _ _ (c .before .before .before .before .before .before .before .before .before .before .before .before .points-into .ensures)) (copied numberWidth (a .count) (a .falsified .now) _ _ (c .before .before .before .before .before .before .before .before .numbers-into .ensures))
 
 pub copied-refusal-spec : {M : Type 1} → statement M

@@ -2,7 +2,7 @@
 use mathlib.Core.Path.{_≡_, sym, ap, _∙_, subst}
 use borrow.Author.Needs.{needs}
 use Rattle.points.specs.Points.{numbered}
-use Rattle.point_slices.specs.Slices.{clausesOf, clauseSlices, pointsOf}
+use Rattle.point_slices.specs.Slices.{pointsOf, lentClauses}
 use Rattle.formula.specs.Limits.{maxSlots}
 use Rattle.formula.specs.Refusals.{faultOf}
 use Rattle.formula.specs.Reply.{no-fault}
@@ -40,7 +40,7 @@ flips-refusal-requires c κs = ready-testable (c .before .before .before .before
 
 -- and the third where refusal 17 did not either
 seventeen : (c : tie.After-enum-told3)
-    → numbersFault (numbered (clausesOf (clauseSlices (c .before .before .before .before .before .before .before .before .before .before .before .before .before .before .before .args .positive .now) (c .before .before .before .before .before .before .before .before .before .before .before .before .before .before .before .args .negative .now)))) (c .before .before .before .before .before .before .before .before .before .before .before .before .before .before .before .args .count) (pointsOf (c .before .before .before .before .before .before .before .before .before .before .before .before .before .before .before .args .points .now)) (c .before .before .before .before .before .before .before .before .before .before .before .before .before .before .before .args .falsified .now) ≡ no-fault
+    → numbersFault (numbered (lentClauses (c .before .before .before .before .before .before .before .before .before .before .before .before .before .before .before .args .positive .now) (c .before .before .before .before .before .before .before .before .before .before .before .before .before .before .before .args .negative .now))) (c .before .before .before .before .before .before .before .before .before .before .before .before .before .before .before .args .count) (pointsOf (c .before .before .before .before .before .before .before .before .before .before .before .before .before .before .before .args .points .now)) (c .before .before .before .before .before .before .before .before .before .before .before .before .before .before .before .args .falsified .now) ≡ no-fault
 seventeen c = sym (c .before .before .numbers-refusal .ensures) ∙ ap faultOf (c .enum-told3 .given .1)
 
 returns-3 : tie.Need-returns-3

@@ -2,8 +2,7 @@
 use mathlib.Core.List.{List, [], _∷_}
 use Prim.Native.Nat.{ℕ, _*_, _≤_}
 use lib.ListN.{length}
-use Rattle.points.specs.Points.{Numbered, numbered}
-use Rattle.point_slices.specs.Slices.{ClauseSlices, clausesOf}
+use Rattle.points.specs.Points.{Clause, Numbered, numbered}
 use Rattle.permutation_theory.specs.Permutations.{Permutation, permutationsIn}
 use Rattle.formula.specs.Limits.{maxSlots}
 use Rattle.formula.specs.Reply.{Fault, first}
@@ -20,19 +19,19 @@ listsFault n cs es ps ns = first (pointsFault maxSlots n (length ps) ps ∷ numb
     ∷ flipsFault n cs es ps ns ∷ [])
 
 -- the same, of `count` entries in two bodies, with permutations and clauses as they lie in their slices
-abbrev pub entriesFault : ℕ → ℕ → List ℕ → ClauseSlices → List ℕ → List ℕ → ℕ → Fault
+abbrev pub entriesFault : ℕ → ℕ → List ℕ → List Clause → List ℕ → List ℕ → ℕ → Fault
 entriesFault n permutations images clauses points falsified count =
-    listsFault n (numbered (clausesOf clauses)) (permutationsIn n permutations images)
+    listsFault n (numbered clauses) (permutationsIn n permutations images)
     (numbersIn pointWidth count points) (numbersIn numberWidth count falsified)
 
 -- there are `count` points, and links that are all 0 with room for them
-pub record Ready (g : Lookup) (images : List ℕ) (clauses : ClauseSlices) (points links : List ℕ) (count : ℕ) : Type 0
+pub record Ready (g : Lookup) (images : List ℕ) (clauses : List Clause) (points links : List ℕ) (count : ℕ) : Type 0
   where
     pub given : Proper (g .variables) (g .permutations) images clauses
     pub indexable : Indexable (g .heads) (g .variables) count points links
 
 -- the bodies hold `count` entries, and no more than fit the arrays
-pub record Decodable (n permutations : ℕ) (images : List ℕ) (clauses : ClauseSlices) (points falsified : List ℕ)
+pub record Decodable (n permutations : ℕ) (images : List ℕ) (clauses : List Clause) (points falsified : List ℕ)
     (count limit : ℕ) : Type 0 where
   pub given : Proper n permutations images clauses
   pub most : count ≤ limit

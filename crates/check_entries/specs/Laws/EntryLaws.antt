@@ -10,10 +10,10 @@ use lib.ListN.{length, take, replicate, length-replicate}
 use lib.Seq.{length-take-le}
 use Rattle.point_slices.specs.Laws.SliceLaws.{points-blank}
 use Rattle.permutation_coverage.specs.declared.Lookup.{Lookup}
-use Rattle.point_slices.specs.Slices.{ClauseSlices, pointsOf}
+use Rattle.point_slices.specs.Slices.{pointsOf}
 use Rattle.math.specs.Lists.{over}
 use Rattle.math.specs.Laws.PartLaws.{over-front}
-use Rattle.points.specs.Points.{Numbered}
+use Rattle.points.specs.Points.{Clause, Numbered}
 use Rattle.permutation_theory.specs.Permutations.{Permutation}
 use Rattle.formula.specs.Limits.{maxSlots}
 use Rattle.formula.specs.Reply.{Fault, no-fault}
@@ -77,7 +77,7 @@ copied w count body old new e = ap (take count) e
 -- ---- what rows 16 and 18 are handed
 
 -- the first entries, copied to a slice as long as the one lent, can be indexed
-pub lent-ready : {g : Lookup} {images : List ℕ} {clauses : ClauseSlices} {points falsified held named links : List ℕ}
+pub lent-ready : {g : Lookup} {images : List ℕ} {clauses : List Clause} {points falsified held named links : List ℕ}
     {count : ℕ} → Decodable (g .variables) (g .permutations) images clauses points falsified count (g .heads)
     → Lent (g .heads) held named links → (filled : List ℕ) → length filled ≡ length held
     → Ready g images clauses filled links count
@@ -91,7 +91,7 @@ lent-ready d l filled same =
     }
 
 -- where row 16 finds nothing it has left an index of the points
-pub ready-testable : {g : Lookup} {images : List ℕ} {clauses : ClauseSlices} {points links : List ℕ} {count : ℕ}
+pub ready-testable : {g : Lookup} {images : List ℕ} {clauses : List Clause} {points links : List ℕ} {count : ℕ}
     → Ready g images clauses points links count → {f : Fault} {links′ : List ℕ}
     → Refuses (g .heads) (g .variables) count maxSlots points f links′ → f ≡ no-fault
     → Testable g images clauses points links′ count

@@ -8,14 +8,14 @@ use borrow.Author.Tests.{not-true, not-false}
 use Rattle.math.specs.Lists.{firstFailing, below}
 use Rattle.math.specs.Laws.ScanLaws.{onFrom, failing-begins, below-ends, below-stops, below-goes-on}
 use Rattle.points.specs.Points.{numbered}
-use Rattle.point_slices.specs.Slices.{clausesOf, clauseSlices, pointsOf}
+use Rattle.point_slices.specs.Slices.{pointsOf, lentClauses}
 use Rattle.certificate.specs.Rows.{numberPasses}
 use Rattle.check_falsified.proofs.first_bad_number.Statement.{statement}
 use Rattle.check_falsified.proofs.first_bad_number.Tie as tie
 
 abbrev Inv-loop : tie.InvT-loop
 Inv-loop positive negative points falsified count i₀ i =
-    firstFailing (numberPasses (numbered (clausesOf (clauseSlices positive negative))) (pointsOf points) falsified) (below count) ≡ onFrom i (firstFailing (numberPasses (numbered (clausesOf (clauseSlices positive negative))) (pointsOf points) falsified) (drop i (below count)))
+    firstFailing (numberPasses (numbered (lentClauses positive negative)) (pointsOf points) falsified) (below count) ≡ onFrom i (firstFailing (numberPasses (numbered (lentClauses positive negative)) (pointsOf points) falsified) (drop i (below count)))
 
 abbrev μ-loop : tie.MeasureT-loop
 μ-loop positive negative points falsified count i₀ i = count - i

@@ -3,7 +3,7 @@ use mathlib.Core.Path.{ap₂, _∙_}
 use borrow.Author.Needs.{needs}
 use Prim.Native.Nat.{ℕ}
 use Rattle.points.specs.Points.{numbered}
-use Rattle.point_slices.specs.Slices.{clausesOf, clauseSlices}
+use Rattle.point_slices.specs.Slices.{lentClauses}
 use Rattle.certificate.specs.Rows.{clauseNumbered, falsifies, numberPasses}
 use Rattle.check_falsified.proofs.number_passes.Statement.{statement}
 use Rattle.check_falsified.proofs.number_passes.Tie as tie
@@ -22,7 +22,7 @@ unfolding numberPasses
 returns c =
     let a = c .before .before .before .before .before .before .before .args in
     c .falsifies .ensures
-    ∙ ap₂ (λ (k x : ℕ). falsifies (clauseNumbered (numbered (clausesOf (clauseSlices (a .positive .now) (a .negative .now)))) k) x)
+    ∙ ap₂ (λ (k x : ℕ). falsifies (clauseNumbered (numbered (lentClauses (a .positive .now) (a .negative .now))) k) x)
     (c .before .before .number-at .ensures) (c .before .point-at .ensures)
 
 pub number-passes-spec : {M : Type 1} → statement M

@@ -9,7 +9,7 @@ use Rattle.point_slices.specs.Laws.SliceLaws.{points-blank}
 use Rattle.math.specs.Lists.{firstFailing, below}
 use Rattle.math.specs.Laws.ScanLaws.{onFrom, failing-begins, below-ends, below-stops, below-goes-on}
 use Rattle.points.specs.Points.{numbered}
-use Rattle.point_slices.specs.Slices.{clausesOf, clauseSlices, pointsOf}
+use Rattle.point_slices.specs.Slices.{pointsOf, lentClauses}
 use Rattle.permutation_theory.specs.Permutations.{permutationsIn}
 use Rattle.permutation_coverage.specs.Laws.Coverage.{Imaged}
 use Rattle.permutation_coverage.specs.Laws.CoverageLaws.{imaged-none}
@@ -21,8 +21,8 @@ use Rattle.check_flips.proofs.first_uncovered.Tie as tie
 
 abbrev Inv-loop : tie.InvT-loop
 Inv-loop g images positive negative points falsified links count moved₀ seen₀ i₀ moved seen i =
-    (firstFailing (flipsPass (g .variables) (numbered (clausesOf (clauseSlices positive negative))) (permutationsIn (g .variables) (g .permutations) images) (take count (pointsOf points)) falsified) (below count)
-    ≡ onFrom i (firstFailing (flipsPass (g .variables) (numbered (clausesOf (clauseSlices positive negative))) (permutationsIn (g .variables) (g .permutations) images) (take count (pointsOf points)) falsified) (drop i (below count))))
+    (firstFailing (flipsPass (g .variables) (numbered (lentClauses positive negative)) (permutationsIn (g .variables) (g .permutations) images) (take count (pointsOf points)) falsified) (below count)
+    ≡ onFrom i (firstFailing (flipsPass (g .variables) (numbered (lentClauses positive negative)) (permutationsIn (g .variables) (g .permutations) images) (take count (pointsOf points)) falsified) (drop i (below count))))
     × (length moved ≡ maxPermutations) × Imaged (g .variables) (g .permutations) images seen (pointsOf moved)
 
 abbrev μ-loop : tie.MeasureT-loop

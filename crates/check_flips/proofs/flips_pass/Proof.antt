@@ -3,7 +3,7 @@
 use mathlib.Core.Path.{sym, ap, _∙_, subst}
 use Prim.Native.Nat.{ℕ, _<_, _^_}
 use Rattle.points.specs.Points.{numbered}
-use Rattle.point_slices.specs.Slices.{clausesOf, clauseSlices, pointsOf}
+use Rattle.point_slices.specs.Slices.{pointsOf, lentClauses}
 use Rattle.certificate.specs.Rows.{clauseNumbered}
 use Rattle.check_flips.specs.Laws.FlipLaws.{tested-coverable, listed-within, flips-passed}
 use Rattle.check_flips.specs.Laws.Loops.{listedBy}
@@ -33,7 +33,7 @@ returns c =
     let a = c .before .before .before .before .before .before .before .before .before .before .before .args in
     c .flips-covered .ensures
     ∙ flips-passed _ _ _ (pointsOf (a .points .now)) (a .falsified .now) (a .count) (a .i) _ _ (c .before .before .before .before .before .before .before .before .before .before .before .pre .1) (c .before .before .point-at .ensures)
-    (c .before .variables-of .ensures ∙ ap (λ (k : ℕ). listedBy (clauseNumbered (numbered (clausesOf (clauseSlices (a .positive .now) (a .negative .now)))) k)) (c .before .before .before .number-at .ensures))
+    (c .before .variables-of .ensures ∙ ap (λ (k : ℕ). listedBy (clauseNumbered (numbered (lentClauses (a .positive .now) (a .negative .now))) k)) (c .before .before .before .number-at .ensures))
 
 pub flips-pass-spec : {M : Type 1} → statement M
 flips-pass-spec =

@@ -4,7 +4,7 @@ use lib.ListN.{take}
 use lib.Seq.{length-take-le}
 use borrow.Author.Needs.{needs}
 use Rattle.points.specs.Points.{numbered}
-use Rattle.point_slices.specs.Slices.{clausesOf, clauseSlices, pointsOf}
+use Rattle.point_slices.specs.Slices.{pointsOf, lentClauses}
 use Rattle.permutation_theory.specs.Permutations.{permutationsIn}
 use Rattle.formula.specs.Reply.{faultAt}
 use Rattle.formula.specs.Laws.ReplyLaws.{fault-zero, fault-pos}
@@ -19,7 +19,7 @@ first-uncovered-requires c κs = search needs
 -- the row is the fault of the number found
 row : (c : tie.After-first-uncovered)
     → faultAt 18 (c .first-uncovered .result)
-    ≡ flipsFault (c .before .before .before .before .before .before .before .args .g .variables) (numbered (clausesOf (clauseSlices (c .before .before .before .before .before .before .before .args .positive .now) (c .before .before .before .before .before .before .before .args .negative .now))))
+    ≡ flipsFault (c .before .before .before .before .before .before .before .args .g .variables) (numbered (lentClauses (c .before .before .before .before .before .before .before .args .positive .now) (c .before .before .before .before .before .before .before .args .negative .now)))
     (permutationsIn (c .before .before .before .before .before .before .before .args .g .variables) (c .before .before .before .before .before .before .before .args .g .permutations) (c .before .before .before .before .before .before .before .args .images .now)) (take (c .before .before .before .before .before .before .before .args .count) (pointsOf (c .before .before .before .before .before .before .before .args .points .now))) (c .before .before .before .before .before .before .before .args .falsified .now)
 row c =
     let start = c .before .before .before .before .before .before .before in

@@ -20,7 +20,7 @@ use Rattle.math.specs.Laws.SetLaws.{members-next, members-none}
 use Rattle.points.specs.Laws.Contracts.{NextVariable}
 use Rattle.points.specs.Laws.NextLaws.{next-lowest, next-none}
 use Rattle.points.specs.Points.{pointDigits, Clause, Numbered, listed, variables, numbered}
-use Rattle.point_slices.specs.Slices.{noLiterals, ClauseSlices}
+use Rattle.point_slices.specs.Slices.{noLiterals}
 use Rattle.point_theory.specs.Laws.Notions.{ClausesBelow}
 use Rattle.permutation_theory.specs.Permutations.{Permutation, covered}
 use Rattle.permutation_coverage.specs.Laws.Coverage.{Permuting, Imaged, Coverable}
@@ -107,7 +107,7 @@ module _ (t : ℕ → Bool) (n x s : ℕ) (few : n ≤ pointDigits) where
 
 -- ---- what can be looked up
 
-module _ {g : Lookup} {images : List ℕ} {clauses : ClauseSlices} {points links : List ℕ} {count : ℕ}
+module _ {g : Lookup} {images : List ℕ} {clauses : List Clause} {points links : List ℕ} {count : ℕ}
     (t : Testable g images clauses points links count) where
   pub tested-permuting : Permuting (g .variables) (g .permutations) images
   tested-permuting = record {

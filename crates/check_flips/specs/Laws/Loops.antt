@@ -9,7 +9,6 @@ use Rattle.math.specs.Bits.{flip, members}
 use Rattle.math.specs.Lists.{_∈_, all}
 use Rattle.points.specs.Laws.Contracts.{NextVariable}
 use Rattle.points.specs.Points.{Clause, listed, numbered}
-use Rattle.point_slices.specs.Slices.{ClauseSlices, clausesOf}
 use Rattle.point_theory.specs.Laws.Notions.{ClausesBelow}
 use Rattle.permutation_theory.specs.Permutations.{Permutation, IsPermutation, permutationsIn}
 use Rattle.permutation_images.specs.Laws.Contracts.{Listed}
@@ -28,15 +27,15 @@ allFlips t n x s = all t (map (flip x) (members n s))
 
 -- what row 18 looks at besides points and numbers: `count` permutations of n variables, and clauses that list no other
 -- variable
-pub record Proper (n count : ℕ) (images : List ℕ) (clauses : ClauseSlices) : Type 0 where
+pub record Proper (n count : ℕ) (images : List ℕ) (clauses : List Clause) : Type 0 where
   pub few : n ≤ maxVariables
   pub few-permutations : count ≤ maxPermutations
   pub listed : Listed n count images
   pub proper : (e : Permutation) → e ∈ permutationsIn n count images → IsPermutation n e
-  pub below : ClausesBelow n (numbered (clausesOf clauses))
+  pub below : ClausesBelow n (numbered clauses)
 
 -- what lets flips be looked up: there are as many points as are to be tested, and the links are an index of them
-pub record Testable (g : Lookup) (images : List ℕ) (clauses : ClauseSlices) (points links : List ℕ) (tested : ℕ)
+pub record Testable (g : Lookup) (images : List ℕ) (clauses : List Clause) (points links : List ℕ) (tested : ℕ)
     : Type 0
   where
     pub given : Proper (g .variables) (g .permutations) images clauses

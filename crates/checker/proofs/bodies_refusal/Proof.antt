@@ -5,7 +5,7 @@ use native.Mathlib.Omega.{arith}
 use lib.ListN.{take, drop}
 use borrow.Author.Needs.{needs}
 use Rattle.points.specs.Points.{numbered}
-use Rattle.point_slices.specs.Slices.{clausesOf, clauseSlices}
+use Rattle.point_slices.specs.Slices.{clauseSlices, lentClauses}
 use Rattle.permutation_theory.specs.Permutations.{permutationsIn}
 use Rattle.formula.specs.Refusals.{permutationFault, symmetryFault, faultOf}
 use Rattle.formula.specs.Reply.{no-fault}
@@ -54,7 +54,7 @@ returns-2 c =
 
 -- and what follows here where refusal 12 did not either
 twelve : (c : tie.After-enum-told3)
-    → symmetryFault (numbered (clausesOf (clauseSlices (c .before .before .before .before .before .before .before .before .before .before .before .before .before .args .positive .now) (c .before .before .before .before .before .before .before .before .before .before .before .before .before .args .negative .now)))) (permutationsIn (c .before .before .before .before .before .before .before .before .before .before .before .before .before .args .c .variables) (c .before .before .before .before .before .before .before .before .before .before .before .before .before .args .c .permutations) (take (c .before .before .before .before .before .before .before .before .before .before .before .before .before .args .c .«points_at» - c .before .before .before .before .before .before .before .before .before .before .before .before .before .args .c .«permutations_at») (drop (c .before .before .before .before .before .before .before .before .before .before .before .before .before .args .c .«permutations_at») (c .before .before .before .before .before .before .before .before .before .before .before .before .before .args .file .now)))) ≡ no-fault
+    → symmetryFault (numbered (lentClauses (c .before .before .before .before .before .before .before .before .before .before .before .before .before .args .positive .now) (c .before .before .before .before .before .before .before .before .before .before .before .before .before .args .negative .now))) (permutationsIn (c .before .before .before .before .before .before .before .before .before .before .before .before .before .args .c .variables) (c .before .before .before .before .before .before .before .before .before .before .before .before .before .args .c .permutations) (take (c .before .before .before .before .before .before .before .before .before .before .before .before .before .args .c .«points_at» - c .before .before .before .before .before .before .before .before .before .before .before .before .before .args .c .«permutations_at») (drop (c .before .before .before .before .before .before .before .before .before .before .before .before .before .args .c .«permutations_at») (c .before .before .before .before .before .before .before .before .before .before .before .before .before .args .file .now)))) ≡ no-fault
 twelve c = sym (c .before .before .symmetry-refusal .ensures) ∙ ap faultOf (c .enum-told3 .given .1)
 
 returns-3 : tie.Need-returns-3

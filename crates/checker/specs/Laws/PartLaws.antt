@@ -132,7 +132,7 @@ module _ (c : Contents) (clauses : ClauseSlices) (file : List ℕ) (ok : Readabl
         (laid .images-long) eleven
 
     -- what the tests of the entries take for granted
-    pub images-proper : Proper (c .variables) (c .permutations) images clauses
+    pub images-proper : Proper (c .variables) (c .permutations) images (clausesOf clauses)
     images-proper =
         record {
           few = ok .fitting .few-variables;

@@ -11,7 +11,7 @@ use Rattle.search.specs.Laws.Theorems.{search-nearest, search-exactly, search-b
 use Rattle.certificate.specs.Writer.{lengthNeeded}
 use Rattle.checker.specs.Laws.Soundness.{accepted-refutes}
 use Rattle.claims.specs.Laws.Certificates.{short-reply, short-output, long-reply, long-rest, long-accepted}
-use Rattle.claims.specs.Claim.{Sheet, formulaIn, clausesIn, problemIn, SearchAnswers}
+use Rattle.claims.specs.Claim.{Sheet, formulaIn, slicesIn, problemIn, SearchAnswers}
 use Rattle.claims.specs.Claim.{Certified, Claim}
 
 -- the certificate of an unsatisfiable sheet, whatever the slots held and whatever the output is
@@ -19,7 +19,7 @@ certified : (s : Sheet) (slots : SlotSlices) (filled : ℕ) → SearchAnswers s 
     → (out : List ℕ) → Certified s slots filled (lengthNeeded (problemIn s) filled) out
 certified s slots filled a out =
     let f = formulaIn s in
-    let clauses = clausesIn s in
+    let clauses = slicesIn s in
     record {
       too-short = λ h. (
         short-reply f clauses slots filled (a .reply) out h,
@@ -40,27 +40,27 @@ pub claim : Claim
 claim =
     record {
       nearest = λ s slots x d filled a.
-          let n = search-nearest (formulaIn s) (clausesIn s) (capacity slots) x d filled (a .reply) in (
+          let n = search-nearest (formulaIn s) (slicesIn s) (capacity slots) x d filled (a .reply) in (
             record { within = n .within; satisfying = n .satisfying },
             n .changes,
             λ y m. n .nearest y (m .within)
                 (m .satisfying),
           );
       exactly = λ s slots r a known.
-          let e = search-exactly (formulaIn s) (clausesIn s) (capacity slots) r (a .reply) (a .accepted) known
+          let e = search-exactly (formulaIn s) (slicesIn s) (capacity slots) r (a .reply) (a .accepted) known
           in (
             λ w. e .0 (w .0) (w .1),
             λ none. (
-              length (searchSlots (formulaIn s) (clausesIn s) (capacity slots)),
+              length (searchSlots (formulaIn s) (slicesIn s) (capacity slots)),
               e .1 none,
             ),
           );
       certified = certified;
       refutes = accepted-refutes;
-      bound = λ s slots b filled a y m. search-bound (formulaIn s) (clausesIn s) (capacity slots) b filled
+      bound = λ s slots b filled a y m. search-bound (formulaIn s) (slicesIn s) (capacity slots) b filled
           (a .reply) y
           (m .within) (m .satisfying);
       enough-room = λ s slots b filled few p q r a.
-          search-room (formulaIn s) (clausesIn s) (capacity slots)
+          search-room (formulaIn s) (slicesIn s) (capacity slots)
           (enough slots (2 ^ problemIn s .variables) few p q r) b filled (a .reply);
     }

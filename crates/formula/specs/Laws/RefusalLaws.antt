@@ -1,9 +1,9 @@
 -- Laws of the refusals 10, 11 and 12: what is known once each has passed, and what passes. Assumes nothing.
 use mathlib.Core.Bool.{Bool, true, false, cond, _&&_}
 use mathlib.Core.List.{List, [], _∷_}
-use mathlib.Core.Path.{_≡_, refl, sym, ap, subst}
-use Prim.Native.Nat.{ℕ, _*_, _^_, _≤_, _<_}
-use native.Mathlib.Nat.{le-trans, mul-le-mul, le-of-eq}
+use mathlib.Core.Path.{_≡_, refl, sym, ap, ap₂, _∙_, subst}
+use Prim.Native.Nat.{ℕ, _*_, _^_, _≤_, _<_, min}
+use native.Mathlib.Nat.{le-refl, le-trans, mul-le-mul, le-of-eq, min-eq-left}
 use lib.Dec.{leb, ltb, eqb}
 use lib.ListN.{length}
 use borrow.Author.Tests.{leb-true, le-leb, lt-leb, ltb-true, lt-ltb, eqb-true, eq-eqb}
@@ -11,7 +11,7 @@ use Rattle.math.specs.Laws.ListLaws.{and-split, all-at, all-of, map-in}
 use Rattle.math.specs.Laws.PartLaws.{none-failing, all-passing}
 use Rattle.math.specs.Lists.{_∈_, firstFailing}
 use Rattle.points.specs.Points.{pointDigits, Numbered, numbered}
-use Rattle.point_slices.specs.Laws.SliceLaws.{clause-sets}
+use Rattle.point_slices.specs.Laws.SliceLaws.{length-clauses, clause-sets}
 use Rattle.point_slices.specs.Slices.{clausesOf, ClauseSlices}
 use Rattle.point_theory.specs.Laws.Notions.{ClausesBelow}
 use Rattle.permutation_images.specs.Laws.Contracts.{Movable, Listed}
@@ -74,6 +74,12 @@ module _ (n m : ℕ) (clauses : ClauseSlices) where
         allBelow-complete n (clauses .positive) (f .positive-below),
         allBelow-complete n (clauses .negative) (f .negative-below),
       )
+
+-- slices that refusal 10 lets pass hold m clauses
+pub fits-count : (n m : ℕ) (clauses : ClauseSlices) → Fits n m clauses → length (clausesOf clauses) ≡ m
+fits-count n m clauses f =
+    length-clauses (clauses .positive) (clauses .negative) ∙ ap₂ min (f .positive-length) (f .negative-length)
+    ∙ min-eq-left (le-refl m)
 
 -- clauses that refusal 10 lets pass list none but the variables below n
 pub fits-below : (n m : ℕ) (clauses : ClauseSlices) → Fits n m clauses

@@ -8,15 +8,15 @@ use borrow.Author.Needs.{needs}
 use Rattle.math.specs.Lists.{any}
 use Rattle.math.specs.Laws.ScanLaws.{any-ends, any-stops, any-goes-on}
 use Rattle.points.specs.Laws.Contracts.{clauseOf}
-use Rattle.point_slices.specs.Slices.{clauseSlices, clausesOf, noLiterals}
+use Rattle.point_slices.specs.Slices.{noLiterals, lentClauses}
 use Rattle.permutation_theory.specs.Permutations.{sameClause}
 use Rattle.permutation_symmetry.proofs.has_clause.Statement.{statement}
 use Rattle.permutation_symmetry.proofs.has_clause.Tie as tie
 
 abbrev Inv-loop : tie.InvT-loop
 Inv-loop guesses positive negative c end at₀ at =
-    (end ≡ length (clausesOf (clauseSlices positive negative)))
-    × (any (sameClause (clauseOf c)) (clausesOf (clauseSlices positive negative)) ≡ any (sameClause (clauseOf c)) (drop at (clausesOf (clauseSlices positive negative))))
+    (end ≡ length (lentClauses positive negative))
+    × (any (sameClause (clauseOf c)) (lentClauses positive negative) ≡ any (sameClause (clauseOf c)) (drop at (lentClauses positive negative)))
 
 abbrev μ-loop : tie.MeasureT-loop
 μ-loop guesses positive negative c end at₀ at = end - at
@@ -42,7 +42,7 @@ same-clause-requires c κs = search needs
 -- what the test compares with
 compared : (c : tie.After-same-clause Inv-loop μ-loop)
     → sameClause (clauseOf (c .before .before .before .before .before .before .before .before .before .before .args .c))
-    (getD (clausesOf (clauseSlices (c .before .before .before .before .before .before .before .before .before .before .args .positive .now) (c .before .before .before .before .before .before .before .before .before .before .args .negative .now))) (c .before .before .before .loop .at) noLiterals)
+    (getD (lentClauses (c .before .before .before .before .before .before .before .before .before .before .args .positive .now) (c .before .before .before .before .before .before .before .before .before .before .args .negative .now)) (c .before .before .before .loop .at) noLiterals)
     ≡ c .same-clause .result
 compared c = ap (sameClause _) (sym (c .before .clause-at .ensures)) ∙ sym (c .same-clause .ensures)
 

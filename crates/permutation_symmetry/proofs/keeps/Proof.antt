@@ -8,7 +8,7 @@ use borrow.Author.Needs.{needs}
 use borrow.Author.Tests.{not-true, not-false}
 use Rattle.math.specs.Lists.{any, all}
 use Rattle.math.specs.Laws.ScanLaws.{all-ends, all-stops, all-goes-on}
-use Rattle.point_slices.specs.Slices.{clauseSlices, clausesOf, noLiterals}
+use Rattle.point_slices.specs.Slices.{noLiterals, lentClauses}
 use Rattle.permutation_images.specs.Laws.LoopLaws.{keeps-numbered}
 use Rattle.permutation_theory.specs.Permutations.{imageAmong, sameClause}
 use Rattle.permutation_symmetry.proofs.keeps.Statement.{statement}
@@ -16,9 +16,9 @@ use Rattle.permutation_symmetry.proofs.keeps.Tie as tie
 
 abbrev Inv-loop : tie.InvT-loop
 Inv-loop e guesses positive negative end i₀ i =
-    (end ≡ length (clausesOf (clauseSlices positive negative)))
-    × (all (imageAmong (clausesOf (clauseSlices positive negative)) (record { images = e })) (clausesOf (clauseSlices positive negative))
-    ≡ all (imageAmong (clausesOf (clauseSlices positive negative)) (record { images = e })) (drop i (clausesOf (clauseSlices positive negative))))
+    (end ≡ length (lentClauses positive negative))
+    × (all (imageAmong (lentClauses positive negative) (record { images = e })) (lentClauses positive negative)
+    ≡ all (imageAmong (lentClauses positive negative) (record { images = e })) (drop i (lentClauses positive negative)))
 
 abbrev μ-loop : tie.MeasureT-loop
 μ-loop e guesses positive negative end i₀ i = end - i
@@ -40,12 +40,12 @@ has-clause-requires c κs = search needs
 
 -- what the test says of the clause at i
 tested : (c : tie.After-has-clause Inv-loop μ-loop)
-    → imageAmong (clausesOf (clauseSlices (c .before .before .before .before .before .before .before .before .before .before .args .positive .now) (c .before .before .before .before .before .before .before .before .before .before .args .negative .now))) (record { images = c .before .before .before .before .before .before .before .before .before .before .args .e .now })
-    (getD (clausesOf (clauseSlices (c .before .before .before .before .before .before .before .before .before .before .args .positive .now) (c .before .before .before .before .before .before .before .before .before .before .args .negative .now))) (c .before .before .before .before .loop .i) noLiterals)
+    → imageAmong (lentClauses (c .before .before .before .before .before .before .before .before .before .before .args .positive .now) (c .before .before .before .before .before .before .before .before .before .before .args .negative .now)) (record { images = c .before .before .before .before .before .before .before .before .before .before .args .e .now })
+    (getD (lentClauses (c .before .before .before .before .before .before .before .before .before .before .args .positive .now) (c .before .before .before .before .before .before .before .before .before .before .args .negative .now)) (c .before .before .before .before .loop .i) noLiterals)
     ≡ c .has-clause .result
 tested c =
     let a = c .before .before .before .before .before .before .before .before .before .before .args in
-    let cs = clausesOf (clauseSlices (a .positive .now) (a .negative .now)) in
+    let cs = lentClauses (a .positive .now) (a .negative .now) in
     ap (imageAmong cs (record { images = a .e .now })) (sym (c .before .before .clause-at .ensures))
     ∙ ap (λ d. any (sameClause d) cs) (sym (c .before .image-of-clause .ensures)) ∙ sym (c .has-clause .ensures)
 

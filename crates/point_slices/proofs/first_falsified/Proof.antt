@@ -7,15 +7,15 @@ use lib.ListN.{length, getD}
 use borrow.Author.Needs.{needs}
 use borrow.Author.Tests.{not-true, not-false}
 use Rattle.points.specs.Points.{satisfies}
-use Rattle.point_slices.specs.Laws.SliceLaws.{clauses-le, falsifiedFrom, falsified-ends, falsified-stops}
-use Rattle.point_slices.specs.Laws.SliceLaws.{falsified-goes-on}
-use Rattle.point_slices.specs.Slices.{clauseSlices, clausesOf, noLiterals}
+use Rattle.point_slices.specs.Laws.SliceLaws.{points-le, clauses-le, falsifiedFrom, falsified-ends}
+use Rattle.point_slices.specs.Laws.SliceLaws.{falsified-stops, falsified-goes-on}
+use Rattle.point_slices.specs.Slices.{pointsOf, noLiterals, lentClauses}
 use Rattle.point_slices.proofs.first_falsified.Statement.{statement}
 use Rattle.point_slices.proofs.first_falsified.Tie as tie
 
 abbrev Inv-loop : tie.InvT-loop
 Inv-loop positive negative x end i₀ i =
-    (end ≡ length (clausesOf (clauseSlices positive negative))) × (falsifiedFrom (clausesOf (clauseSlices positive negative)) x 0 ≡ falsifiedFrom (clausesOf (clauseSlices positive negative)) x i)
+    (end ≡ length (lentClauses positive negative)) × (falsifiedFrom (lentClauses positive negative) x 0 ≡ falsifiedFrom (lentClauses positive negative) x i)
 
 abbrev μ-loop : tie.MeasureT-loop
 μ-loop positive negative x end i₀ i = end - i
@@ -34,7 +34,7 @@ satisfies-requires c κs = search needs
 
 -- what the test says of the clause at i
 tested : (c : tie.After-satisfies Inv-loop μ-loop)
-    → satisfies (getD (clausesOf (clauseSlices (c .before .before .before .before .before .before .before .args .positive .now) (c .before .before .before .before .before .before .before .args .negative .now))) (c .before .before .before .loop .i) noLiterals)
+    → satisfies (getD (lentClauses (c .before .before .before .before .before .before .before .args .positive .now) (c .before .before .before .before .before .before .before .args .negative .now)) (c .before .before .before .loop .i) noLiterals)
     (c .before .before .before .before .before .before .before .args .x)
     ≡ c .satisfies .result
 tested c = ap (λ d. satisfies d (c .before .before .before .before .before .before .before .args .x)) (sym (c .before .clause-at .ensures)) ∙ sym (c .satisfies .ensures)
@@ -42,7 +42,8 @@ tested c = ap (λ d. satisfies d (c .before .before .before .before .before .bef
 add-result : tie.Need-add-result Inv-loop μ-loop
 add-result c =
     let start = c .before .before .before .before .before .before .before .before in
-    omega (arith, clauses-le (start .args .positive .now) (start .args .negative .now), start .good .0 .1)
+    let p = start .args .positive .now in
+    omega (arith, clauses-le (pointsOf p) (pointsOf (start .args .negative .now)), points-le p, start .good .0 .1)
 
 returns : tie.Need-returns Inv-loop μ-loop
 unfolding falsifiedFrom

@@ -28,6 +28,11 @@ pub rest-blank : (k : ℕ) → restOf (replicate k 0) ≡ []
 unfolding restOf
 rest-blank k = refl
 
+-- a slice has no more points than words
+pub points-le : (s : List ℕ) → length (pointsOf s) ≤ length s
+unfolding pointsOf
+points-le s = le-of-eq refl
+
 -- slices of one length hold equally many points
 pub same-count : (s t : List ℕ) → length s ≡ length t → length (pointsOf s) ≡ length (pointsOf t)
 unfolding pointsOf

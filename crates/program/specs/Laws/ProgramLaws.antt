@@ -15,7 +15,7 @@ use Rattle.dimacs_format.specs.Reader.{readReply, readFormula, readClauses}
 use Rattle.dimacs_lines.specs.declared.Parsed.{Parsed}
 use Rattle.dimacs.specs.Contract.{Read}
 use Rattle.search.specs.Search.{searchReply}
-use Rattle.claims.specs.Claim.{formulaIn, clausesIn}
+use Rattle.claims.specs.Claim.{formulaIn, slicesIn}
 use Rattle.solver.specs.Solver.{blank, afterReading, sheetReply}
 use Rattle.program_text.specs.Report.{refusedText, reportOf}
 use Rattle.program_text.specs.Laws.Putting.{Printed}
@@ -40,7 +40,7 @@ pub reply-refused : (text : List ℕ) (code place : ℕ) → refused code place 
 unfolding sheetReply
 reply-refused text code place e =
     let s = sheetIn text in
-    ap (λ (a : Reply). afterReading a a (searchReply (formulaIn s) (clausesIn s) slots)) (sym e)
+    ap (λ (a : Reply). afterReading a a (searchReply (formulaIn s) (slicesIn s) slots)) (sym e)
 
 -- ---- a text that is accepted
 

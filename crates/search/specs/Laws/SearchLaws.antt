@@ -6,7 +6,6 @@ use native.Mathlib.Nat.{le-trans, le-of-eq}
 use native.Mathlib.Omega.{arith}
 use lib.ListN.{length}
 use Rattle.points.specs.Points.{numbered}
-use Rattle.point_slices.specs.Laws.SliceLaws.{clauses-le}
 use Rattle.point_slices.specs.Slices.{ClauseSlices, SlotSlices, clausesOf}
 use Rattle.permutation_theory.specs.Permutations.{permutationsIn}
 use Rattle.formula.specs.declared.Checked.{Checked}
@@ -15,7 +14,7 @@ use Rattle.formula.specs.declared.Formula.{Formula}
 use Rattle.formula.specs.Limits.{maxImages, capacity}
 use Rattle.formula.specs.Problem.{problemOf}
 use Rattle.formula.specs.Laws.RefusalLaws.{formula-passes, formula-listed, permutation-passes, passes-few}
-use Rattle.formula.specs.Laws.RefusalLaws.{digits-suffice}
+use Rattle.formula.specs.Laws.RefusalLaws.{digits-suffice, fits-count}
 use Rattle.formula.specs.Refusals.{formulaFault, permutationFault, symmetryFault, problemFault, faultOf}
 use Rattle.formula.specs.Reply.{Reply, Fault, no-fault, fault, pointIn}
 use Rattle.formula.specs.Laws.ReplyLaws.{first-last, first-after, first-before, unless-none}
@@ -82,7 +81,7 @@ module _ (f : Formula) (clauses : ClauseSlices) where
 
   -- the problem of the frame is the formula's, once refusal 10 has passed
   framed-is : (lent : ℕ) → formulaFault f clauses ≡ no-fault
-      → framed (frameOf f lent) (f .images) clauses ≡ problemOf f clauses
+      → framed (frameOf f lent) (f .images) (clausesOf clauses) ≡ problemOf f clauses
   unfolding problemOf
   framed-is lent h =
       ap (λ t. record {
@@ -91,7 +90,7 @@ module _ (f : Formula) (clauses : ClauseSlices) where
         target = f .target;
         permutations = permutationsIn (f .variables) (f .permutations) (f .images);
         clauses = numbered (clausesOf clauses);
-      }) (formula-passes f clauses h .0 .positive-length)
+      }) (fits-count (f .variables) (f .clauses) clauses (formula-passes f clauses h .0))
 
   -- where no row refuses, the reply and the slices are those of the walk
   reply-of : (lent : ℕ) (r : Reply) → searchFault f clauses lent ≡ no-fault
@@ -133,7 +132,7 @@ module _ (f : Formula) (clauses : ClauseSlices) where
           clean : searchFault f clauses k ≡ no-fault
           clean = fault-none k none ne
 
-          searchable-of : length (f .images) ≡ maxImages → Searchable (frameOf f k) (f .images) clauses
+          searchable-of : length (f .images) ≡ maxImages → Searchable (frameOf f k) (f .images) (clausesOf clauses)
           searchable-of size =
               let r = rows f clauses k clean in
               let fits = formula-passes f clauses (r .0) .0 in
@@ -147,8 +146,8 @@ module _ (f : Formula) (clauses : ClauseSlices) where
                       proper = permutation-passes (f .variables)
                           (permutationsIn (f .variables) (f .permutations) (f .images)) (r .1) .1;
                     };
-                few-clauses = le-trans (clauses-le (clauses .positive) (clauses .negative))
-                    (le-trans (le-of-eq (fits .positive-length)) (fits .few-clauses));
+                few-clauses = le-trans (le-of-eq (fits-count (f .variables) (f .clauses) clauses fits))
+                    (fits .few-clauses);
                 ready = subst Ready (sym (framed-is k (r .0))) (ready-of-faults f clauses k clean);
                 some = lent-of-faults f clauses k clean;
                 most = le-trans (le-of-eq room) (lent-few slots);
@@ -156,11 +155,11 @@ module _ (f : Formula) (clauses : ClauseSlices) where
 
           -- what `start` requires
           pub startable-of : length (f .images) ≡ maxImages
-              → Searchable (frameOf f k) (f .images) clauses × Lends k slots
+              → Searchable (frameOf f k) (f .images) (clausesOf clauses) × Lends k slots
           startable-of size = (searchable-of size, subst (λ j. Lends j slots) (sym room) (lent-room slots))
 
           pub searched-of : (q : Reply) (r : Found) (m : SlotSlices) → (replyOfFound r ≡ q) × (r .point ≡ pointIn q)
-              → Ended (framed (frameOf f k) (f .images) clauses) k slots [] (slot (f .target) 0 0 ∷ []) q m
+              → Ended (framed (frameOf f k) (f .images) (clausesOf clauses)) k slots [] (slot (f .target) 0 0 ∷ []) q m
               → Searched f clauses slots r m
           searched-of q r m same e =
               let lent = capacity slots in

@@ -5,7 +5,7 @@ use Prim.Native.Nat.{ℕ, _-_, _^_, _≤_, _<_}
 use native.Mathlib.Nat.{le-trans}
 use native.Mathlib.Omega.{arith}
 use lib.ListN.{length, length-replicate}
-use Rattle.point_slices.specs.Slices.{pointsOf, clauseSlices, slotSlices}
+use Rattle.point_slices.specs.Slices.{pointsOf, slotSlices, lentClauses}
 use Rattle.point_slices.specs.Laws.SliceLaws.{points-blank}
 use Rattle.permutation_coverage.specs.Laws.Coverage.{Imaged}
 use Rattle.permutation_coverage.specs.Laws.CoverageLaws.{imaged-none}
@@ -24,7 +24,7 @@ use Rattle.search_loop.proofs.explore.Tie as tie
 
 abbrev Inv-loop : tie.InvT-loop
 Inv-loop g images positive negative points₀ falsified₀ depths₀ links₀ by moved₀ seen₀ q₀ points falsified depths links moved seen q =
-    Exploring g images (clauseSlices positive negative) (slotSlices points₀ falsified₀ depths₀) q₀ (slotSlices points falsified depths) links q
+    Exploring g images (lentClauses positive negative) (slotSlices points₀ falsified₀ depths₀) q₀ (slotSlices points falsified depths) links q
     × SameSizes points₀ falsified₀ depths₀ links₀ points falsified depths links
     × (length moved ≡ maxPermutations) × Imaged (g .lookup .variables) (g .lookup .permutations) images seen (pointsOf moved)
 
@@ -41,7 +41,7 @@ loop-holds c =
     )
 
 -- there are slots at which the search stands, no more than can be lent
-midway : (c : tie.At-loop Inv-loop μ-loop) → let a = c .before .before .before .before .before .before .before .before .before .args in Midway (framed (a .g) (a .images .now) (clauseSlices (a .positive .now) (a .negative .now))) (a .g .room) (slotSlices (c .loop .points) (c .loop .falsified) (c .loop .depths)) (c .loop .position)
+midway : (c : tie.At-loop Inv-loop μ-loop) → let a = c .before .before .before .before .before .before .before .before .before .args in Midway (framed (a .g) (a .images .now) (lentClauses (a .positive .now) (a .negative .now))) (a .g .room) (slotSlices (c .loop .points) (c .loop .falsified) (c .loop .depths)) (c .loop .position)
 midway c = exploring-midway (c .loop .inv .0) (c .before .before .before .before .before .before .before .before .before .pre .2)
 
 few : (c : tie.At-loop Inv-loop μ-loop) → c .loop .position .filled ≤ c .before .before .before .before .before .before .before .before .before .args .g .room

@@ -1,7 +1,8 @@
 -- Many steps of the search, from any slot on: the contract of `explore`. Assumes nothing.
 use mathlib.Core.List.{List}
 use Prim.Native.Nat.{ℕ, _<_}
-use Rattle.point_slices.specs.Slices.{ClauseSlices, SlotSlices}
+use Rattle.points.specs.Points.{Clause}
+use Rattle.point_slices.specs.Slices.{SlotSlices}
 use Rattle.formula.specs.Problem.{Problem}
 use Rattle.formula.specs.Reply.{Reply}
 use Rattle.search_theory.specs.Walk.{Slot}
@@ -24,14 +25,14 @@ module _ (pb : Problem) (capacity : ℕ) where
       → Ended pb capacity old p w r m
 
 -- the loop over the slots: it has come to the position q, and the links are an index of the points filled
-pub record Exploring (g : Frame) (images : List ℕ) (clauses : ClauseSlices) (m₀ : SlotSlices) (q₀ : Position)
+pub record Exploring (g : Frame) (images : List ℕ) (clauses : List Clause) (m₀ : SlotSlices) (q₀ : Position)
     (m : SlotSlices) (links : List ℕ) (q : Position) : Type 0 where
   pub walking : Walking (framed g images clauses) (g .room) m₀ q₀ m q
   pub indexed : SlotsIndexed g m links (q .filled)
 
 -- what exploring from a position comes to, with the point x processed last; it pauses nowhere but where more slots can
 -- be lent than have heads
-abbrev pub Explores : Frame → List ℕ → ClauseSlices → SlotSlices → Position → Stage → ℕ → SlotSlices → Type 0
+abbrev pub Explores : Frame → List ℕ → List Clause → SlotSlices → Position → Stage → ℕ → SlotSlices → Type 0
 Explores g images clauses m₀ q₀ (Concluded a) x m = Concludes (framed g images clauses) (g .room) m₀ q₀
     (replyOfConclusion x a) m
 Explores g images clauses m₀ q₀ (Paused q) x m = Walking (framed g images clauses) (g .room) m₀ q₀ m q

@@ -10,8 +10,9 @@ use native.Mathlib.Omega.{arith}
 use lib.Dec.{ltb}
 use lib.ListN.{length, length-append}
 use borrow.Author.Tests.{ltb-true, lt-ltb}
+use Rattle.points.specs.Points.{Clause}
 use Rattle.math.specs.Laws.ListLaws.{and-split, and-join}
-use Rattle.point_slices.specs.Slices.{ClauseSlices, SlotSlices}
+use Rattle.point_slices.specs.Slices.{SlotSlices}
 use Rattle.formula.specs.Problem.{Problem}
 use Rattle.formula.specs.Reply.{Reply, unsatisfiable}
 use Rattle.search_step.specs.declared.Conclusion.{Conclusion}
@@ -93,7 +94,7 @@ module _ (pb : Problem) (capacity : ℕ) where
 
 -- ---- the loop with its index
 
-module _ {g : Frame} {images : List ℕ} {clauses : ClauseSlices} {m₀ : SlotSlices} {q₀ : Position} where
+module _ {g : Frame} {images : List ℕ} {clauses : List Clause} {m₀ : SlotSlices} {q₀ : Position} where
   pub exploring-begins : {links : List ℕ} → Linked g m₀ links (q₀ .filled)
       → Exploring g images clauses m₀ q₀ m₀ links q₀
   exploring-begins l = record {

@@ -6,9 +6,10 @@ use Prim.Native.Nat.{ℕ, _^_, _≤_, _<_}
 use native.Mathlib.Nat.{le-trans, le-of-eq}
 use native.Mathlib.Omega.{arith}
 use lib.ListN.{length, take}
+use Rattle.points.specs.Points.{Clause}
 use Rattle.math.specs.Laws.ListLaws.{map-out}
 use Rattle.math.specs.Lists.{_∈_, Distinct}
-use Rattle.point_slices.specs.Slices.{ClauseSlices, SlotSlices}
+use Rattle.point_slices.specs.Slices.{SlotSlices}
 use Rattle.formula.specs.Limits.{maxSlots}
 use Rattle.formula.specs.Problem.{Problem}
 use Rattle.formula.specs.Reply.{Reply}
@@ -53,7 +54,7 @@ headedBy heads g =
       target = g .target;
     }
 
-module _ (g : Frame) (images : List ℕ) (clauses : ClauseSlices) (ok : Searchable g images clauses) where
+module _ (g : Frame) (images : List ℕ) (clauses : List Clause) (ok : Searchable g images clauses) where
   abbrev pb : Problem
   pb = framed g images clauses
 

@@ -4,7 +4,7 @@ use native.Mathlib.Omega.{arith}
 use lib.ListN.{getD, length-set}
 use Rattle.points.specs.Laws.Contracts.{clauseOf}
 use Rattle.point_slices.specs.Laws.SliceLaws.{falsified-le}
-use Rattle.point_slices.specs.Slices.{slotSlices, clauseSlices, clausesOf}
+use Rattle.point_slices.specs.Slices.{slotSlices, lentClauses}
 use Rattle.search_step.specs.Laws.SteppingLaws.{Read, step-met, read-fillable, read-below, read-room, read-goes}
 use Rattle.search_step.specs.Laws.SteppingLaws.{read-stuck}
 use borrow.Author.Needs.{needs}
@@ -26,7 +26,7 @@ returns c = (λ old p w st. step-met _ _ _ (c .before .before .before .before .b
 cast-stored : tie.Need-cast-stored
 cast-stored c =
     let a = c .before .before .before .before .before .before .before .before .before .before .before .before .before .args in
-    omega (arith, c .before .first-falsified .ensures, falsified-le (clausesOf (clauseSlices (a .positive .now) (a .negative .now))) (c .before .before .before .point-at .result) 0, c .before .before .before .before .before .before .before .before .before .before .before .before .before .pre .0 .few-clauses)
+    omega (arith, c .before .first-falsified .ensures, falsified-le (lentClauses (a .positive .now) (a .negative .now)) (c .before .before .before .point-at .result) 0, c .before .before .before .before .before .before .before .before .before .before .before .before .before .pre .0 .few-clauses)
 
 clause-at-requires : tie.Need-clause-at-requires
 clause-at-requires c κs = search needs
@@ -37,7 +37,7 @@ listed-requires c κs = search needs
 -- what is known when the flips are tried
 read : (c : tie.After-listed)
     → let a = c .before .before .before .before .before .before .before .before .before .before .before .before .before .before .before .args in
-    Read (a .g) (a .images .now) (clauseSlices (a .positive .now) (a .negative .now)) (c .before .before .before .before .before .before .before .before .before .before .before .before .before .before .before .pre .0) (slotSlices (a .points .now) (a .falsified .now) (a .depths .now)) (a .position)
+    Read (a .g) (a .images .now) (lentClauses (a .positive .now) (a .negative .now)) (c .before .before .before .before .before .before .before .before .before .before .before .before .before .before .before .pre .0) (slotSlices (a .points .now) (a .falsified .now) (a .depths .now)) (a .position)
     (record { point = c .before .before .before .before .before .point-at .result; depth = getD (a .depths .now) (a .position .at) 0 }) (c .before .before .before .first-falsified .result) (c .listed .result) (clauseOf (c .before .clause-at .result))
 read c =
     record {

@@ -4,7 +4,7 @@ use mathlib.Core.Path.{_≡_}
 use mathlib.Core.List.{List, _++_}
 use Prim.Native.Nat.{ℕ, _+_, _*_, _≤_}
 use lib.ListN.{length, getD}
-use Rattle.points.specs.Points.{numbered}
+use Rattle.points.specs.Points.{Clause, numbered}
 use Rattle.permutation_coverage.specs.Laws.Coverage.{Permuting, Imaged}
 use Rattle.formula.specs.Limits.{maxVariables, maxClauses, maxPermutations, maxSlots}
 use Rattle.formula.specs.Problem.{Problem}
@@ -16,7 +16,7 @@ use Rattle.search_step.specs.declared.Position.{Position}
 use Rattle.search_step.specs.declared.Step.{Step}
 use Rattle.search_step.specs.declared.Step.the-variants.{Ends, Goes}
 use Rattle.search_expansion.specs.Laws.Filling.{listedIn, SlotsIndexed}
-use Rattle.point_slices.specs.Slices.{ClauseSlices, clausesOf, SlotSlices}
+use Rattle.point_slices.specs.Slices.{SlotSlices}
 use Rattle.search_expansion.specs.Laws.Memory.{Holds}
 use Rattle.search_theory.specs.Laws.Invariants.{Ready, Invariants}
 use Rattle.search_theory.specs.Walk.{Slot, state, Walks}
@@ -27,23 +27,23 @@ replyOfConclusion x (Satisfiable d filled) = satisfiable x d filled
 replyOfConclusion x (Unsatisfiable filled) = unsatisfiable filled
 replyOfConclusion x (Unknown b filled) = unknown b filled
 
--- the problem that the frame, the images and the clause slices make
-abbrev pub framed : Frame → List ℕ → ClauseSlices → Problem
+-- the problem that the frame, the images and the clauses make
+abbrev pub framed : Frame → List ℕ → List Clause → Problem
 framed g images clauses =
     record {
       variables = g .lookup .variables;
-      total = length (clauses .positive);
+      total = length clauses;
       target = g .target;
       permutations = listedIn g images;
-      clauses = numbered (clausesOf clauses);
+      clauses = numbered clauses;
     }
 
 -- what is known of it once refusals 10 to 13 have passed
-pub record Searchable (g : Frame) (images : List ℕ) (clauses : ClauseSlices) : Type 0 where
+pub record Searchable (g : Frame) (images : List ℕ) (clauses : List Clause) : Type 0 where
   pub few : g .lookup .variables ≤ maxVariables
   pub few-permutations : g .lookup .permutations ≤ maxPermutations
   pub permuting : Permuting (g .lookup .variables) (g .lookup .permutations) images
-  pub few-clauses : length (clausesOf clauses) ≤ maxClauses
+  pub few-clauses : length clauses ≤ maxClauses
   pub ready : Ready (framed g images clauses)
   pub some : 1 ≤ g .room
   pub most : g .room ≤ maxSlots

@@ -19,7 +19,7 @@ use Rattle.math.specs.Laws.QueueLaws.{length-snoc, length-moved, map-moved}
 use Rattle.math.specs.Laws.SplitLaws.{map-append}
 use Rattle.points.specs.Points.{Clause, pointDigits, distance, listed, variables, Numbered, numbered, SatisfiesAll}
 use Rattle.points.specs.Points.{FirstFalsified, firstFalsified, numberOf}
-use Rattle.point_slices.specs.Slices.{noLiterals, ClauseSlices, clausesOf, SlotSlices}
+use Rattle.point_slices.specs.Slices.{noLiterals, SlotSlices}
 use Rattle.point_theory.specs.Laws.Distance.{distance-wider}
 use Rattle.formula.specs.Limits.{maxSlots}
 use Rattle.formula.specs.Problem.{Problem}
@@ -83,12 +83,9 @@ number-stored old p w s c i m h n =
 
 -- ---- one step
 
-module _ (g : Frame) (images : List ℕ) (clauses : ClauseSlices) (ok : Searchable g images clauses) where
+module _ (g : Frame) (images : List ℕ) (clauses : List Clause) (ok : Searchable g images clauses) where
   abbrev pb : Problem
   pb = framed g images clauses
-
-  abbrev cs : List Clause
-  cs = clausesOf clauses
 
   -- a slot is taken, at the front of those that wait, and its point falsifies a clause first, the one of that number
   pub record Taken (old : SlotSlices) (p w : List Slot) (m₀ : SlotSlices) (q : Position) (from : Visit) (number : ℕ)
@@ -100,7 +97,7 @@ module _ (g : Frame) (images : List ℕ) (clauses : ClauseSlices) (ok : Searchab
     pub point : from .point ≡ taken .point
     pub depth : from .depth ≡ taken .depth
     pub first : FirstFalsified (pb .clauses) (taken .point) falsified
-    pub place : falsified .clause ≡ getD cs (number - 1) noLiterals
+    pub place : falsified .clause ≡ getD clauses (number - 1) noLiterals
     pub stands : Stands pb (g .room) old p (taken ∷ rest) m₀ q
     pub holds : Holds old ((p ++ withNumber taken falsified ∷ []) ++ rest) (numberedIn (q .at) number m₀)
 
@@ -112,7 +109,7 @@ module _ (g : Frame) (images : List ℕ) (clauses : ClauseSlices) (ok : Searchab
         omega (arith, st .processed, st .number)
 
     module _ (x number : ℕ) (read : x ≡ nextPoint m₀ q)
-        (found : number ≡ numberOf (firstFalsified (numbered cs) x)) (lt : q .at < q .filled) where
+        (found : number ≡ numberOf (firstFalsified (numbered clauses) x)) (lt : q .at < q .filled) where
       -- the point read is the first waiting slot's
       point-of : (s : Slot) (w : List Slot) → Stands pb (g .room) old p (s ∷ w) m₀ q → x ≡ s .point
       point-of s w st = read ∙ slot-read (λ (s : Slot). s .point) p w s (old .points) (m₀ .points) (q .at)
@@ -138,7 +135,7 @@ module _ (g : Frame) (images : List ℕ) (clauses : ClauseSlices) (ok : Searchab
             slots = p ++ s ∷ w;
             holds = st .holds;
             walks = subst (λ r. Walks pb (g .room) (state p (s ∷ w)) r (p ++ s ∷ w)) e
-                (met (subst (SatisfiesAll (pb .clauses)) same (number-none x cs number found z)));
+                (met (subst (SatisfiesAll (pb .clauses)) same (number-none x clauses number found z)));
           }
 
       pub taken-of : (w : List Slot) (d : ℕ) → (number ≡ 0 → ⊥) → d ≡ getD (m₀ .depths) (q .at) 0
@@ -147,7 +144,7 @@ module _ (g : Frame) (images : List ℕ) (clauses : ClauseSlices) (ok : Searchab
       taken-of [] d ne deep st = absurd (one-waits lt st)
       taken-of (s ∷ w) d ne deep st =
           let same = point-of s w st in
-          let f = number-found x cs number found ne in
+          let f = number-found x clauses number found ne in
           record {
             taken = s;
             rest = w;
@@ -199,11 +196,11 @@ module _ (g : Frame) (images : List ℕ) (clauses : ClauseSlices) (ok : Searchab
         )
 
     -- the variables of the clause: a set of variables below n
-    clause-listed : (c : Clause) (s : ℕ) → c ≡ getD cs (number - 1) noLiterals → s ≡ listed c
+    clause-listed : (c : Clause) (s : ℕ) → c ≡ getD clauses (number - 1) noLiterals → s ≡ listed c
         → s ≡ listed (t .falsified .clause)
     clause-listed c s e l = l ∙ ap listed (e ∙ sym (t .place))
 
-    pub taken-below : (c : Clause) (s : ℕ) → c ≡ getD cs (number - 1) noLiterals → s ≡ listed c
+    pub taken-below : (c : Clause) (s : ℕ) → c ≡ getD clauses (number - 1) noLiterals → s ≡ listed c
         → s < 2 ^ g .lookup .variables
     unfolding listed
     taken-below c s e l =
@@ -221,7 +218,7 @@ module _ (g : Frame) (images : List ℕ) (clauses : ClauseSlices) (ok : Searchab
           (variables (g .lookup .variables) (t .falsified .clause)) (t .rest) (ended enough waiting)
 
     pub flipped-of : {enough : Bool} {filled′ : ℕ} {m : SlotSlices} (c : Clause) (s : ℕ)
-        → c ≡ getD cs (number - 1) noLiterals → s ≡ listed c
+        → c ≡ getD clauses (number - 1) noLiterals → s ≡ listed c
         → Advances (pb .permutations) (g .room) from (members (g .lookup .variables) s) (q .filled)
         (numberedIn (q .at) number m₀) enough [] filled′ m → Flipped enough filled′ m
     unfolding variables
@@ -297,9 +294,9 @@ module _ (g : Frame) (images : List ℕ) (clauses : ClauseSlices) (ok : Searchab
   pub record Read (m₀ : SlotSlices) (q : Position) (from : Visit) (number s : ℕ) (c : Clause) : Type 0 where
     pub point-read : from .point ≡ nextPoint m₀ q
     pub depth-read : from .depth ≡ getD (m₀ .depths) (q .at) 0
-    pub number-read : number ≡ numberOf (firstFalsified (numbered cs) (from .point))
+    pub number-read : number ≡ numberOf (firstFalsified (numbered clauses) (from .point))
     pub unsatisfied : number ≡ 0 → ⊥
-    pub clause-read : c ≡ getD cs (number - 1) noLiterals
+    pub clause-read : c ≡ getD clauses (number - 1) noLiterals
     pub listed-read : s ≡ listed c
 
   module _ {m₀ : SlotSlices} {q : Position} {from : Visit} {number s : ℕ} {c : Clause} (lt : q .at < q .filled)

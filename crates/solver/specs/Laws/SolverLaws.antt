@@ -28,7 +28,7 @@ use Rattle.search.specs.declared.Outcome.{Outcome}
 use Rattle.search.specs.declared.Outcome.the-variants.{Unsatisfiable}
 use Rattle.certificate.specs.Writer.{lengthNeeded, writeReply, writeOutput}
 use Rattle.checker.specs.Checker.{checkReply}
-use Rattle.claims.specs.Claim.{Sheet, from-text, by-value, formulaIn, clausesIn, problemIn}
+use Rattle.claims.specs.Claim.{Sheet, from-text, by-value, formulaIn, slicesIn, problemIn}
 use Rattle.claims.specs.Claim.{SearchAnswers, writerReply, writerOutput, Certified}
 use Rattle.claims.specs.Laws.Theorem.{claim}
 use Rattle.solver.specs.declared.Solution.{Solution}
@@ -77,7 +77,7 @@ answered : (s : Sheet) (slots : SlotSlices) (a : Reply) → sheetReply s (capaci
 unfolding sheetReply readReply
 answered (from-text text clauses) slots a e ok =
     let w = read-then (reading text (clauseRoom clauses))
-    (searchReply (formulaIn (from-text text clauses)) (clausesIn (from-text text clauses)) (capacity slots)) a e ok in
+    (searchReply (formulaIn (from-text text clauses)) (slicesIn (from-text text clauses)) (capacity slots)) a e ok in
     record { readable = w .0; reply = w .1; accepted = ok }
 answered (by-value f clauses) slots a e ok = record { readable = tt; reply = e; accepted = ok }
 
@@ -105,13 +105,13 @@ module _ (s : Sheet) (slots : SlotSlices) (filled : ℕ) (a : SearchAnswers s sl
 
     -- a certificate that is written has that length, there was room for it, and it is accepted
     pub written-accepted : (size : ℕ) → writerReply s slots filled out ≡ written size
-        → (size ≤ length out) × (checkReply (formulaIn s) (clausesIn s)
+        → (size ≤ length out) × (checkReply (formulaIn s) (slicesIn s)
         (take size (writerOutput s slots filled out)) ≡ accepted) × (drop size (writerOutput s slots filled out)
         ≡ drop size out)
     written-accepted size e = by (leb needed (length out)) refl
       where
         by : (b : Bool) → leb needed (length out) ≡ b
-            → (size ≤ length out) × (checkReply (formulaIn s) (clausesIn s)
+            → (size ≤ length out) × (checkReply (formulaIn s) (slicesIn s)
             (take size (writerOutput s slots filled out)) ≡ accepted)
             × (drop size (writerOutput s slots filled out) ≡ drop size out)
         by false q = absurd (written-not-refused size 19 needed
@@ -120,7 +120,7 @@ module _ (s : Sheet) (slots : SlotSlices) (filled : ℕ) (a : SearchAnswers s sl
             let le = leb-true needed (length out) q in
             let both : written size ≡ written needed = sym e ∙ certified .answers le in
             let same : needed ≡ size = cc in
-            subst (λ (n : ℕ). (n ≤ length out) × (checkReply (formulaIn s) (clausesIn s)
+            subst (λ (n : ℕ). (n ≤ length out) × (checkReply (formulaIn s) (slicesIn s)
             (take n (writerOutput s slots filled out)) ≡ accepted) × (drop n (writerOutput s slots filled out)
             ≡ drop n out)) same
             (le, certified .checks le, certified .behind le)
@@ -174,7 +174,7 @@ module _ (s : Sheet) (slots : SlotSlices) (t : SolverReply) (out₀ out₁ : Lis
             λ size e.
             let w = certificate-of (written size) e in
             let c = written-accepted s slots (w .0) (w .1) out₀ size (w .2) in (
-              subst (λ o. checkReply (formulaIn s) (clausesIn s) (take size o) ≡ accepted) (sym (w .3))
+              subst (λ o. checkReply (formulaIn s) (slicesIn s) (take size o) ≡ accepted) (sym (w .3))
                   (c .1),
               subst (λ o. drop size o ≡ drop size out₀) (sym (w .3)) (c .2),
             );
@@ -183,7 +183,7 @@ module _ (s : Sheet) (slots : SlotSlices) (t : SolverReply) (out₀ out₁ : Lis
             let w = certificate-of (refused code place) e in
             let c = refused-short s slots (w .0) (w .1) out₀ code place (w .2) in
             (c .0, c .1, w .3 ∙ c .2);
-        refutes = claim .refutes (formulaIn s) (clausesIn s);
+        refutes = claim .refutes (formulaIn s) (slicesIn s);
         bound = λ b filled e. claim .bound s slots b filled (answers (unknown b filled) e unknown-stands);
         enough-room = λ b filled few p q r e. claim .enough-room s slots b filled few p q r
             (answers (unknown b filled) e unknown-stands);
@@ -345,7 +345,7 @@ module _ (f : Formula) (clauses : ClauseSlices) (slots₀ : SlotSlices) (out : L
 -- ---- sheets that say the same are solved alike
 
 module _ (s t : Sheet) (reading-same : readingOf s ≡ readingOf t) (formula-same : formulaIn s ≡ formulaIn t)
-    (clauses-same : clausesIn s ≡ clausesIn t) (slots₀ : SlotSlices) (out : List ℕ) where
+    (clauses-same : slicesIn s ≡ slicesIn t) (slots₀ : SlotSlices) (out : List ℕ) where
   abbrev lent : ℕ
   lent = capacity slots₀
 
@@ -395,7 +395,7 @@ module _ (text : List ℕ) (clauses₀ : ClauseSlices) (slots₀ : SlotSlices) (
   unfolding replyOfSolution sheetReply sheetSlices certificateReply certificateOutput pointIn
   refused-solved code place e =
       let reply : refused code place ≡ sheetReply read-sheet (capacity slots₀) =
-      ap (λ (a : Reply). afterReading a a (searchReply (formulaIn read-sheet) (clausesIn read-sheet)
+      ap (λ (a : Reply). afterReading a a (searchReply (formulaIn read-sheet) (slicesIn read-sheet)
       (capacity slots₀))) e in
       let certificate : none ≡ certificateReply read-sheet slots₀ out = ap
       (λ (a : Reply). onRefutation a none (λ filled. some (writerReply read-sheet slots₀ filled out))) reply in
@@ -406,7 +406,7 @@ module _ (text : List ℕ) (clauses₀ : ClauseSlices) (slots₀ : SlotSlices) (
         certificate = certificate;
         point = ap pointIn reply;
         slots = ap (λ (a : Reply). afterReading a slots₀
-            (searchSlices (formulaIn read-sheet) (clausesIn read-sheet) slots₀)) e;
+            (searchSlices (formulaIn read-sheet) (slicesIn read-sheet) slots₀)) e;
         output = output;
         promises = promised read-sheet slots₀ (replyOfSolution 0 (Refused code place)) out out reply certificate output;
       }

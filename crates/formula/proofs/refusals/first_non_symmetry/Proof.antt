@@ -2,7 +2,7 @@
 use Prim.Native.Nat.{_-_}
 use borrow.Author.Needs.{needs}
 use Rattle.points.specs.Points.{numbered}
-use Rattle.point_slices.specs.Slices.{clausesOf, clauseSlices}
+use Rattle.point_slices.specs.Slices.{lentClauses}
 use Rattle.permutation_theory.specs.Permutations.{keeps}
 use Rattle.permutation_images.specs.Laws.LoopLaws.{listed-movable, Testing, testing-begins, testing-whole}
 use Rattle.permutation_images.specs.Laws.LoopLaws.{testing-stops, testing-goes-on, testing-ends}
@@ -11,7 +11,7 @@ use Rattle.formula.proofs.refusals.first_non_symmetry.Tie as tie
 
 abbrev Inv-loop : tie.InvT-loop
 Inv-loop guesses images n permutations positive negative size end at₀ at =
-    Testing (keeps (numbered (clausesOf (clauseSlices positive negative)))) n permutations images at
+    Testing (keeps (numbered (lentClauses positive negative))) n permutations images at
 
 abbrev μ-loop : tie.MeasureT-loop
 μ-loop guesses images n permutations positive negative size end at₀ at = permutations - at
