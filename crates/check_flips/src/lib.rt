@@ -124,7 +124,7 @@ fn first_uncovered(
     let mut i = 0;
     while i < count {
         let x = point_at(points, i);
-        move_images(images, g.variables, g.permutations, &mut moved, seen, x);
+        move_images(g.variables, g.permutations, images, &mut moved, seen, x);
         seen = x;
         let fine = flips_pass(
             g,

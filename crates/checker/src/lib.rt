@@ -46,11 +46,11 @@ fn bodies_refusal(c: Contents, positive: &[u64], negative: &[u64], file: &[u8]) 
     let second = c.points_at as usize;
     let third = c.numbers_at as usize;
     let images = &file[first..second];
-    let eleven = permutations_refusal(images, n, permutations);
+    let eleven = permutations_refusal(n, permutations, images);
     let Checked::Passed = eleven else {
         return eleven;
     };
-    let twelve = symmetry_refusal(images, n, permutations, positive, negative);
+    let twelve = symmetry_refusal(n, permutations, images, positive, negative);
     let Checked::Passed = twelve else {
         return twelve;
     };

@@ -175,7 +175,7 @@ pub fn read_permutation(bytes: &[u8], n: u32, images: &mut [u8], at: usize) -> b
     if !stored {
         return false;
     }
-    is_permutation(&images[at..end], n)
+    is_permutation(n, &images[at..end])
 }
 
 // What comes of a target line: on with its target, or a refusal.

@@ -87,7 +87,7 @@ pub fn formula_refusal(f: Formula, positive: &[u64], negative: &[u64]) -> Checke
 
 // The number, from 1, of the first of the listed that is no permutation; 0 if all are. Refusals 10 and 11 see to what
 // it requires.
-fn first_non_permutation(images: &[u8], n: u32, permutations: u32) -> usize
+fn first_non_permutation(n: u32, permutations: u32, images: &[u8]) -> usize
     requires { ⌜ (n ≤ maxVariables) × (permutations * n ≤ length (now images)) ⌝ }
     ensures { λ r. ⌜ r ≡ firstFailing (isPermutation n) (permutationsIn n permutations (now (images .entry))) ⌝ }
 {
@@ -95,8 +95,8 @@ fn first_non_permutation(images: &[u8], n: u32, permutations: u32) -> usize
     let end = permutations as usize;
     let mut i = 0;
     while i < end {
-        let e = permutation_at(images, size, i);
-        let fine = is_permutation(e, n);
+        let e = permutation_at(size, images, i);
+        let fine = is_permutation(n, e);
         if !fine {
             return i + 1;
         }
@@ -106,7 +106,7 @@ fn first_non_permutation(images: &[u8], n: u32, permutations: u32) -> usize
 }
 
 // Refusal 11, of `permutations` permutations of n bytes each. Refusal 10, or 15, sees to what it requires.
-pub fn permutations_refusal(images: &[u8], n: u32, permutations: u32) -> Checked
+pub fn permutations_refusal(n: u32, permutations: u32, images: &[u8]) -> Checked
     requires { ⌜ (n ≤ maxVariables) × (permutations ≤ maxPermutations → permutations * n ≤ length (now images)) ⌝ }
     ensures { λ r. ⌜ faultOf r ≡ permutationFault n (permutationsIn n permutations (now (images .entry))) ⌝ }
 {
@@ -116,7 +116,7 @@ pub fn permutations_refusal(images: &[u8], n: u32, permutations: u32) -> Checked
             place: 17,
         };
     }
-    let k = first_non_permutation(images, n, permutations);
+    let k = first_non_permutation(n, permutations, images);
     if k == 0 {
         Checked::Passed
     } else {
@@ -127,12 +127,12 @@ pub fn permutations_refusal(images: &[u8], n: u32, permutations: u32) -> Checked
 // The number, from 1, of the first of the listed permutations that does not keep the clauses; 0 if all do, whatever the
 // guesses are.
 fn first_non_symmetry(
-    guesses: &[u32],
-    images: &[u8],
     n: u32,
     permutations: u32,
+    images: &[u8],
     positive: &[u64],
     negative: &[u64],
+    guesses: &[u32],
 ) -> usize
     requires { ⌜ Listed n permutations (now images) ⌝ }
     ensures { λ r. ⌜ r ≡ firstFailing (keeps (numbered (lentClauses (now (positive .entry)) (now (negative .entry)))))
@@ -142,8 +142,8 @@ fn first_non_symmetry(
     let end = permutations as usize;
     let mut at = 0;
     while at < end {
-        let e = permutation_at(images, size, at);
-        let kept = permutation_symmetry::keeps(e, guesses, positive, negative);
+        let e = permutation_at(size, images, at);
+        let kept = permutation_symmetry::keeps(e, positive, negative, guesses);
         if !kept {
             return at + 1;
         }
@@ -154,9 +154,9 @@ fn first_non_symmetry(
 
 // The same with guesses made once for all permutations: 32 KiB of the stack.
 fn guessed_non_symmetry(
-    images: &[u8],
     n: u32,
     permutations: u32,
+    images: &[u8],
     positive: &[u64],
     negative: &[u64],
 ) -> usize
@@ -165,17 +165,17 @@ fn guessed_non_symmetry(
         (permutationsIn n permutations (now (images .entry))) ⌝ }
 {
     let mut guesses = [0u32; ENTRIES];
-    make_guesses(&mut guesses, positive, negative);
-    first_non_symmetry(&guesses, images, n, permutations, positive, negative)
+    make_guesses(positive, negative, &mut guesses);
+    first_non_symmetry(n, permutations, images, positive, negative, &guesses)
 }
 
 // Refusal 12. For each permutation the image of each clause takes about one comparison where the guesses have it, and
 // never more than 16 and one with each clause: with 16 permutations and 4,096 clauses at most 16 · 4,096 · 4,112. No
 // permutation costs nothing. Refusals 10 and 11 see to what it requires.
 pub fn symmetry_refusal(
-    images: &[u8],
     n: u32,
     permutations: u32,
+    images: &[u8],
     positive: &[u64],
     negative: &[u64],
 ) -> Checked
@@ -186,7 +186,7 @@ pub fn symmetry_refusal(
     if permutations < 1 {
         return Checked::Passed;
     }
-    let k = guessed_non_symmetry(images, n, permutations, positive, negative);
+    let k = guessed_non_symmetry(n, permutations, images, positive, negative);
     if k == 0 {
         Checked::Passed
     } else {
@@ -203,9 +203,9 @@ pub fn problem_refusal(f: Formula, positive: &[u64], negative: &[u64]) -> Checke
         return ten;
     };
     let images = f.images;
-    let eleven = permutations_refusal(&images, f.variables, f.permutations);
+    let eleven = permutations_refusal(f.variables, f.permutations, &images);
     let Checked::Passed = eleven else {
         return eleven;
     };
-    symmetry_refusal(&images, f.variables, f.permutations, positive, negative)
+    symmetry_refusal(f.variables, f.permutations, &images, positive, negative)
 }

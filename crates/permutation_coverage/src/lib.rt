@@ -22,7 +22,7 @@ pub struct Lookup {
 
 // The image stored at index i, flipped where the permutation of index i sends variable v: the image of the flipped
 // point (`image-flip`).
-fn flipped_image(images: &[u8], n: u32, moved: &[u64], i: usize, v: u32) -> Point
+fn flipped_image(n: u32, images: &[u8], moved: &[u64], i: usize, v: u32) -> Point
     requires { ⌜ Sends n i v (now images) ⌝ }
     ensures { λ r. ⌜ r ≡ flip (getD (pointsOf (now (moved .entry))) i 0) (getD (now (images .entry)) (i * n + v) 0 - 1)
         ⌝ }
@@ -34,7 +34,7 @@ fn flipped_image(images: &[u8], n: u32, moved: &[u64], i: usize, v: u32) -> Poin
 }
 
 // Turns the images of a point into those of the point with variable v flipped: one step for each permutation.
-fn flip_images(images: &[u8], n: u32, permutations: u32, moved: &mut [u64], v: u32)
+fn flip_images(n: u32, permutations: u32, images: &[u8], moved: &mut [u64], v: u32)
     requires { ⌜ Permuting n permutations (now images) × (permutations ≤ length (pointsOf (now moved))) × (v < n) ⌝ }
     ensures { λ _. ⌜ Turns n permutations (now (images .entry)) v (pointsOf (now (moved .entry)))
         (pointsOf (now (moved .exit))) ⌝ }
@@ -42,7 +42,7 @@ fn flip_images(images: &[u8], n: u32, permutations: u32, moved: &mut [u64], v: u
     let permutations = permutations as usize;
     let mut i = 0;
     while i < permutations {
-        let image = flipped_image(images, n, moved, i, v);
+        let image = flipped_image(n, images, moved, i, v);
         put_point(moved, i, image);
         i += 1;
     }
@@ -50,7 +50,7 @@ fn flip_images(images: &[u8], n: u32, permutations: u32, moved: &mut [u64], v: u
 
 // Turns the images of x into those of y: one step for each permutation and each variable in which they differ, which
 // are two where both were filled from one point.
-pub fn move_images(images: &[u8], n: u32, permutations: u32, moved: &mut [u64], x: Point, y: Point)
+pub fn move_images(n: u32, permutations: u32, images: &[u8], moved: &mut [u64], x: Point, y: Point)
     requires { ⌜ Permuting n permutations (now images) × Imaged n permutations (now images) x (pointsOf (now moved))
         × (y < 2 ^ n) ⌝ }
     ensures { λ _. ⌜ Imaged n permutations (now (images .entry)) y (pointsOf (now (moved .exit))) ⌝ }
@@ -58,7 +58,7 @@ pub fn move_images(images: &[u8], n: u32, permutations: u32, moved: &mut [u64], 
     let mut left = points::differing(x, y);
     let mut v = points::next_variable(left);
     while v < n {
-        flip_images(images, n, permutations, moved, v);
+        flip_images(n, permutations, images, moved, v);
         left = points::flip(left, v);
         v = points::next_variable(left);
     }
@@ -90,7 +90,7 @@ pub fn flip_covered(
     let permutations = g.permutations as usize;
     let mut i = 0;
     while i < permutations {
-        let image = flipped_image(images, n, moved, i, v);
+        let image = flipped_image(n, images, moved, i, v);
         if contains(n, points, links, g.heads, k, image) {
             return true;
         }

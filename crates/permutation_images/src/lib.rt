@@ -11,7 +11,7 @@ ghost use Rattle.permutation_theory.specs.Permutations.{isPermutation, moved, i
 ghost use Rattle.permutation_images.specs.Laws.Contracts.{Movable, fresh};
 
 // Whether v is one of 1 to n and not in the set of those seen.
-fn fresh(seen: Point, v: u32, n: u32) -> bool
+fn fresh(n: u32, seen: Point, v: u32) -> bool
     ensures { λ r. ⌜ r ≡ fresh n seen v ⌝ }
 {
     if v < 1 {
@@ -24,7 +24,7 @@ fn fresh(seen: Point, v: u32, n: u32) -> bool
 }
 
 // Whether the bytes are each of 1 to n exactly once. One step a byte. Refusal 10 sees to it that a point has n digits.
-pub fn is_permutation(e: &[u8], n: u32) -> bool
+pub fn is_permutation(n: u32, e: &[u8]) -> bool
     requires { ⌜ n ≤ pointDigits ⌝ }
     ensures { λ r. ⌜ r ≡ isPermutation n (record { images = now (e .entry) }) ⌝ }
 {
@@ -35,7 +35,7 @@ pub fn is_permutation(e: &[u8], n: u32) -> bool
     let mut i = 0;
     while i < e.len() {
         let v = e[i] as u32;
-        if !fresh(seen, v, n) {
+        if !fresh(n, seen, v) {
             return false;
         }
         seen = points::flip(seen, v - 1);
@@ -82,7 +82,7 @@ pub fn image_of_clause(e: &[u8], c: Clause) -> Clause
 }
 
 // The permutation of number i + 1 among those that lie in the bytes, n each.
-pub fn permutation_at(images: &[u8], n: usize, i: usize) -> &[u8]
+pub fn permutation_at(n: usize, images: &[u8], i: usize) -> &[u8]
     requires { ⌜ i * n + n ≤ length (now images) ⌝ }
     ensures { λ r. ⌜ now r ≡ take n (drop (i * n) (now (images .entry))) ⌝ }
 {

@@ -19,6 +19,9 @@ ghost use Rattle.permutation_theory.specs.Permutations.{sameClause};
 // How many entries the slice should have; with fewer there are fewer guesses. At most half of them hold one.
 pub const ENTRIES: usize = 8192;
 
+// How many entries in a row are for one clause.
+const TRIED: usize = 16;
+
 // Where the guesses for a clause begin: 15 entries and more follow. The factors differ, so that clauses over the same
 // variables begin apart, and are large, since the hashes of points of few digits are small.
 fn place_of(c: Clause) -> usize
@@ -44,12 +47,12 @@ fn stands_at(positive: &[u64], negative: &[u64], i: usize, c: Clause) -> bool
 
 // Whether a guess for the clause is right: then it is among those of the slices. At most 16 comparisons, one where the
 // first is right.
-pub fn guessed(guesses: &[u32], positive: &[u64], negative: &[u64], c: Clause) -> bool
+pub fn guessed(positive: &[u64], negative: &[u64], guesses: &[u32], c: Clause) -> bool
     ensures { λ r. ⌜ (r ≡ true → any (sameClause (clauseOf c))
         (lentClauses (now (positive .entry)) (now (negative .entry))) ≡ true) ⌝ }
 {
     let mut i = place_of(c);
-    let end = i + 16;
+    let end = i + TRIED;
     while i < end {
         let number = number_at(guesses, i);
         if number == 0 {
@@ -67,7 +70,7 @@ pub fn guessed(guesses: &[u32], positive: &[u64], negative: &[u64], c: Clause) -
 // Stores a guess for the clause at the first entry that is 0; where none of the 16 is, nothing is stored.
 fn put_guess(guesses: &mut [u32], c: Clause, number: u32) {
     let mut i = place_of(c);
-    let end = i + 16;
+    let end = i + TRIED;
     while i < end {
         let held = number_at(guesses, i);
         if held == 0 {
@@ -79,10 +82,10 @@ fn put_guess(guesses: &mut [u32], c: Clause, number: u32) {
 }
 
 // For how many clauses guesses are stored; those behind them are found by the scan.
-const GUESSED: usize = 4096;
+const GUESSED: usize = ENTRIES / 2;
 
 // Stores a guess for each of the first clauses: at most 16 steps a clause.
-pub fn make_guesses(guesses: &mut [u32], positive: &[u64], negative: &[u64]) {
+pub fn make_guesses(positive: &[u64], negative: &[u64], guesses: &mut [u32]) {
     let held = clause_count(positive, negative);
     let end = least(held, GUESSED);
     let mut i = 0;

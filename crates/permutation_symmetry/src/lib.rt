@@ -26,10 +26,10 @@ pub fn same_clause(c: Clause, d: Clause) -> bool
 }
 
 // Whether a clause is among those of the slices, whatever the guesses are. Where none is right, one step a clause.
-pub fn has_clause(guesses: &[u32], positive: &[u64], negative: &[u64], c: Clause) -> bool
+pub fn has_clause(positive: &[u64], negative: &[u64], guesses: &[u32], c: Clause) -> bool
     ensures { λ r. ⌜ r ≡ any (sameClause (clauseOf c)) (lentClauses (now (positive .entry)) (now (negative .entry))) ⌝ }
 {
-    if guessed(guesses, positive, negative, c) {
+    if guessed(positive, negative, guesses, c) {
         return true;
     }
     let end = clause_count(positive, negative);
@@ -46,7 +46,7 @@ pub fn has_clause(guesses: &[u32], positive: &[u64], negative: &[u64], c: Clause
 
 // Whether the image of each clause is among the clauses. For each clause an image, 2n steps, and about one comparison
 // where the guesses have it, never more than 16 and one a clause.
-pub fn keeps(e: &[u8], guesses: &[u32], positive: &[u64], negative: &[u64]) -> bool
+pub fn keeps(e: &[u8], positive: &[u64], negative: &[u64], guesses: &[u32]) -> bool
     requires { ⌜ Movable (now e) ⌝ }
     ensures { λ r. ⌜ r ≡ keeps (numbered (lentClauses (now (positive .entry)) (now (negative .entry))))
         (record { images = now (e .entry) }) ⌝ }
@@ -56,7 +56,7 @@ pub fn keeps(e: &[u8], guesses: &[u32], positive: &[u64], negative: &[u64]) -> b
     while i < end {
         let c = clause_at(positive, negative, i);
         let image = image_of_clause(e, c);
-        let kept = has_clause(guesses, positive, negative, image);
+        let kept = has_clause(positive, negative, guesses, image);
         if !kept {
             return false;
         }

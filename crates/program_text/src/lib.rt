@@ -1,7 +1,6 @@
 // The text that the program prints for a reply, put into lent bytes. Callers see to the room.
 use certificate_output::put_bytes;
 use formula::Formula;
-use points::Depth;
 use points::Point;
 use points::member;
 use search::Found;
@@ -125,7 +124,7 @@ fn put_unsatisfiable(out: &mut [u8], filled: u32) -> usize
 }
 
 // Puts the two lines of a search that had no room.
-fn put_unknown(out: &mut [u8], bound: Depth, filled: u32) -> usize
+fn put_unknown(out: &mut [u8], bound: u32, filled: u32) -> usize
     requires { ⌜ longestText ≤ length (now out) ⌝ }
     ensures { λ r. ⌜ Printed (unknownText bound filled) (now (out .entry)) r (now (out .exit)) ⌝ }
 {

@@ -21,7 +21,7 @@ ghost use Rattle.search.specs.Contract.{replyOfFound, Searched};
 pub enum Outcome {
     Satisfiable { distance: u32, filled: u32 },
     Unsatisfiable { filled: u32 },
-    Unknown { bound: Depth, filled: u32 },
+    Unknown { bound: u32, filled: u32 },
     Refused { code: u32, place: usize },
 }
 

@@ -80,7 +80,7 @@ pub fn explore(
             return Explored { stage, point: seen };
         }
         let x = point_at(points, position.at);
-        move_images(images, by.variables, by.permutations, &mut moved, seen, x);
+        move_images(by.variables, by.permutations, images, &mut moved, seen, x);
         seen = x;
         let step = process(
             g,

@@ -22,7 +22,7 @@ pub struct Position {
 pub enum Conclusion {
     Satisfiable { distance: u32, filled: u32 },
     Unsatisfiable { filled: u32 },
-    Unknown { bound: Depth, filled: u32 },
+    Unknown { bound: u32, filled: u32 },
 }
 
 // What processing one slot comes to: the search's answer, or how many slots are filled now.
@@ -91,6 +91,7 @@ pub fn process(
     if grown.enough {
         return Step::Goes { filled };
     }
+    let bound = d as u32;
     let filled = filled as u32;
-    Step::Ends(Conclusion::Unknown { bound: d, filled })
+    Step::Ends(Conclusion::Unknown { bound, filled })
 }

@@ -25,7 +25,7 @@ pub enum Solution {
     Satisfiable { distance: u32, filled: u32 },
     Unsatisfiable { filled: u32, size: usize },
     Uncertified { filled: u32, needed: usize },
-    Unknown { bound: Depth, filled: u32 },
+    Unknown { bound: u32, filled: u32 },
     Refused { code: u32, place: usize },
 }
 

@@ -12,10 +12,10 @@ use Rattle.permutation_coverage.proofs.flip_images.Statement.{statement
 use Rattle.permutation_coverage.proofs.flip_images.Tie as tie
 
 abbrev Inv-loop : tie.InvT-loop
-Inv-loop images n permutations moved₀ v size i₀ moved i = (length moved ≡ length moved₀) × Turning n permutations images v (pointsOf moved₀) i (pointsOf moved)
+Inv-loop n permutations images moved₀ v size i₀ moved i = (length moved ≡ length moved₀) × Turning n permutations images v (pointsOf moved₀) i (pointsOf moved)
 
 abbrev μ-loop : tie.MeasureT-loop
-μ-loop images n permutations moved₀ v size i₀ moved i = permutations - i
+μ-loop n permutations images moved₀ v size i₀ moved i = permutations - i
 
 loop-holds : tie.Need-loop-holds Inv-loop μ-loop
 loop-holds c = (refl, turning-begins _ _ _ _ _)

@@ -13,10 +13,10 @@ use Rattle.permutation_coverage.proofs.move_images.Statement.{statement
 use Rattle.permutation_coverage.proofs.move_images.Tie as tie
 
 abbrev Inv-loop : tie.InvT-loop
-Inv-loop images n permutations moved₀ x y left₀ v₀ moved left v = (length moved ≡ length moved₀) × Moving n permutations images y left v (pointsOf moved)
+Inv-loop n permutations images moved₀ x y left₀ v₀ moved left v = (length moved ≡ length moved₀) × Moving n permutations images y left v (pointsOf moved)
 
 abbrev μ-loop : tie.MeasureT-loop
-μ-loop images n permutations moved₀ x y left₀ v₀ moved left v = length (members n left)
+μ-loop n permutations images moved₀ x y left₀ v₀ moved left v = length (members n left)
 
 differing-requires : tie.Need-differing-requires Inv-loop μ-loop
 differing-requires c κs = search needs

@@ -13,10 +13,10 @@ use Rattle.permutation_images.proofs.is_permutation.Statement.{statemen
 use Rattle.permutation_images.proofs.is_permutation.Tie as tie
 
 abbrev Inv-loop : tie.InvT-loop
-Inv-loop e n seen₀ i₀ seen i = (i ≤ length e) × (arranged n 0 e ≡ arranged n seen (drop i e))
+Inv-loop n e seen₀ i₀ seen i = (i ≤ length e) × (arranged n 0 e ≡ arranged n seen (drop i e))
 
 abbrev μ-loop : tie.MeasureT-loop
-μ-loop e n seen₀ i₀ seen i = length e - i
+μ-loop n e seen₀ i₀ seen i = length e - i
 
 returns : tie.Need-returns Inv-loop μ-loop
 unfolding isPermutation

@@ -15,13 +15,13 @@ use Rattle.permutation_symmetry.proofs.keeps.Statement.{statement}
 use Rattle.permutation_symmetry.proofs.keeps.Tie as tie
 
 abbrev Inv-loop : tie.InvT-loop
-Inv-loop e guesses positive negative end i₀ i =
+Inv-loop e positive negative guesses end i₀ i =
     (end ≡ length (lentClauses positive negative))
     × (all (imageAmong (lentClauses positive negative) (record { images = e })) (lentClauses positive negative)
     ≡ all (imageAmong (lentClauses positive negative) (record { images = e })) (drop i (lentClauses positive negative)))
 
 abbrev μ-loop : tie.MeasureT-loop
-μ-loop e guesses positive negative end i₀ i = end - i
+μ-loop e positive negative guesses end i₀ i = end - i
 
 clause-count-requires : tie.Need-clause-count-requires Inv-loop μ-loop
 clause-count-requires c κs = search needs

@@ -8,10 +8,10 @@ use Rattle.formula.proofs.refusals.first_non_permutation.Statement.{sta
 use Rattle.formula.proofs.refusals.first_non_permutation.Tie as tie
 
 abbrev Inv-loop : tie.InvT-loop
-Inv-loop images n permutations size end i₀ i = Testing (isPermutation n) n permutations images i
+Inv-loop n permutations images size end i₀ i = Testing (isPermutation n) n permutations images i
 
 abbrev μ-loop : tie.MeasureT-loop
-μ-loop images n permutations size end i₀ i = permutations - i
+μ-loop n permutations images size end i₀ i = permutations - i
 
 permutation-at-requires : tie.Need-permutation-at-requires Inv-loop μ-loop
 permutation-at-requires c κs = search (needs, testing-whole)

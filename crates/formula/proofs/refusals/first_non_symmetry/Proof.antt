@@ -10,11 +10,11 @@ use Rattle.formula.proofs.refusals.first_non_symmetry.Statement.{statem
 use Rattle.formula.proofs.refusals.first_non_symmetry.Tie as tie
 
 abbrev Inv-loop : tie.InvT-loop
-Inv-loop guesses images n permutations positive negative size end at₀ at =
+Inv-loop n permutations images positive negative guesses size end at₀ at =
     Testing (keeps (numbered (lentClauses positive negative))) n permutations images at
 
 abbrev μ-loop : tie.MeasureT-loop
-μ-loop guesses images n permutations positive negative size end at₀ at = permutations - at
+μ-loop n permutations images positive negative guesses size end at₀ at = permutations - at
 
 permutation-at-requires : tie.Need-permutation-at-requires Inv-loop μ-loop
 permutation-at-requires c κs = search (needs, testing-whole)

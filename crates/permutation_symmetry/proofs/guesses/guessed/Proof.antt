@@ -7,10 +7,10 @@ use Rattle.permutation_symmetry.proofs.guesses.guessed.Statement.{state
 use Rattle.permutation_symmetry.proofs.guesses.guessed.Tie as tie
 
 abbrev Inv-loop : tie.InvT-loop
-Inv-loop guesses positive negative c i₀ end i = Unit {0}
+Inv-loop positive negative guesses c i₀ end i = Unit {0}
 
 abbrev μ-loop : tie.MeasureT-loop
-μ-loop guesses positive negative c i₀ end i = end - i
+μ-loop positive negative guesses c i₀ end i = end - i
 
 place-of-requires : tie.Need-place-of-requires Inv-loop μ-loop
 place-of-requires c κs = search needs

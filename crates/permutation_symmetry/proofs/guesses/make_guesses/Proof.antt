@@ -8,10 +8,10 @@ use Rattle.permutation_symmetry.proofs.guesses.make_guesses.Statement.{
 use Rattle.permutation_symmetry.proofs.guesses.make_guesses.Tie as tie
 
 abbrev Inv-loop : tie.InvT-loop
-Inv-loop guesses₀ positive negative held end i₀ guesses i = (length guesses ≡ length guesses₀) × (end ≤ 4096)
+Inv-loop positive negative guesses₀ held end i₀ guesses i = (length guesses ≡ length guesses₀) × (end ≤ 4096)
 
 abbrev μ-loop : tie.MeasureT-loop
-μ-loop guesses₀ positive negative held end i₀ guesses i = end - i
+μ-loop positive negative guesses₀ held end i₀ guesses i = end - i
 
 clause-count-requires : tie.Need-clause-count-requires Inv-loop μ-loop
 clause-count-requires c κs = search needs
