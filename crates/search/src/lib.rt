@@ -36,6 +36,7 @@ fn as_found(a: Answer) -> Found
     ensures { λ r. ⌜ (replyOfFound r ≡ replyOfAnswer a) × (r .point ≡ pointIn (replyOfAnswer a)) ⌝ }
 {
     let conclusion = a.conclusion;
+    let none = points::EMPTY;
     match conclusion {
         Conclusion::Satisfiable { distance, filled } => Found {
             answer: Outcome::Satisfiable {
@@ -46,14 +47,14 @@ fn as_found(a: Answer) -> Found
         },
         Conclusion::Unsatisfiable { filled } => Found {
             answer: Outcome::Unsatisfiable { filled: filled },
-            point: points::EMPTY,
+            point: none,
         },
         Conclusion::Unknown { bound, filled } => Found {
             answer: Outcome::Unknown {
                 bound: bound,
                 filled: filled,
             },
-            point: points::EMPTY,
+            point: none,
         },
     }
 }
