@@ -1,5 +1,4 @@
--- Document 01, 'Certificate': numbers as bytes, and how wide an entry of each body is. "Bodies follow without gaps" (C3)
--- is `joined` of math/specs/Numerals. Assumes nothing.
+-- Document 01, 'Certificate': numbers as bytes, and how wide an entry of each body is. Assumes nothing.
 use mathlib.Core.List.{List}
 use Prim.Native.Nat.{ℕ}
 use Rattle.math.specs.Numerals.{digitsOf, value, entries}

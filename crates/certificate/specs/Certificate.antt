@@ -1,7 +1,7 @@
 -- Document 01, 'Certificate': the bytes of a certificate, which files are well formed, and the reading of one. Assumes
 -- nothing.
 use mathlib.Core.Bool.{Bool, _&&_}
-use mathlib.Core.List.{List, [], _∷_, _++_}
+use mathlib.Core.List.{List, [], _∷_, _++_, flatMap}
 use mathlib.Core.Option.{Option}
 use mathlib.Core.Path.{_≡_}
 use Prim.Native.Nat.{ℕ, _+_, _*_, _/_, _^_, _≤_, _<_}
@@ -9,7 +9,7 @@ use lib.Dec.{leb, eqb}
 use lib.ListN.{length, getD, getElem?, take, drop}
 use Rattle.math.specs.Lists.{_∈_}
 use Rattle.permutation_theory.specs.Permutations.{Permutation, permutationsIn}
-use Rattle.math.specs.Numerals.{digitsOf, value, joined, entries}
+use Rattle.math.specs.Numerals.{digitsOf, value, entries}
 use Rattle.certificate.specs.Bytes.{bytesOf, numbersIn, fieldWidth, permutationWidth}
 use Rattle.certificate.specs.Bytes.{pointWidth, numberWidth}
 
@@ -71,11 +71,11 @@ certificateLength n a k = contentsLength + a * permutationWidth n + k * pointWid
 
 -- C1: "Contents first, then bodies; numbers are 32-bit, low byte first."
 unfoldable pub encode : ℕ → ℕ → List Permutation → List ℕ → List ℕ → List ℕ
-unfolding joined digitsOf fieldsOf layout
+unfolding flatMap digitsOf fieldsOf layout
 encode n m permutations points numbers =
-    joined (bytesOf fieldWidth) (fieldsOf (layout n m (length permutations) (length points) (length numbers)))
-    ++ joined (λ (e : Permutation). e .images) permutations ++ joined (bytesOf pointWidth) points
-    ++ joined (bytesOf numberWidth) numbers
+    flatMap (bytesOf fieldWidth) (fieldsOf (layout n m (length permutations) (length points) (length numbers)))
+    ++ flatMap (λ (e : Permutation). e .images) permutations ++ flatMap (bytesOf pointWidth) points
+    ++ flatMap (bytesOf numberWidth) numbers
 
 -- what fits into a certificate: permutations of n numbers each, as many clause numbers as points, every number within
 -- its bytes

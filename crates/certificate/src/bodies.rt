@@ -8,7 +8,7 @@ ghost use mathlib.Core.Path.{_≡_};
 ghost use Prim.Native.Nat.{_+_, _*_, _^_, _≤_, _<_};
 ghost use lib.ListN.{length, getD, take, drop};
 ghost use Rattle.math.specs.Lists.{over};
-ghost use Rattle.point_slices.specs.Slices.{pointsOf};
+ghost use Rattle.point_slices.specs.Slices.{pointsOf, restOf};
 ghost use Rattle.certificate.specs.Bytes.{numberFrom, numbersIn, pointWidth, numberWidth, fieldWidth};
 ghost use Rattle.certificate.specs.Certificate.{contentsLength, numberAt};
 ghost use Rattle.certificate.specs.Contract.{noEntry, EntryIs, ImageRead, PointRead, NumberRead};
@@ -116,8 +116,9 @@ pub fn image_at(body: &[u8], n: usize, j: usize, i: usize) -> Entry
 // Copies the first `count` points of a body into a slice of points. Eight steps a point. Its callers see to the room.
 pub fn points_into(to: &mut [u64], body: &[u8], count: usize)
     requires { ⌜ (count ≤ length (pointsOf (now to))) × (count * pointWidth ≤ length (now body)) ⌝ }
-    ensures { λ _. ⌜ pointsOf (now (to .exit))
-        ≡ over (numbersIn pointWidth count (now (body .entry))) (pointsOf (now (to .entry))) ⌝ }
+    ensures { λ _. ⌜ (pointsOf (now (to .exit))
+        ≡ over (numbersIn pointWidth count (now (body .entry))) (pointsOf (now (to .entry))))
+        × (restOf (now (to .exit)) ≡ restOf (now (to .entry))) ⌝ }
 {
     let mut i = 0;
     while i < count {

@@ -5,13 +5,12 @@ use certificate::NUMBER;
 use certificate::POINT;
 use point_slices::number_at;
 use point_slices::point_at;
-ghost use mathlib.Core.List.{[], _∷_};
+ghost use mathlib.Core.List.{[], _∷_, flatMap};
 ghost use mathlib.Core.Path.{_≡_};
 ghost use Prim.Native.Nat.{_+_, _*_, _/_, _%_, _^_, _≤_};
 ghost use lib.ListN.{length, take};
 ghost use Rattle.math.specs.Lists.{spliced};
 ghost use Rattle.point_slices.specs.Slices.{pointsOf};
-ghost use Rattle.math.specs.Numerals.{joined};
 ghost use Rattle.certificate.specs.Bytes.{bytesOf, fieldWidth, pointWidth, numberWidth};
 ghost use Rattle.certificate.specs.Certificate.{fieldsOf, layout, contentsLength};
 
@@ -43,7 +42,7 @@ pub fn put_number(out: &mut [u8], at: usize, width: usize, x: u64)
 // Stores four numbers of the contents from place `at` on.
 fn put_fields(out: &mut [u8], at: usize, a: u64, b: u64, c: u64, d: u64)
     requires { ⌜ at + 4 * fieldWidth ≤ length (now out) ⌝ }
-    ensures { λ _. ⌜ now (out .exit) ≡ spliced at (joined (bytesOf fieldWidth) (a ∷ b ∷ c ∷ d ∷ [])) (now (out .entry))
+    ensures { λ _. ⌜ now (out .exit) ≡ spliced at (flatMap (bytesOf fieldWidth) (a ∷ b ∷ c ∷ d ∷ [])) (now (out .entry))
         ⌝ }
 {
     let second = at + 4;
@@ -68,7 +67,7 @@ pub fn put_contents(
 )
     requires { ⌜ (contentsLength ≤ length (now out)) × («points_at» ≡ contentsLength + permutations * n)
         × («numbers_at» ≡ contentsLength + permutations * n + count * pointWidth) ⌝ }
-    ensures { λ _. ⌜ now (out .exit) ≡ spliced 0 (joined (bytesOf fieldWidth)
+    ensures { λ _. ⌜ now (out .exit) ≡ spliced 0 (flatMap (bytesOf fieldWidth)
         (fieldsOf (layout n m permutations count count))) (now (out .entry)) ⌝ }
 {
     let points = count as u64;
@@ -107,7 +106,7 @@ pub fn put_bytes(out: &mut [u8], at: usize, bytes: &[u8], count: usize)
 // C3: stores the first `count` points from place `at` on, eight bytes each. One step a point.
 pub fn put_points(out: &mut [u8], at: usize, points: &[u64], count: usize)
     requires { ⌜ (at + count * pointWidth ≤ length (now out)) × (count ≤ length (pointsOf (now points))) ⌝ }
-    ensures { λ _. ⌜ now (out .exit) ≡ spliced at (joined (bytesOf pointWidth)
+    ensures { λ _. ⌜ now (out .exit) ≡ spliced at (flatMap (bytesOf pointWidth)
         (take count (pointsOf (now (points .entry))))) (now (out .entry)) ⌝ }
 {
     let mut i = 0;
@@ -122,7 +121,7 @@ pub fn put_points(out: &mut [u8], at: usize, points: &[u64], count: usize)
 // C3: stores the first `count` clause numbers from place `at` on, four bytes each. One step a number.
 pub fn put_numbers(out: &mut [u8], at: usize, numbers: &[u32], count: usize)
     requires { ⌜ (at + count * numberWidth ≤ length (now out)) × (count ≤ length (now numbers)) ⌝ }
-    ensures { λ _. ⌜ now (out .exit) ≡ spliced at (joined (bytesOf numberWidth) (take count (now (numbers .entry))))
+    ensures { λ _. ⌜ now (out .exit) ≡ spliced at (flatMap (bytesOf numberWidth) (take count (now (numbers .entry))))
         (now (out .entry)) ⌝ }
 {
     let mut next = 0;

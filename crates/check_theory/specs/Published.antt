@@ -8,7 +8,7 @@ use mathlib.Core.Path.{_≡_}
 use Prim.Native.Nat.{ℕ, _<_, _^_}
 use lib.Dec.{eqb}
 use Rattle.math.specs.Lists.{_∈_}
-use Rattle.points.specs.Points.{Clause, Satisfies, Numbered, distance}
+use Rattle.points.specs.Points.{Clause, Satisfies, Numbered, distance, emptyClause}
 use Rattle.permutation_theory.specs.Permutations.{Permutation, IsPermutation, imageOfPoint, clausesIn, Keeps}
 use Rattle.certificate.specs.Rows.{clauseNumbered}
 
@@ -63,7 +63,7 @@ numberBeside (y ∷ ys) (k ∷ ks) x = cond (eqb y x) k (numberBeside ys ks x)
 
 -- the clause that is there, or one without variables
 unfoldable pub orEmpty : Option Clause → Clause
-orEmpty none = record { positive = 0; negative = 0 }
+orEmpty none = emptyClause
 orEmpty (some c) = c
 
 -- to each point the clause of its number

@@ -10,7 +10,7 @@ use Rattle.formula.specs.declared.Formula.{Formula}
 use Rattle.formula.specs.Limits.{maxImages, maxSlots}
 use Rattle.formula.specs.Problem.{problemOf}
 use Rattle.formula.specs.Reply.{Reply, parsed, satisfiable, unsatisfiable, unknown}
-use Rattle.search_theory.specs.Slots.{filledWith}
+use Rattle.search_theory.specs.Filled.{filledWith}
 use Rattle.search_theory.specs.Walk.{Slot, slot}
 use Rattle.search.specs.Search.{searchReply, searchSlots}
 use Rattle.certificate.specs.Certificate.{contentsOf}

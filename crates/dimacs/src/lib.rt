@@ -42,7 +42,7 @@ pub enum Sizing {
 }
 
 // Where the problem line stands, or that there is none.
-pub enum Found {
+pub enum Located {
     Line { start: usize, stop: usize },
     Absent,
 }
@@ -141,7 +141,7 @@ fn is_skipped(line: &[u8]) -> bool
 
 // S11: "The first other line that isn't all blanks must be the problem line". A byte before it is visited at most three
 // times.
-pub fn find_problem(text: &[u8]) -> Found
+pub fn find_problem(text: &[u8]) -> Located
     ensures { λ r. ⌜ ProblemFound (now (text .entry)) r ⌝ }
 {
     let mut start = 0;
@@ -149,10 +149,10 @@ pub fn find_problem(text: &[u8]) -> Found
         let stop = run_end(text, start, Class::Line);
         let skipped = is_skipped(&text[start..stop]);
         if !skipped {
-            return Found::Line { start, stop };
+            return Located::Line { start, stop };
         }
         if text.len() <= stop {
-            return Found::Absent;
+            return Located::Absent;
         }
         start = stop + 1;
     }
@@ -208,7 +208,7 @@ pub fn read(text: &[u8], positive: &mut [u64], negative: &mut [u64]) -> Parsed
         return refused(1, MAX_TEXT);
     }
     let found = find_problem(text);
-    let Found::Line { start, stop } = found else {
+    let Located::Line { start, stop } = found else {
         return refused(2, size);
     };
     let sizing = read_problem(&text[start..stop]);

@@ -8,7 +8,7 @@ use lib.Bits.{bitOr}
 use lib.ListN.{length, replicate}
 use Rattle.math.specs.Bits.{bit}
 use Rattle.math.specs.Lists.{_∈_}
-use Rattle.points.specs.Points.{Clause}
+use Rattle.points.specs.Points.{Clause, emptyClause}
 use Rattle.permutation_theory.specs.Permutations.{Permutation}
 use Rattle.formula.specs.Limits.{maxImages}
 use Rattle.formula.specs.declared.Formula.{Formula}
@@ -22,10 +22,6 @@ pub record Input : Type 0 where
   pub permutations : List Permutation
 
 -- ---- clauses
-
--- no literal yet
-abbrev pub emptyClause : Clause
-emptyClause = record { positive = 0; negative = 0 }
 
 -- "a repeated entry counts once": a literal's variable joins the set of its sign
 unfoldable pub withLiteral : Clause → Literal → Clause

@@ -7,7 +7,7 @@ use Prim.Native.Nat.{ℕ, _+_, _-_, _*_}
 use lib.Dec.{eqb, leb, ltb}
 use lib.ListN.{length, take, drop}
 use Rattle.math.specs.Lists.{over, all}
-use Rattle.points.specs.Points.{Clause}
+use Rattle.points.specs.Points.{Clause, emptyClause}
 use Rattle.point_slices.specs.Slices.{ClauseSlices, clauseRoom}
 use Rattle.permutation_theory.specs.Permutations.{Permutation, isPermutation}
 use Rattle.formula.specs.Limits.{maxVariables, maxClauses, maxPermutations}
@@ -19,7 +19,7 @@ use Rattle.dimacs_format.specs.Text.{maxText, isBlank, Line, Word, lines
 use Rattle.dimacs_format.specs.Text.{begins, isComment, allBlank, problemWord, formatWord, targetHead}
 use Rattle.dimacs_format.specs.Text.{permutationHead, behind, numberIn, variable}
 use Rattle.dimacs_format.specs.Text.{Token, tokenIn, literal, close, malformed}
-use Rattle.dimacs_format.specs.Input.{Input, emptyClause, withLiteral, formulaOf, positives, negatives}
+use Rattle.dimacs_format.specs.Input.{Input, withLiteral, formulaOf, positives, negatives}
 
 -- ---- steps that may refuse
 
@@ -183,17 +183,17 @@ pub data Kind : Type 0 where
   permutation-line : Kind
 
 -- a kind of comment, by the head of its lines
-pub record Headed : Type 0 where
+pub record HeadedKind : Type 0 where
   pub head : List ℕ
   pub kind : Kind
 
 -- S18: "A line that begins with the seven bytes `c wish `"; S19: "One that begins with `c exch `"
-abbrev pub headedKinds : List Headed
+abbrev pub headedKinds : List HeadedKind
 headedKinds = record { head = targetHead; kind = target-line }
     ∷ record { head = permutationHead; kind = permutation-line } ∷ []
 
 -- the kind whose head stands first in the bytes of a comment; none is a remark
-unfoldable pub kindAmong : List Headed → List ℕ → Option Kind
+unfoldable pub kindAmong : List HeadedKind → List ℕ → Option Kind
 unfolding begins
 kindAmong [] bytes = none
 kindAmong (h ∷ hs) bytes = cond (begins (h .head) bytes) (some (h .kind)) (kindAmong hs bytes)

@@ -1,6 +1,6 @@
--- Numbers by their digits of b bits, the lowest first, and entries that stand without gaps. Definitions alone;
--- NumeralLaws has what follows from them. Assumes nothing.
-use mathlib.Core.List.{List, [], _∷_, _++_}
+-- Numbers by their digits of b bits, the lowest first, and entries that stand without gaps, as `flatMap` puts them.
+-- Definitions alone; NumeralLaws has what follows from them. Assumes nothing.
+use mathlib.Core.List.{List, [], _∷_}
 use Prim.Native.Nat.{ℕ, zero, suc, _+_, _*_, _/_, _%_, _^_}
 use lib.ListN.{take, drop}
 
@@ -15,11 +15,6 @@ value b [] = 0
 value b (d ∷ ds) = d + 2 ^ b * value b ds
 
 module _ {A : Type 0} where
-  -- the digits of each of a list of entries, one behind the other
-  unfoldable pub joined : (A → List ℕ) → List A → List ℕ
-  joined write [] = []
-  joined write (x ∷ xs) = write x ++ joined write xs
-
   -- the first k entries of a run of digits, w digits each
   unfoldable pub entries : (List ℕ → A) → ℕ → ℕ → List ℕ → List A
   entries read w zero run = []

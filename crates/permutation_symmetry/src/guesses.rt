@@ -22,14 +22,17 @@ pub const ENTRIES: usize = 8192;
 // How many entries in a row are for one clause.
 const TRIED: usize = 16;
 
-// Where the guesses for a clause begin: 15 entries and more follow. The factors differ, so that clauses over the same
+// At how many places such a row can begin.
+const PLACES: usize = ENTRIES - TRIED + 1;
+
+// Where the guesses for a clause begin: `TRIED` entries and more are left. The factors differ, so that clauses over the same
 // variables begin apart, and are large, since the hashes of points of few digits are small.
 fn place_of(c: Clause) -> usize
     ensures { λ r. ⌜ r < 8177 ⌝ }
 {
     let p = head_of(c.positive, 4294967296);
     let q = head_of(c.negative, 4294967296);
-    (1031 * p + 4801 * q) % 8177
+    (1031 * p + 4801 * q) % PLACES
 }
 
 // Whether the clause at index i is the clause c.

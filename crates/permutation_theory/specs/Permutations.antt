@@ -9,6 +9,7 @@ use lib.Dec.{eqb}
 use lib.ListN.{length, getD, take, drop}
 use Rattle.math.specs.Bits.{bit}
 use Rattle.math.specs.Lists.{_∈_, any, all, count, range, has}
+use Rattle.math.specs.Numerals.{entries}
 use Rattle.points.specs.Points.{Clause, Numbered}
 
 -- E1: "An exchange sends name i to name e(i)": the numbers e(1), e(2), ..
@@ -83,5 +84,5 @@ covered es ps x = has x ps || any (imageIn ps x) es
 
 -- S21: "they stand without gaps, n bytes each, e(1) first": the first k permutations in a run of bytes
 unfoldable pub permutationsIn : ℕ → ℕ → List ℕ → List Permutation
-permutationsIn n zero bytes = []
-permutationsIn n (suc k) bytes = record { images = take n bytes } ∷ permutationsIn n k (drop n bytes)
+unfolding entries
+permutationsIn n k bytes = entries (λ bs. record { images = bs }) n k bytes

@@ -20,6 +20,7 @@ pub record ClauseSlices : Type 0 where
   pub positiveRest : List ℕ
   pub negativeRest : List ℕ
 
+-- two lent slices: their points and the words behind these, and so all that they hold (`clauses-whole`)
 abbrev pub clauseSlices : List ℕ → List ℕ → ClauseSlices
 clauseSlices positive negative =
     record {
@@ -56,10 +57,6 @@ firstClauses k s = wholeClauses (take k (s .positive)) (take k (s .negative))
 abbrev pub clauseRoom : ClauseSlices → ℕ
 clauseRoom s = min (length (s .positive)) (length (s .negative))
 
--- the clause that lists nothing: what stands past the end of the slices
-abbrev pub noLiterals : Clause
-noLiterals = record { positive = 0; negative = 0 }
-
 -- F9: "three parallel lent slices": the slots' points and what lies behind them, their clause numbers and their depths
 pub record SlotSlices : Type 0 where
   pub points : List ℕ
@@ -67,6 +64,7 @@ pub record SlotSlices : Type 0 where
   pub falsified : List ℕ
   pub depths : List ℕ
 
+-- three lent slices, all that they hold (`slots-whole`)
 abbrev pub slotSlices : List ℕ → List ℕ → List ℕ → SlotSlices
 slotSlices points falsified depths =
     record { points = pointsOf points; pointsRest = restOf points; falsified = falsified; depths = depths }

@@ -1,5 +1,6 @@
 // Points, clauses and numbers in lent slices. A slice of points has one word a point, and the clauses lie in two
-// parallel slices. Outside this crate no index is a place of a word in a slice of points.
+// parallel slices. Outside this crate no index is a place of a word in a slice of points, but where
+// slots are structs (`slot_columns`, `slot_prefixes`).
 use points::Clause;
 use points::Point;
 ghost use mathlib.Core.List.{[]};
@@ -7,8 +8,8 @@ ghost use mathlib.Core.Path.{_≡_};
 ghost use Prim.Native.Nat.{min, _≤_};
 ghost use lib.ListN.{length, getD, set, take};
 ghost use Rattle.points.specs.Laws.Contracts.{clauseOf};
-ghost use Rattle.points.specs.Points.{firstFalsified, numbered, numberOf};
-ghost use Rattle.point_slices.specs.Slices.{pointsOf, restOf, noLiterals, lentClauses};
+ghost use Rattle.points.specs.Points.{firstFalsified, numbered, numberOf, emptyClause};
+ghost use Rattle.point_slices.specs.Slices.{pointsOf, restOf, lentClauses};
 
 // How many points a slice holds.
 pub fn point_count(points: &[u64]) -> usize
@@ -78,7 +79,7 @@ pub fn clause_count(positive: &[u64], negative: &[u64]) -> usize
 
 // The clause at index i, the one without literals past the end.
 pub fn clause_at(positive: &[u64], negative: &[u64], i: usize) -> Clause
-    ensures { λ r. ⌜ clauseOf r ≡ getD (lentClauses (now (positive .entry)) (now (negative .entry))) i noLiterals ⌝ }
+    ensures { λ r. ⌜ clauseOf r ≡ getD (lentClauses (now (positive .entry)) (now (negative .entry))) i emptyClause ⌝ }
 {
     if positive.len() <= i {
         return Clause {

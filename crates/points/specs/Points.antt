@@ -13,7 +13,7 @@ use Rattle.math.specs.Bits.{bit, members}
 use Rattle.math.specs.Lists.{_∈_, count, below}
 
 -- S2: "A choice (point) is a 64-bit number": the digits that a point has room for, apart from the limit of n
-abbrev pub pointDigits : ℕ
+unfoldable pub pointDigits : ℕ
 pointDigits = 64
 
 -- S2: "A choice (point) is a 64-bit number: bit i−1 is 1 where name i is yes; bits n and up are 0": a point of n
@@ -30,6 +30,10 @@ distance n x y = count (λ i. xor (bit x i) (bit y i)) (below n)
 pub record Clause : Type 0 where
   pub positive : ℕ
   pub negative : ℕ
+
+-- S5: "a rule without names"
+abbrev pub emptyClause : Clause
+emptyClause = record { positive = 0; negative = 0 }
 
 -- S4: "A choice meets a rule if some listed name has the listed value."
 pub data Satisfies (c : Clause) (x : ℕ) : Type 0 where

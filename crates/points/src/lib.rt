@@ -1,5 +1,5 @@
 // Points and clauses, with the leaf functions on them. Outside this crate no operator touches a point, but for the
-// hash in `point_index::head_of`.
+// hash in `point_index::head_of` and the bytes of a certificate.
 ghost use mathlib.Core.Path.{_≡_};
 ghost use Prim.Native.Nat.{_<_, _*_, _/_, _%_, _^_};
 ghost use lib.Bits.{bitOr, bitXor};

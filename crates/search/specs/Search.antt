@@ -8,7 +8,7 @@ use Rattle.formula.specs.Limits.{capacity}
 use Rattle.formula.specs.Problem.{problemOf}
 use Rattle.formula.specs.Refusals.{formulaFault, permutationFault, symmetryFault}
 use Rattle.formula.specs.Reply.{Reply, Fault, no-fault, fault, first, unless, unlessKept}
-use Rattle.search_theory.specs.Slots.{filledWith}
+use Rattle.search_theory.specs.Filled.{filledWith}
 use Rattle.search_theory.specs.Walk.{Slot, walked}
 
 -- R13: "no slot lent | 13 | 0"

@@ -1,4 +1,4 @@
 -- The search: its definition as a sentence and computed, and its theory.
 pub mod Walk
-pub mod Slots
+pub mod Filled
 pub mod Laws

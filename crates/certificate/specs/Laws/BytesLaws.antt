@@ -1,5 +1,5 @@
 -- Laws of the loops that copy numbers out of a body, and of permutations as entries. Assumes nothing.
-use mathlib.Core.List.{List, _∷_, _++_}
+use mathlib.Core.List.{List, _++_, flatMap}
 use mathlib.Core.Path.{_≡_, refl, sym, ap, _∙_}
 use Prim.Native.Nat.{ℕ, zero, suc, _+_, _*_, _≤_, _<_, zero-le}
 use native.Mathlib.Nat.{zero-mul, suc-mul, add-comm, le-antisymm, le-trans, mul-le-mul-right}
@@ -10,7 +10,7 @@ use lib.Seq.{take-add}
 use Rattle.math.specs.Laws.NumeralLaws.{length-entries, entries-snoc}
 use Rattle.math.specs.Laws.OverLaws.{over-none, over-snoc}
 use Rattle.math.specs.Lists.{over}
-use Rattle.math.specs.Numerals.{joined, entries}
+use Rattle.math.specs.Numerals.{entries}
 use Rattle.permutation_theory.specs.Permutations.{permutationsIn, Permutation}
 use Rattle.certificate.specs.Bytes.{numberFrom, numbersIn}
 
@@ -52,19 +52,11 @@ module _ {w count : ℕ} {body old : List ℕ} where
       → to ≡ over (numbersIn w count body) old
   copying-ends s all = s .copied ∙ ap (λ (k : ℕ). over (numbersIn w k body) old) (le-antisymm (s .within) all)
 
--- permutations are entries too
-pub permutations-entries : (n k : ℕ) (bytes : List ℕ)
-    → permutationsIn n k bytes ≡ entries (λ bs. record { images = bs }) n k bytes
-unfolding permutationsIn entries
-permutations-entries n zero bytes = refl
-permutations-entries n (suc k) bytes = ap (λ l. record { images = take n bytes } ∷ l)
-    (permutations-entries n k (drop n bytes))
-
 -- permutations that stand without gaps, put out one by one, are the bytes in which they stood
-pub joined-permutations : (n k : ℕ) (bytes : List ℕ)
-    → joined (λ (e : Permutation). e .images) (permutationsIn n k bytes) ≡ take (k * n) bytes
-unfolding joined permutationsIn
-joined-permutations n zero bytes = ap (λ (j : ℕ). take j bytes) (sym (zero-mul n))
-joined-permutations n (suc k) bytes =
-    ap (λ l. take n bytes ++ l) (joined-permutations n k (drop n bytes)) ∙ sym (take-add n (k * n) bytes)
+pub flatMap-permutations : (n k : ℕ) (bytes : List ℕ)
+    → flatMap (λ (e : Permutation). e .images) (permutationsIn n k bytes) ≡ take (k * n) bytes
+unfolding flatMap permutationsIn
+flatMap-permutations n zero bytes = ap (λ (j : ℕ). take j bytes) (sym (zero-mul n))
+flatMap-permutations n (suc k) bytes =
+    ap (λ l. take n bytes ++ l) (flatMap-permutations n k (drop n bytes)) ∙ sym (take-add n (k * n) bytes)
     ∙ ap (λ (j : ℕ). take j bytes) (add-comm n (k * n) ∙ sym (suc-mul k n))

@@ -1,7 +1,7 @@
 -- Laws of the certificate: its length, that the test of a file says what is meant, and that what is put out is well
 -- formed and reads back. Assumes nothing.
 use mathlib.Core.Bool.{Bool, true, false, _&&_}
-use mathlib.Core.List.{List, _++_, append-assoc}
+use mathlib.Core.List.{List, _++_, flatMap, append-assoc}
 use mathlib.Core.Path.{_≡_, refl, sym, ap, ap₂, _∙_}
 use Prim.Native.Nat.{ℕ, _+_, _*_, _^_, _≤_, _<_}
 use native.Mathlib.Omega.{arith}
@@ -12,12 +12,11 @@ use Rattle.math.specs.Laws.ListLaws.{and-split, and-join, not-true-false}
 use Rattle.math.specs.Lists.{_∈_}
 use Rattle.math.specs.Laws.PartLaws.{each-nil, each-cons, part-middle, part-last}
 use Rattle.permutation_theory.specs.Permutations.{Permutation, permutationsIn}
-use Rattle.math.specs.Numerals.{joined}
+use Rattle.math.specs.Laws.SplitLaws.{length-flatMap}
 use Rattle.certificate.specs.Bytes.{bytesOf, numberFrom, numbersIn, fieldWidth, permutationWidth}
 use Rattle.certificate.specs.Bytes.{pointWidth, numberWidth}
-use Rattle.math.specs.Laws.NumeralLaws.{length-digits, value-digits, length-joined, entries-joined}
+use Rattle.math.specs.Laws.NumeralLaws.{length-digits, value-digits, entries-flatMap}
 use Rattle.math.specs.Laws.NumeralLaws.{entries-all}
-use Rattle.certificate.specs.Laws.BytesLaws.{permutations-entries}
 use Rattle.certificate.specs.Certificate.{FileContents, contentsLength, fieldsOf, fromFields, layout}
 use Rattle.certificate.specs.Certificate.{certificateLength, encode, Encodable, contentsOf, WellFormed, fitting}
 use Rattle.certificate.specs.Certificate.{wellFormed, filePermutations, filePoints, fileNumbers}
@@ -100,36 +99,36 @@ long-file file h = ap (λ (b : Bool). b && fitting (contentsOf file) (length fil
 -- ---- what is put out: the contents and three bodies, joined
 
 -- C2: "Contents, 32 bytes"
-pub length-contents : (c : FileContents) → length (joined (bytesOf fieldWidth) (fieldsOf c)) ≡ contentsLength
+pub length-contents : (c : FileContents) → length (flatMap (bytesOf fieldWidth) (fieldsOf c)) ≡ contentsLength
 unfolding fieldsOf
-length-contents c = length-joined (bytesOf fieldWidth) fieldWidth (fieldsOf c) (λ x _. length-digits 8 fieldWidth x)
+length-contents c = length-flatMap (bytesOf fieldWidth) fieldWidth (fieldsOf c) (λ x _. length-digits 8 fieldWidth x)
 
 module _ (n m : ℕ) (es : List Permutation) (ps ns : List ℕ) where
   -- the four parts of a certificate
   abbrev contentsPart : List ℕ
-  contentsPart = joined (bytesOf fieldWidth) (fieldsOf (layout n m (length es) (length ps) (length ns)))
+  contentsPart = flatMap (bytesOf fieldWidth) (fieldsOf (layout n m (length es) (length ps) (length ns)))
 
   abbrev permutationsPart : List ℕ
-  permutationsPart = joined (λ (e : Permutation). e .images) es
+  permutationsPart = flatMap (λ (e : Permutation). e .images) es
 
   abbrev pointsPart : List ℕ
-  pointsPart = joined (bytesOf pointWidth) ps
+  pointsPart = flatMap (bytesOf pointWidth) ps
 
   abbrev numbersPart : List ℕ
-  numbersPart = joined (bytesOf numberWidth) ns
+  numbersPart = flatMap (bytesOf numberWidth) ns
 
   length-contentsPart : length contentsPart ≡ contentsLength
   length-contentsPart = length-contents (layout n m (length es) (length ps) (length ns))
 
   length-pointsPart : length pointsPart ≡ length ps * pointWidth
-  length-pointsPart = length-joined (bytesOf pointWidth) pointWidth ps (λ x _. length-digits 8 pointWidth x)
+  length-pointsPart = length-flatMap (bytesOf pointWidth) pointWidth ps (λ x _. length-digits 8 pointWidth x)
 
   length-numbersPart : length numbersPart ≡ length ns * numberWidth
-  length-numbersPart = length-joined (bytesOf numberWidth) numberWidth ns (λ x _. length-digits 8 numberWidth x)
+  length-numbersPart = length-flatMap (bytesOf numberWidth) numberWidth ns (λ x _. length-digits 8 numberWidth x)
 
   module _ (fit : Encodable n m es ps ns) where
     length-permutationsPart : length permutationsPart ≡ length es * permutationWidth n
-    length-permutationsPart = length-joined (λ (e : Permutation). e .images) n es (fit .imagesFit)
+    length-permutationsPart = length-flatMap (λ (e : Permutation). e .images) n es (fit .imagesFit)
 
     -- where the second and the third body begin
     begins-points : length (contentsPart ++ permutationsPart) ≡ contentsLength + length es * permutationWidth n
@@ -173,7 +172,7 @@ module _ (n m : ℕ) (es : List Permutation) (ps ns : List ℕ) where
         (append-assoc (contentsPart ++ permutationsPart) pointsPart numbersPart
         ∙ append-assoc contentsPart permutationsPart (pointsPart ++ numbersPart))
         ∙ ap fromFields
-        (entries-joined (bytesOf fieldWidth) fieldWidth numberFrom
+        (entries-flatMap (bytesOf fieldWidth) fieldWidth numberFrom
         (fieldsOf (layout n m (length es) (length ps) (length ns)))
         (permutationsPart ++ (pointsPart ++ numbersPart)) (λ x _. length-digits 8 fieldWidth x) fields-back)
 
@@ -206,7 +205,6 @@ module _ (n m : ℕ) (es : List Permutation) (ps ns : List ℕ) where
         (append-assoc (contentsPart ++ permutationsPart) pointsPart numbersPart)
         ∙ part-middle contentsPart permutationsPart (pointsPart ++ numbersPart) contentsLength
         (length es * permutationWidth n) length-contentsPart length-permutationsPart)
-        ∙ permutations-entries n (length es) permutationsPart
         ∙ entries-all (λ (e : Permutation). e .images) n (λ bs. record { images = bs }) es (fit .imagesFit)
         (λ e _. refl)
 

@@ -1,5 +1,5 @@
 -- Document 01, 'Sheets to try': the certificate of case A with exchange 2 1, by computation. Assumes nothing.
-use mathlib.Core.List.{List, [], _∷_}
+use mathlib.Core.List.{List, [], _∷_, flatMap}
 use mathlib.Core.Path.{_≡_, refl}
 use Prim.Native.Nat.{ℕ, _-_}
 use lib.ListN.{length, replicate}
@@ -8,7 +8,7 @@ use Rattle.point_slices.specs.Slices.{ClauseSlices, SlotSlices, wholeClauses, w
 use Rattle.permutation_theory.specs.Permutations.{Permutation}
 use Rattle.formula.specs.declared.Formula.{Formula}
 use Rattle.formula.specs.Reply.{written, opened, refused}
-use Rattle.math.specs.Numerals.{digitsOf, joined}
+use Rattle.math.specs.Numerals.{digitsOf}
 use Rattle.certificate.specs.Bytes.{bytesOf, fieldWidth}
 use Rattle.certificate.specs.Certificate.{encode, contentsOf, fieldsOf, layout}
 use Rattle.certificate.specs.Reader.{openedReply}
@@ -68,6 +68,6 @@ unfolding writeReply
 shortA = refl
 
 -- with n = 0 any number of permutations takes no bytes: such a file is in order
-pub emptyPermutations : openedReply (joined (bytesOf fieldWidth) (fieldsOf (layout 0 0 4294967295 0 0))) ≡ opened
-unfolding openedReply joined digitsOf fieldsOf layout
+pub emptyPermutations : openedReply (flatMap (bytesOf fieldWidth) (fieldsOf (layout 0 0 4294967295 0 0))) ≡ opened
+unfolding openedReply flatMap digitsOf fieldsOf layout
 emptyPermutations = refl

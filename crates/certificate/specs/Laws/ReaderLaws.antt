@@ -14,7 +14,6 @@ use Rattle.permutation_theory.specs.Permutations.{Permutation}
 use Rattle.formula.specs.Reply.{no-fault, fault, opened, unless}
 use Rattle.certificate.specs.Bytes.{numberFrom, numbersIn, permutationWidth, pointWidth, numberWidth}
 use Rattle.math.specs.Laws.NumeralLaws.{entries-at, entries-outside}
-use Rattle.certificate.specs.Laws.BytesLaws.{permutations-entries}
 use Rattle.certificate.specs.Certificate.{contentsOf, WellFormed, wellFormed, permutationsBody, pointsBody}
 use Rattle.certificate.specs.Certificate.{numbersBody, filePermutations, filePoints, fileNumbers, numberAt}
 use Rattle.certificate.specs.Certificate.{imageAt}
@@ -158,8 +157,6 @@ images-read file j h e at i =
     let body = permutationsBody file in
     let found : some (record { images = take n (drop (j * n) body) }) ≡ some e =
     sym (entries-at (λ bs. record { images = bs }) n (contentsOf file .permutations) body j h)
-    ∙ ap (λ (l : List Permutation). getElem? l j) (sym
-    (permutations-entries n (contentsOf file .permutations) body))
     ∙ at in
     let same : _≡_ {A = Permutation} (record { images = take n (drop (j * n) body) }) e = cc in
     ap (λ (p : Permutation). getElem? (p .images) i) same

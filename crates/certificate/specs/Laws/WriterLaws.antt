@@ -19,7 +19,7 @@ use Rattle.formula.specs.declared.Formula.{Formula}
 use Rattle.formula.specs.Limits.{maxVariables, maxClauses, maxPermutations, maxSlots, capacity}
 use Rattle.formula.specs.Problem.{Problem, problemOf}
 use Rattle.formula.specs.Refusals.{Fits, formulaFault, permutationFault, symmetryFault}
-use Rattle.formula.specs.Laws.RefusalLaws.{digits-suffice, fits-count, formula-passes}
+use Rattle.formula.specs.Laws.RefusalLaws.{fits-count, formula-passes}
 use Rattle.formula.specs.Reply.{unlessKept, no-fault, first, written}
 use Rattle.certificate.specs.Certificate.{FileContents, layout, certificateLength, Encodable}
 use Rattle.certificate.specs.Laws.CertificateLaws.{length-encode, contents-encode, encode-wellFormed}
@@ -161,7 +161,7 @@ module _ (f : Formula) (clauses : ClauseSlices) (slots : SlotSlices) (filled : �
           clausesFit = omega arith;
           countFits = omega arith;
           imagesFit = e .1;
-          pointsFit = λ x m. lt-of-lt-of-le (slots-passed .0 x m) (pow-mono (digits-suffice few-variables));
+          pointsFit = λ x m. lt-of-lt-of-le (slots-passed .0 x m) (pow-mono few-variables);
           numbersFit = λ k m. let small : k ≤ maxClauses = numbers-fit k m in omega arith;
           paired = length-xs ∙ sym length-ks;
           offsetsFit = omega arith;

@@ -1,6 +1,6 @@
 -- Laws of stores into the output: numbers that stand without gaps, one more at a time, and the eight numbers of the
 -- contents. Assumes nothing.
-use mathlib.Core.List.{List, [], _∷_, _++_}
+use mathlib.Core.List.{List, [], _∷_, _++_, flatMap}
 use mathlib.Core.Path.{_≡_, refl, sym, ap, ap₂, _∙_}
 use Prim.Native.Nat.{ℕ, _+_, _*_, _≤_, _<_, zero-le}
 use native.Mathlib.Nat.{add-zero, zero-add, le-of-lt, le-antisymm, lt-of-lt-of-le}
@@ -10,9 +10,9 @@ use lib.ListN.{length, getD, take}
 use lib.Seq.{length-take-le, take-suc}
 use Rattle.math.specs.Lists.{spliced}
 use Rattle.math.specs.Laws.SpliceLaws.{spliced-none, spliced-next}
-use Rattle.math.specs.Numerals.{joined}
+use Rattle.math.specs.Laws.SplitLaws.{length-flatMap, flatMap-append, flatMap-snoc}
 use Rattle.certificate.specs.Bytes.{bytesOf, fieldWidth, pointWidth}
-use Rattle.math.specs.Laws.NumeralLaws.{length-digits, length-joined, joined-append, joined-snoc}
+use Rattle.math.specs.Laws.NumeralLaws.{length-digits}
 use Rattle.certificate.specs.Certificate.{fieldsOf, layout, contentsLength}
 
 -- behind one part, another
@@ -23,18 +23,18 @@ part-stored at place a b old before after room here e f = f ∙ ap₂ (λ (k : �
 
 module _ (w at : ℕ) (old : List ℕ) (room : at ≤ length old) where
   -- no number stored yet
-  pub none-stored : old ≡ spliced at (joined (bytesOf w) []) old
-  unfolding joined
+  pub none-stored : old ≡ spliced at (flatMap (bytesOf w) []) old
+  unfolding flatMap
   none-stored = sym (spliced-none at old)
 
   -- behind the numbers xs, w bytes each, one more
   pub one-stored : (xs : List ℕ) (x place : ℕ) (before after : List ℕ) → place ≡ at + length xs * w
-      → before ≡ spliced at (joined (bytesOf w) xs) old → after ≡ spliced place (bytesOf w x) before
-      → after ≡ spliced at (joined (bytesOf w) (xs ++ x ∷ [])) old
+      → before ≡ spliced at (flatMap (bytesOf w) xs) old → after ≡ spliced place (bytesOf w x) before
+      → after ≡ spliced at (flatMap (bytesOf w) (xs ++ x ∷ [])) old
   one-stored xs x place before after here e f =
-      part-stored at place (joined (bytesOf w) xs) (bytesOf w x) old before after room
-      (here ∙ ap (λ (k : ℕ). at + k) (sym (length-joined (bytesOf w) w xs (λ y _. length-digits 8 w y)))) e f
-      ∙ ap (λ l. spliced at l old) (sym (joined-snoc (bytesOf w) xs x))
+      part-stored at place (flatMap (bytesOf w) xs) (bytesOf w x) old before after room
+      (here ∙ ap (λ (k : ℕ). at + k) (sym (length-flatMap (bytesOf w) w xs (λ y _. length-digits 8 w y)))) e f
+      ∙ ap (λ l. spliced at l old) (sym (flatMap-snoc (bytesOf w) xs x))
 
 -- the loop that stores `count` numbers, w bytes each, from place `at` on: the first i are there
 pub record Storing (w at count : ℕ) (xs old : List ℕ) (i : ℕ) (out : List ℕ) : Type 0 where
@@ -42,7 +42,7 @@ pub record Storing (w at count : ℕ) (xs old : List ℕ) (i : ℕ) (out : List 
   pub enough : count ≤ length xs
   pub within : i ≤ count
   pub long : length out ≡ length old
-  pub stored : out ≡ spliced at (joined (bytesOf w) (take i xs)) old
+  pub stored : out ≡ spliced at (flatMap (bytesOf w) (take i xs)) old
 
 module _ {w at count : ℕ} {xs old : List ℕ} where
   -- before the first turn nothing is stored
@@ -64,20 +64,20 @@ module _ {w at count : ℕ} {xs old : List ℕ} where
         stored =
             one-stored w at old (omega arith) (take i xs) x (at + i * w) before after
             (rw (length-take-le i xs (le-of-lt inside))) (s .stored) f
-            ∙ ap (λ l. spliced at (joined (bytesOf w) l) old) (rw (e, add-one, take-suc xs i 0));
+            ∙ ap (λ l. spliced at (flatMap (bytesOf w) l) old) (rw (e, add-one, take-suc xs i 0));
       }
 
   -- after the last turn all are stored
   pub storing-ends : {i : ℕ} {out : List ℕ} → Storing w at count xs old i out → count ≤ i
-      → out ≡ spliced at (joined (bytesOf w) (take count xs)) old
+      → out ≡ spliced at (flatMap (bytesOf w) (take count xs)) old
   storing-ends s all =
-      s .stored ∙ ap (λ (k : ℕ). spliced at (joined (bytesOf w) (take k xs)) old) (le-antisymm (s .within) all)
+      s .stored ∙ ap (λ (k : ℕ). spliced at (flatMap (bytesOf w) (take k xs)) old) (le-antisymm (s .within) all)
 
 -- four numbers of the contents, one behind the other
 pub four-stored : (at : ℕ) (old : List ℕ) → at ≤ length old → (a b c d : ℕ) (one two three four : List ℕ)
     → one ≡ spliced at (bytesOf fieldWidth a) old → two ≡ spliced (at + 4) (bytesOf fieldWidth b) one
     → three ≡ spliced (at + 8) (bytesOf fieldWidth c) two → four ≡ spliced (at + 12) (bytesOf fieldWidth d) three
-    → four ≡ spliced at (joined (bytesOf fieldWidth) (a ∷ b ∷ c ∷ d ∷ [])) old
+    → four ≡ spliced at (flatMap (bytesOf fieldWidth) (a ∷ b ∷ c ∷ d ∷ [])) old
 four-stored at old room a b c d one two three four e f g h =
     let none = none-stored fieldWidth at old room in
     let first = one-stored fieldWidth at old room [] a at old one (sym (add-zero at)) none e in
@@ -88,16 +88,16 @@ four-stored at old room a b c d one two three four e f g h =
 -- C2: "n, m (rules), then count and offset of each body": four of the eight numbers, then the others
 pub contents-stored : (n m a k points numbers : ℕ) (old half whole : List ℕ)
     → points ≡ contentsLength + a * n → numbers ≡ contentsLength + a * n + k * pointWidth
-    → half ≡ spliced 0 (joined (bytesOf fieldWidth) (n ∷ m ∷ a ∷ contentsLength ∷ [])) old
-    → whole ≡ spliced 16 (joined (bytesOf fieldWidth) (k ∷ points ∷ k ∷ numbers ∷ [])) half
-    → whole ≡ spliced 0 (joined (bytesOf fieldWidth) (fieldsOf (layout n m a k k))) old
+    → half ≡ spliced 0 (flatMap (bytesOf fieldWidth) (n ∷ m ∷ a ∷ contentsLength ∷ [])) old
+    → whole ≡ spliced 16 (flatMap (bytesOf fieldWidth) (k ∷ points ∷ k ∷ numbers ∷ [])) half
+    → whole ≡ spliced 0 (flatMap (bytesOf fieldWidth) (fieldsOf (layout n m a k k))) old
 unfolding fieldsOf layout
 contents-stored n m a k points numbers old half whole p q e f =
     let front : List ℕ = n ∷ m ∷ a ∷ contentsLength ∷ [] in
     let back : List ℕ = k ∷ points ∷ k ∷ numbers ∷ [] in
-    part-stored 0 16 (joined (bytesOf fieldWidth) front) (joined (bytesOf fieldWidth) back) old half whole zero-le
-    (sym (zero-add (length (joined (bytesOf fieldWidth) front))
-    ∙ length-joined (bytesOf fieldWidth) fieldWidth front (λ y _. length-digits 8 fieldWidth y))) e f
-    ∙ ap (λ l. spliced 0 l old) (sym (joined-append (bytesOf fieldWidth) front back))
-    ∙ ap₂ (λ (u v : ℕ). spliced 0 (joined (bytesOf fieldWidth) (n ∷ m ∷ a ∷ contentsLength ∷ k ∷ u ∷ k ∷ v ∷ [])) old) p
+    part-stored 0 16 (flatMap (bytesOf fieldWidth) front) (flatMap (bytesOf fieldWidth) back) old half whole zero-le
+    (sym (zero-add (length (flatMap (bytesOf fieldWidth) front))
+    ∙ length-flatMap (bytesOf fieldWidth) fieldWidth front (λ y _. length-digits 8 fieldWidth y))) e f
+    ∙ ap (λ l. spliced 0 l old) (sym (flatMap-append (bytesOf fieldWidth) front back))
+    ∙ ap₂ (λ (u v : ℕ). spliced 0 (flatMap (bytesOf fieldWidth) (n ∷ m ∷ a ∷ contentsLength ∷ k ∷ u ∷ k ∷ v ∷ [])) old) p
     q

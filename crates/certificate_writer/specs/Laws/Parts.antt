@@ -1,10 +1,9 @@
 -- What the writer's steps test and store, for the contracts of its functions. Assumes nothing.
-use mathlib.Core.List.{List, [], _∷_, _++_}
+use mathlib.Core.List.{List, [], _∷_, _++_, flatMap}
 use Prim.Native.Nat.{ℕ, _*_, _≤_}
 use lib.ListN.{length, take}
 use Rattle.points.specs.Points.{Numbered}
 use Rattle.formula.specs.Reply.{Fault, first}
-use Rattle.math.specs.Numerals.{joined}
 use Rattle.certificate.specs.Bytes.{bytesOf, fieldWidth, pointWidth, numberWidth}
 use Rattle.certificate.specs.Certificate.{fieldsOf, layout, certificateLength}
 use Rattle.certificate.specs.Rows.{pointsFault, numbersFault}
@@ -19,9 +18,9 @@ slotsFault earlier limit n clauses filled points falsified =
 -- clause numbers
 abbrev pub parts : ℕ → ℕ → ℕ → List ℕ → List ℕ → List ℕ → ℕ → List ℕ
 parts n m permutations images points falsified filled =
-    joined (bytesOf fieldWidth) (fieldsOf (layout n m permutations filled filled)) ++ take (permutations * n) images
-    ++ joined (bytesOf pointWidth) (take filled points)
-    ++ joined (bytesOf numberWidth) (take filled falsified)
+    flatMap (bytesOf fieldWidth) (fieldsOf (layout n m permutations filled filled)) ++ take (permutations * n) images
+    ++ flatMap (bytesOf pointWidth) (take filled points)
+    ++ flatMap (bytesOf numberWidth) (take filled falsified)
 
 -- what is to be stored is there, and the output has room for it
 pub record Storable (n permutations : ℕ) (images points falsified : List ℕ) (filled : ℕ) (out : List ℕ) : Type 0 where

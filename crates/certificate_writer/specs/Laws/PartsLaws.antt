@@ -1,5 +1,5 @@
 -- Laws of the writer's steps: rows 16 and 17 in order, and four parts stored one behind the other. Assumes nothing.
-use mathlib.Core.List.{List, [], _∷_, _++_}
+use mathlib.Core.List.{List, [], _∷_, _++_, flatMap}
 use mathlib.Core.Path.{_≡_, refl, sym, ap, ap₂, _∙_}
 use Prim.Native.Nat.{ℕ, _+_, _*_, _≤_, zero-le}
 use native.Mathlib.Nat.{zero-add}
@@ -12,10 +12,10 @@ use Rattle.permutation_theory.specs.Permutations.{Permutation, permutationsIn}
 use Rattle.permutation_images.specs.Laws.LoopLaws.{length-permutations}
 use Rattle.formula.specs.Reply.{Fault, no-fault}
 use Rattle.formula.specs.Laws.ReplyLaws.{IsFault, answers-first, answers-rest, first-last}
-use Rattle.math.specs.Numerals.{joined}
+use Rattle.math.specs.Laws.SplitLaws.{length-flatMap}
 use Rattle.certificate.specs.Bytes.{bytesOf, fieldWidth, pointWidth, numberWidth}
-use Rattle.math.specs.Laws.NumeralLaws.{length-digits, length-joined}
-use Rattle.certificate.specs.Laws.BytesLaws.{joined-permutations}
+use Rattle.math.specs.Laws.NumeralLaws.{length-digits}
+use Rattle.certificate.specs.Laws.BytesLaws.{flatMap-permutations}
 use Rattle.certificate.specs.Certificate.{FileContents, contentsLength, fieldsOf, layout, encode}
 use Rattle.certificate.specs.Laws.CertificateLaws.{length-contents}
 use Rattle.certificate.specs.Rows.{pointsFault, numbersFault}
@@ -55,10 +55,10 @@ module _ (earlier : Fault) (limit n : ℕ) (clauses : List Numbered) (filled : �
 module _ (n m a : ℕ) (images points falsified : List ℕ) (filled : ℕ) (out : List ℕ)
     (storable : Storable n a images points falsified filled out) where
   abbrev contentsPart : List ℕ
-  contentsPart = joined (bytesOf fieldWidth) (fieldsOf (layout n m a filled filled))
+  contentsPart = flatMap (bytesOf fieldWidth) (fieldsOf (layout n m a filled filled))
 
   abbrev pointsPart : List ℕ
-  pointsPart = joined (bytesOf pointWidth) (take filled points)
+  pointsPart = flatMap (bytesOf pointWidth) (take filled points)
 
   -- where the bodies begin
   begins-images : length contentsPart ≡ contentsLength
@@ -72,7 +72,7 @@ module _ (n m a : ℕ) (images points falsified : List ℕ) (filled : ℕ) (out 
       ≡ contentsLength + a * n + filled * pointWidth
   begins-numbers =
       length-append (contentsPart ++ take (a * n) images) pointsPart
-      ∙ ap₂ _+_ begins-points (length-joined (bytesOf pointWidth) pointWidth (take filled points)
+      ∙ ap₂ _+_ begins-points (length-flatMap (bytesOf pointWidth) pointWidth (take filled points)
       (λ x _. length-digits 8 pointWidth x)
       ∙ ap (λ (k : ℕ). k * pointWidth) (length-take-le filled points (storable .pointsHeld)))
 
@@ -87,7 +87,7 @@ module _ (n m a : ℕ) (images points falsified : List ℕ) (filled : ℕ) (out 
       → two ≡ spliced contentsLength (take (a * n) images) one
       → three ≡ spliced (contentsLength + a * n) pointsPart two
       → four ≡ spliced (contentsLength + a * n + filled * pointWidth)
-      (joined (bytesOf numberWidth) (take filled falsified)) three
+      (flatMap (bytesOf numberWidth) (take filled falsified)) three
       → four ≡ over (parts n m a images points falsified filled) out
   certificate-stored one two three four e f g h =
       behind _ _ _ three four begins-numbers (behind _ _ _ two three begins-points
@@ -105,10 +105,10 @@ parts-encode n m a images points falsified filled enough-points enough-numbers =
     let xs : List ℕ = take filled points in
     let ks : List ℕ = take filled falsified in
     let whole : FileContents → List ℕ → List ℕ =
-    λ c body. joined (bytesOf fieldWidth) (fieldsOf c) ++ body ++ joined (bytesOf pointWidth) xs
-    ++ joined (bytesOf numberWidth) ks in
+    λ c body. flatMap (bytesOf fieldWidth) (fieldsOf c) ++ body ++ flatMap (bytesOf pointWidth) xs
+    ++ flatMap (bytesOf numberWidth) ks in
     ap₂ whole
     (ap (λ (j : ℕ). layout n m j filled filled) (sym (length-permutations n a images))
     ∙ ap₂ (λ (i j : ℕ). layout n m (length es) i j) (sym (length-take-le filled points enough-points))
     (sym (length-take-le filled falsified enough-numbers)))
-    (sym (joined-permutations n a images))
+    (sym (flatMap-permutations n a images))

@@ -26,7 +26,7 @@ returns c =
     let a = c .before .before .before .before .before .before .before .before .before .before .before .before .before .before .before .before .before .before .before .before .before .before .args in
     c .before .before .lists-refusal .ensures
     ∙ ap₂ (listsFault (a .g .variables) (numbered (lentClauses (a .positive .now) (a .negative .now))) (permutationsIn (a .g .variables) (a .g .permutations) (a .images .now)))
-    (copied pointWidth (a .count) (a .points .now) _ _ (c .before .before .before .before .before .before .before .before .before .before .before .before .points-into .ensures)) (copied numberWidth (a .count) (a .falsified .now) _ _ (c .before .before .before .before .before .before .before .before .numbers-into .ensures))
+    (copied pointWidth (a .count) (a .points .now) _ _ (c .before .before .before .before .before .before .before .before .before .before .before .before .points-into .ensures .0)) (copied numberWidth (a .count) (a .falsified .now) _ _ (c .before .before .before .before .before .before .before .before .numbers-into .ensures))
 
 pub copied-refusal-spec : {M : Type 1} → statement M
 copied-refusal-spec =

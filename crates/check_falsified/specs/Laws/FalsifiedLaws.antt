@@ -9,8 +9,7 @@ use native.Mathlib.Omega.{arith}
 use lib.ListN.{length, getD, getElem?}
 use borrow.Author.Tests.{eq-eqb, ne-eqb}
 use Rattle.math.specs.Laws.PartLaws.{index-some, index-none}
-use Rattle.points.specs.Points.{Clause, satisfies, numberedFrom, numbered}
-use Rattle.point_slices.specs.Slices.{noLiterals}
+use Rattle.points.specs.Points.{Clause, satisfies, numberedFrom, numbered, emptyClause}
 use Rattle.certificate.specs.Rows.{clauseNumbered, falsifies}
 
 -- of clauses numbered from a on, the one whose number is a + i stands at index i
@@ -40,7 +39,7 @@ module _ (cs : List Clause) (x : ℕ) where
       ∙ ap (λ o. falsifies o x) (numbered-at 1 cs i ∙ index-none cs i h))
 
   pub falsifies-at : (k i : ℕ) → k ≡ 1 + i → i < length cs
-      → not (satisfies (getD cs i noLiterals) x) ≡ falsifies (clauseNumbered (numbered cs) k) x
+      → not (satisfies (getD cs i emptyClause) x) ≡ falsifies (clauseNumbered (numbered cs) k) x
   unfolding falsifies
   falsifies-at k i e h = sym (ap (λ (j : ℕ). falsifies (clauseNumbered (numbered cs) j) x) e
-      ∙ ap (λ o. falsifies o x) (numbered-at 1 cs i ∙ index-some cs i noLiterals h))
+      ∙ ap (λ o. falsifies o x) (numbered-at 1 cs i ∙ index-some cs i emptyClause h))

@@ -19,8 +19,7 @@ use Rattle.math.specs.Laws.PartLaws.{index-some, index-none, same-failing-below
 use Rattle.math.specs.Laws.SetLaws.{members-next, members-none}
 use Rattle.points.specs.Laws.Contracts.{NextVariable}
 use Rattle.points.specs.Laws.NextLaws.{next-lowest, next-none}
-use Rattle.points.specs.Points.{pointDigits, Clause, Numbered, listed, variables, numbered}
-use Rattle.point_slices.specs.Slices.{noLiterals}
+use Rattle.points.specs.Points.{pointDigits, Clause, Numbered, listed, variables, numbered, emptyClause}
 use Rattle.point_theory.specs.Laws.Notions.{ClausesBelow}
 use Rattle.permutation_theory.specs.Permutations.{Permutation, covered}
 use Rattle.permutation_coverage.specs.Laws.Coverage.{Permuting, Imaged, Coverable}
@@ -44,10 +43,10 @@ module _ (cs : List Clause) where
       ∙ ap listedBy (numbered-at 1 cs i ∙ index-none cs i h))
 
   pub listed-at : (k i : ℕ) → k ≡ 1 + i → i < length cs
-      → listed (getD cs i noLiterals) ≡ listedBy (clauseNumbered (numbered cs) k)
+      → listed (getD cs i emptyClause) ≡ listedBy (clauseNumbered (numbered cs) k)
   unfolding listedBy
   listed-at k i e h = sym (ap (λ (j : ℕ). listedBy (clauseNumbered (numbered cs) j)) e
-      ∙ ap listedBy (numbered-at 1 cs i ∙ index-some cs i noLiterals h))
+      ∙ ap listedBy (numbered-at 1 cs i ∙ index-some cs i emptyClause h))
 
 -- a clause of a formula lists none but the variables below n
 pub listed-within : (n : ℕ) (cs : List Numbered) → ClausesBelow n cs → (k : ℕ) → listedBy (clauseNumbered cs k) < 2 ^ n

@@ -31,7 +31,7 @@ use Rattle.search_theory.specs.Laws.Promised.{ClosedSlots}
 use Rattle.search.specs.Laws.WalkAnswers.{WalkAnswers}
 use Rattle.search.specs.Search.{searchFault, searchReply, searchSlots, searchSlices}
 use Rattle.search.specs.Laws.Theorems.{search-closed, slots-filled}
-use Rattle.search_theory.specs.Slots.{filledWith}
+use Rattle.search_theory.specs.Filled.{filledWith}
 use Rattle.search_theory.specs.Walk.{Slot, slot, walked}
 use Rattle.certificate.specs.Certificate.{filePoints, fileNumbers}
 use Rattle.certificate.specs.Laws.RowLaws.{points-pass, point-passes-take, clause-of, numbered-own, number-passes}

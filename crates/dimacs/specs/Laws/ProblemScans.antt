@@ -12,8 +12,8 @@ use Rattle.dimacs.specs.declared.Sized.{Sized}
 use Rattle.dimacs.specs.declared.Sized.the-variants.{Number, Other as NoNumber}
 use Rattle.dimacs.specs.declared.Sizing.{Sizing}
 use Rattle.dimacs.specs.declared.Sizing.the-variants.{Read, Malformed}
-use Rattle.dimacs.specs.declared.Found.{Found}
-use Rattle.dimacs.specs.declared.Found.the-variants.{Line as FoundLine, Absent}
+use Rattle.dimacs.specs.declared.Located.{Located}
+use Rattle.dimacs.specs.declared.Located.the-variants.{Line as FoundLine, Absent}
 use Rattle.dimacs_format.specs.Text.{piece, lines, words, spelled, sameBytes, numberIn}
 use Rattle.dimacs_format.specs.Reader.{Sizes, fromProblem}
 use Rattle.dimacs_words.specs.Laws.Scans.{belongs, Stretch, linesBehind}
@@ -40,7 +40,7 @@ NumberMatched line at (Number v c) = (c .at ≤ length line)
 NumberMatched line at NoNumber = (w : List ℕ) (ws : List (List ℕ)) → spelledFrom line at ≡ w ∷ ws → numberIn w ≡ none
 
 -- the lines from the problem line on
-abbrev pub ProblemFound : List ℕ → Found → Type 0
+abbrev pub ProblemFound : List ℕ → Located → Type 0
 ProblemFound text (FoundLine start stop) =
     Stretch (belongs LineBytes) text start stop × (fromProblem (lines 0 text)
     ≡ piece start (take (stop - start) (drop start text)) ∷ linesBehind text stop)

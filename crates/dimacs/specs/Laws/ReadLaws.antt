@@ -10,8 +10,8 @@ use borrow.Author.Tests.{le-leb, lt-leb}
 use Rattle.point_slices.specs.Slices.{ClauseSlices, clauseRoom}
 use Rattle.formula.specs.Limits.{maxVariables, maxClauses}
 use Rattle.dimacs_lines.specs.declared.Parsed.{Parsed}
-use Rattle.dimacs.specs.declared.Found.{Found}
-use Rattle.dimacs.specs.declared.Found.the-variants.{Line as FoundLine, Absent}
+use Rattle.dimacs.specs.declared.Located.{Located}
+use Rattle.dimacs.specs.declared.Located.the-variants.{Line as FoundLine, Absent}
 use Rattle.dimacs_words.specs.declared.Class.the-variants.{Line as LineBytes}
 use Rattle.dimacs_format.specs.Reader.{refuses, Sizes, problemWords, problemIn, withinLimits, textSays, withRoom}
 use Rattle.dimacs_format.specs.Reader.{withSizes, withProblem, fromProblem, withLines, reading, readReply, readFormula}
@@ -75,12 +75,12 @@ module _ (text : List ℕ) (room : ℕ) where
     unfolding reading
     by-lines = rw (le-leb (length text) maxText h)
 
-    pub text-absent : (r : Found) → ProblemFound text r → r ≡ Absent → reading text room ≡ refuses 2 (length text)
+    pub text-absent : (r : Located) → ProblemFound text r → r ≡ Absent → reading text room ≡ refuses 2 (length text)
     unfolding withLines
     text-absent (FoundLine start stop) f e = absurd (let z : _≡_ {A = ℕ} 0 1 = cc in omega arith)
     text-absent Absent f e = by-lines ∙ ap (withLines (length text) room) f
 
-    module _ (r : Found) (found : ProblemFound text r) (start stop : ℕ) (e : r ≡ FoundLine start stop) where
+    module _ (r : Located) (found : ProblemFound text r) (start stop : ℕ) (e : r ≡ FoundLine start stop) where
       pub problem-place : Stretch (belongs LineBytes) text start stop
       problem-place = subst (ProblemFound text) e found .0
 

@@ -7,6 +7,7 @@ use borrow.Author.Needs.{needs}
 use borrow.Author.Tests.{not-true, not-false}
 use Rattle.dimacs_comments.specs.Laws.CommentScanLaws.{permutation-empty, permutation-blank, permutation-unstored}
 use Rattle.dimacs_comments.specs.Laws.CommentScanLaws.{permutation-stored, part-size}
+use Rattle.formula.specs.Laws.RefusalLaws.{digits-suffice}
 use Rattle.dimacs_comments.proofs.read_permutation.Statement.{statement}
 use Rattle.dimacs_comments.proofs.read_permutation.Tie as tie
 
@@ -33,7 +34,7 @@ returns-3 c =
     (sym (c .before .before .before .before .before .before .is-blank .ensures) ∙ c .before .before .before .before .before .if2 .left) (c .before .before .before .before .before .before .before .before .if1 .left) (c .before .before .before .store-numbers .result) (c .before .before .before .store-numbers .ensures) (not-true _ (c .if3 .taken))
 
 is-permutation-requires : tie.Need-is-permutation-requires
-is-permutation-requires c κs = search needs
+is-permutation-requires c κs = search (needs, digits-suffice)
 
 returns-4 : tie.Need-returns-4
 returns-4 c =

@@ -2,6 +2,7 @@
 -- nothing.
 use mathlib.Core.Path.{_≡_, sym, ap, _∙_, subst}
 use Prim.Native.Nat.{_≤_, _<_, _-_, _+_, _^_}
+use native.Mathlib.Nat.{lt-of-lt-of-le}
 use native.Mathlib.Omega.{arith}
 use lib.ListN.{length, take, drop}
 use borrow.Author.Needs.{needs}
@@ -10,6 +11,7 @@ use Rattle.dimacs_comments.specs.Laws.CommentScans.{wantedOf, binaryIn}
 use Rattle.dimacs_comments.specs.Laws.CommentScanLaws.{binaryFrom, binary-begins, digit-joins, digit-below}
 use Rattle.dimacs_comments.specs.Laws.CommentScanLaws.{binary-ends, binary-stops, binary-goes-on, binary-low}
 use Rattle.dimacs_comments.specs.Laws.CommentScanLaws.{binary-high, binary-digit}
+use Rattle.formula.specs.Laws.RefusalLaws.{digits-suffice}
 use Rattle.dimacs_comments.proofs.target_digits.Statement.{statement}
 use Rattle.dimacs_comments.proofs.target_digits.Tie as tie
 
@@ -42,7 +44,7 @@ returns-2 c =
     ap wantedOf (c .no-target2 .ensures) ∙ sym (l .inv .3 ∙ binary-stops _ _ (l .inv .1) (l .x) (l .i) (c .before .before .before .before .loop-test .taken) (binary-high _ (c .before .if2 .taken)))
 
 with-digit-requires : tie.Need-with-digit-requires Inv-loop μ-loop
-with-digit-requires c κs = omega (arith, c .before .before .before .loop-test .taken, c .before .before .before .before .loop .inv .0)
+with-digit-requires c κs = lt-of-lt-of-le (c .before .before .before .loop-test .taken) (digits-suffice (c .before .before .before .before .loop .inv .0))
 
 loop-again : tie.Need-loop-again Inv-loop μ-loop
 loop-again c =

@@ -19,10 +19,10 @@ use Rattle.math.specs.Bits.{bit}
 use Rattle.math.specs.Laws.ListLaws.{here, or-split, or-left, or-right, same-tests}
 use Rattle.math.specs.Lists.{_∈_}
 use Rattle.math.specs.Laws.SplitLaws.{map-nil, map-cons, map-append}
-use Rattle.points.specs.Points.{Clause}
+use Rattle.points.specs.Points.{Clause, emptyClause}
 use Rattle.dimacs_format.specs.Text.{joined, Word, numberIn, Literal, variable, Token, unsigned, negated, tokenIn}
 use Rattle.dimacs_format.specs.Text.{pos, neg, literal, close, malformed}
-use Rattle.dimacs_format.specs.Input.{emptyClause, withLiteral, withLiterals, clauseOf, IsClause}
+use Rattle.dimacs_format.specs.Input.{withLiteral, withLiterals, clauseOf, IsClause}
 use Rattle.dimacs_format.specs.Reader.{walk, Sizes, Clauses, tokenStep, wordStep, goes, refuses}
 use Rattle.dimacs_format.specs.Accepted.{closedBy0, Within, Grouped}
 use Rattle.dimacs_format.specs.Laws.StepLaws.{goes-same, never, both-go, walk-step}

@@ -11,7 +11,7 @@ use borrow.Author.Tests.{eqb-true, eq-eqb, ne-eqb, eqb-false, not-true}
 use Rattle.math.specs.Laws.ListLaws.{and-split, and-join, or-split, all-at}
 use Rattle.math.specs.Lists.{_∈_, all}
 use Rattle.dimacs_format.specs.Text.{Line, ascii, begins, isComment}
-use Rattle.dimacs_format.specs.Reader.{Kind, clause-line, Headed, headedKinds, kindAmong, kindOf}
+use Rattle.dimacs_format.specs.Reader.{Kind, clause-line, HeadedKind, headedKinds, kindAmong, kindOf}
 use Rattle.dimacs_format.specs.Laws.SideLaws.{isOf}
 
 -- ---- heads
@@ -52,21 +52,21 @@ begins-begins (x ∷ xs) (y ∷ ys) (z ∷ zs) a b =
 
 module _ (rank : Kind → ℕ) where
   -- no kind of the list is the given one
-  abbrev others : Kind → List Headed → Bool
-  others k hs = all (λ (h : Headed). not (eqb (rank (h .kind)) (rank k))) hs
+  abbrev others : Kind → List HeadedKind → Bool
+  others k hs = all (λ (h : HeadedKind). not (eqb (rank (h .kind)) (rank k))) hs
 
   -- heads and kinds of the list are all different
-  unfoldable pub separate : List Headed → Bool
+  unfoldable pub separate : List HeadedKind → Bool
   unfolding all apart
   separate [] = true
-  separate (h ∷ hs) = others (h .kind) hs && all (λ (g : Headed). apart (h .head) (g .head)) hs && separate hs
+  separate (h ∷ hs) = others (h .kind) hs && all (λ (g : HeadedKind). apart (h .head) (g .head)) hs && separate hs
 
   -- each head is that of a comment
-  unfoldable pub wellHeaded : List Headed → Bool
+  unfoldable pub wellHeaded : List HeadedKind → Bool
   unfolding separate all begins
-  wellHeaded hs = separate hs && others clause-line hs && all (λ (h : Headed). begins (ascii "c") (h .head)) hs
+  wellHeaded hs = separate hs && others clause-line hs && all (λ (h : HeadedKind). begins (ascii "c") (h .head)) hs
 
-  among-other : (k : Kind) (bytes : List ℕ) (hs : List Headed) → others k hs ≡ true
+  among-other : (k : Kind) (bytes : List ℕ) (hs : List HeadedKind) → others k hs ≡ true
       → isOf rank (kindAmong hs bytes) k ≡ false
   unfolding kindAmong all
   among-other k bytes [] h = refl
@@ -80,45 +80,45 @@ module _ (rank : Kind → ℕ) where
       by false a b = b
 
   -- what the test says of a list and its first
-  split : (g : Headed) (hs : List Headed) → separate (g ∷ hs) ≡ true
-      → (others (g .kind) hs ≡ true) × (all (λ (k : Headed). apart (g .head) (k .head)) hs ≡ true)
+  split : (g : HeadedKind) (hs : List HeadedKind) → separate (g ∷ hs) ≡ true
+      → (others (g .kind) hs ≡ true) × (all (λ (k : HeadedKind). apart (g .head) (k .head)) hs ≡ true)
       × (separate hs ≡ true)
   unfolding separate
   split g hs e =
-      let v = and-split (others (g .kind) hs && all (λ (k : Headed). apart (g .head) (k .head)) hs) (separate hs) e in
-      let w = and-split (others (g .kind) hs) (all (λ (k : Headed). apart (g .head) (k .head)) hs) (v .0) in
+      let v = and-split (others (g .kind) hs && all (λ (k : HeadedKind). apart (g .head) (k .head)) hs) (separate hs) e in
+      let w = and-split (others (g .kind) hs) (all (λ (k : HeadedKind). apart (g .head) (k .head)) hs) (v .0) in
       (w .0, w .1, v .1)
 
   -- bytes with a head of the list have its kind
-  among-headed : (bytes : List ℕ) {h : Headed} {hs : List Headed} → separate hs ≡ true → h ∈ hs
+  among-headed : (bytes : List ℕ) {h : HeadedKind} {hs : List HeadedKind} → separate hs ≡ true → h ∈ hs
       → begins (h .head) bytes ≡ true → kindAmong hs bytes ≡ some (h .kind)
   unfolding kindAmong
   among-headed bytes {h} s (List·Memᴰ·head {x = g} {xs = hs} e) b =
-      ap (λ t. cond t (some (g .kind)) (kindAmong hs bytes)) (subst (λ (k : Headed). begins (k .head) bytes ≡ true) e b)
-      ∙ ap (λ (k : Headed). some (k .kind)) (sym e)
+      ap (λ t. cond t (some (g .kind)) (kindAmong hs bytes)) (subst (λ (k : HeadedKind). begins (k .head) bytes ≡ true) e b)
+      ∙ ap (λ (k : HeadedKind). some (k .kind)) (sym e)
   among-headed bytes {h} s (List·Memᴰ·tail {x = g} {xs = hs} m) b =
       by (begins (g .head) bytes) refl (among-headed bytes (split g hs s .2) m b)
     where
       by : (t : Bool) → begins (g .head) bytes ≡ t → kindAmong hs bytes ≡ some (h .kind)
           → cond t (some (g .kind)) (kindAmong hs bytes) ≡ some (h .kind)
       by true a i = absurd (apart-alone (g .head) (h .head) bytes
-          (all-at (λ (k : Headed). apart (g .head) (k .head)) (split g hs s .1) m) a b)
+          (all-at (λ (k : HeadedKind). apart (g .head) (k .head)) (split g hs s .1) m) a b)
       by false a i = i
 
   -- and bytes without it have not
-  among-headless : (bytes : List ℕ) {h : Headed} {hs : List Headed} → separate hs ≡ true → h ∈ hs
+  among-headless : (bytes : List ℕ) {h : HeadedKind} {hs : List HeadedKind} → separate hs ≡ true → h ∈ hs
       → begins (h .head) bytes ≡ false → isOf rank (kindAmong hs bytes) (h .kind) ≡ false
   unfolding kindAmong
   among-headless bytes {h} s (List·Memᴰ·head {x = g} {xs = hs} e) b =
       ap (λ t. isOf rank (cond t (some (g .kind)) (kindAmong hs bytes)) (h .kind))
-      (subst (λ (k : Headed). begins (k .head) bytes ≡ false) e b)
-      ∙ among-other (h .kind) bytes hs (subst (λ (k : Headed). others (k .kind) hs ≡ true) (sym e) (split g hs s .0))
+      (subst (λ (k : HeadedKind). begins (k .head) bytes ≡ false) e b)
+      ∙ among-other (h .kind) bytes hs (subst (λ (k : HeadedKind). others (k .kind) hs ≡ true) (sym e) (split g hs s .0))
   among-headless bytes {h} s (List·Memᴰ·tail {x = g} {xs = hs} m) b =
       by (begins (g .head) bytes) (among-headless bytes (split g hs s .2) m b)
     where
       differ : eqb (rank (h .kind)) (rank (g .kind)) ≡ false
       differ = not-true (eqb (rank (h .kind)) (rank (g .kind)))
-          (all-at (λ (k : Headed). not (eqb (rank (k .kind)) (rank (g .kind)))) (split g hs s .0) m)
+          (all-at (λ (k : HeadedKind). not (eqb (rank (k .kind)) (rank (g .kind)))) (split g hs s .0) m)
 
       by : (t : Bool) → isOf rank (kindAmong hs bytes) (h .kind) ≡ false
           → isOf rank (cond t (some (g .kind)) (kindAmong hs bytes)) (h .kind) ≡ false
@@ -128,28 +128,28 @@ module _ (rank : Kind → ℕ) where
 
   module _ (fine : wellHeaded headedKinds ≡ true) where
     parts : (separate headedKinds ≡ true) × (others clause-line headedKinds ≡ true)
-        × (all (λ (h : Headed). begins (ascii "c") (h .head)) headedKinds ≡ true)
+        × (all (λ (h : HeadedKind). begins (ascii "c") (h .head)) headedKinds ≡ true)
     unfolding wellHeaded
     parts =
         let v = and-split (separate headedKinds && others clause-line headedKinds)
-        (all (λ (h : Headed). begins (ascii "c") (h .head)) headedKinds) fine in
+        (all (λ (h : HeadedKind). begins (ascii "c") (h .head)) headedKinds) fine in
         let w = and-split (separate headedKinds) (others clause-line headedKinds) (v .0) in
         (w .0, w .1, v .1)
 
-    comment : {h : Headed} → h ∈ headedKinds → (l : Line) → begins (h .head) (l .bytes) ≡ true → isComment l ≡ true
+    comment : {h : HeadedKind} → h ∈ headedKinds → (l : Line) → begins (h .head) (l .bytes) ≡ true → isComment l ≡ true
     unfolding isComment
     comment {h} m l b = begins-begins (ascii "c") (h .head) (l .bytes)
-        (all-at (λ (k : Headed). begins (ascii "c") (k .head)) (parts .2) m) b
+        (all-at (λ (k : HeadedKind). begins (ascii "c") (k .head)) (parts .2) m) b
 
     -- a line with a head has its kind
-    pub kind-headed : {h : Headed} → h ∈ headedKinds → (l : Line) → begins (h .head) (l .bytes) ≡ true
+    pub kind-headed : {h : HeadedKind} → h ∈ headedKinds → (l : Line) → begins (h .head) (l .bytes) ≡ true
         → kindOf l ≡ some (h .kind)
     unfolding kindOf
     kind-headed m l b = ap (λ t. cond t (kindAmong headedKinds (l .bytes)) (some clause-line)) (comment m l b)
         ∙ among-headed (l .bytes) (parts .0) m b
 
     -- the test for its head is the test for its kind
-    pub headed-test : {h : Headed} → h ∈ headedKinds → (l : Line)
+    pub headed-test : {h : HeadedKind} → h ∈ headedKinds → (l : Line)
         → begins (h .head) (l .bytes) ≡ isOf rank (kindOf l) (h .kind)
     unfolding kindOf
     headed-test {h} m l = by (begins (h .head) (l .bytes)) refl
@@ -157,7 +157,7 @@ module _ (rank : Kind → ℕ) where
         differ : eqb (rank clause-line) (rank (h .kind)) ≡ false
         differ = ne-eqb (rank clause-line) (rank (h .kind)) (λ e. eqb-false (rank (h .kind)) (rank clause-line)
             (not-true (eqb (rank (h .kind)) (rank clause-line))
-            (all-at (λ (k : Headed). not (eqb (rank (k .kind)) (rank clause-line))) (parts .1) m)) (sym e))
+            (all-at (λ (k : HeadedKind). not (eqb (rank (k .kind)) (rank clause-line))) (parts .1) m)) (sym e))
 
         none-of : (c : Bool) → begins (h .head) (l .bytes) ≡ false
             → isOf rank (cond c (kindAmong headedKinds (l .bytes)) (some clause-line)) (h .kind) ≡ false

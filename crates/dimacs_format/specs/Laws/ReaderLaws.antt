@@ -12,6 +12,7 @@ use lib.ListN.{length, drop}
 use borrow.Author.Tests.{eqb-true, eq-eqb, leb-true, le-leb, lt-leb}
 use Rattle.math.specs.Laws.ListLaws.{here, and-split, and-join, or-split, or-left, or-right, all-at, all-of}
 use Rattle.math.specs.Lists.{_∈_, select}
+use Rattle.points.specs.Points.{emptyClause}
 use Rattle.point_slices.specs.Slices.{ClauseSlices, clauseRoom}
 use Rattle.formula.specs.Limits.{maxVariables, maxClauses}
 use Rattle.formula.specs.Problem.{emptyFormula}
@@ -19,7 +20,7 @@ use Rattle.formula.specs.Reply.{parsed, refused}
 use Rattle.dimacs_format.specs.Text.{maxText, isBlank, Line, lines, wordsOf, spelled, sameBytes, begins}
 use Rattle.dimacs_format.specs.Text.{isComment, allBlank, problemWord, formatWord, isTargetLine}
 use Rattle.dimacs_format.specs.Text.{isPermutationLine, numberIn, tokenIn, malformed}
-use Rattle.dimacs_format.specs.Input.{Input, emptyClause, formulaOf}
+use Rattle.dimacs_format.specs.Input.{Input, formulaOf}
 use Rattle.dimacs_format.specs.Reader.{Step, andThen, walk, Sizes, sizesIn, problemWords, problemIn, withinLimits}
 use Rattle.dimacs_format.specs.Reader.{Kind, Progress, begin, partOf, partStep, linesSay, isSkipped, fromProblem}
 use Rattle.dimacs_format.specs.Reader.{inputOf, atEnd, textSays, withRoom, withProblem, withLines, reading}

@@ -148,6 +148,7 @@ passes-few n k bytes h = le-trans (le-of-eq (sym (length-permutations n k bytes)
 
 -- a point has a digit for each variable
 pub digits-suffice : {n : ℕ} → n ≤ maxVariables → n ≤ pointDigits
+unfolding pointDigits
 digits-suffice few = few
 
 pub passes-listed : (n k : ℕ) (bytes : List ℕ) → n ≤ maxVariables → k * n ≤ length bytes

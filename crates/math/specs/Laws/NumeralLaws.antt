@@ -1,5 +1,5 @@
 -- Laws of numbers by their digits and of entries that stand without gaps: what is put out reads back. Assumes nothing.
-use mathlib.Core.List.{List, [], _∷_, _++_, append-assoc, append-nil, List·Memᴰ·tail}
+use mathlib.Core.List.{List, [], _∷_, _++_, flatMap, append-assoc, append-nil, List·Memᴰ·tail}
 use mathlib.Core.Option.{some, none}
 use mathlib.Core.Path.{_≡_, refl, sym, ap, ap₂, _∙_, subst}
 use Prim.Native.Nat.{ℕ, zero, suc, _+_, _*_, _/_, _^_, _≤_, _<_, _%_}
@@ -14,7 +14,7 @@ use lib.Seq.{take-at, drop-at, drop-drop, drop-cons}
 use Rattle.math.specs.Lists.{_∈_}
 use Rattle.math.specs.Laws.ListLaws.{here}
 use Rattle.math.specs.Laws.PartLaws.{index-some}
-use Rattle.math.specs.Numerals.{digitsOf, value, joined, entries}
+use Rattle.math.specs.Numerals.{digitsOf, value, entries}
 
 -- ---- one number
 
@@ -57,49 +57,28 @@ module _ (b : ℕ) where
 
 -- ---- entries
 
-module _ {A : Type 0} (write : A → List ℕ) where
-  pub joined-append : (xs ys : List A) → joined write (xs ++ ys) ≡ joined write xs ++ joined write ys
-  unfolding joined
-  joined-append [] ys = refl
-  joined-append (x ∷ xs) ys = ap (λ l. write x ++ l) (joined-append xs ys)
-      ∙ sym (append-assoc (write x) (joined write xs) (joined write ys))
-
-  -- one entry more
-  pub joined-snoc : (xs : List A) (x : A) → joined write (xs ++ x ∷ []) ≡ joined write xs ++ write x
-  unfolding joined
-  joined-snoc xs x = joined-append xs (x ∷ []) ∙ ap (λ l. joined write xs ++ l) (append-nil (write x))
-
 module _ {A : Type 0} (write : A → List ℕ) (w : ℕ) where
-  pub length-joined : (xs : List A) → ((x : A) → x ∈ xs → length (write x) ≡ w)
-      → length (joined write xs) ≡ length xs * w
-  unfolding joined
-  length-joined [] h = sym (zero-mul w)
-  length-joined (x ∷ xs) h =
-      length-append (write x) (joined write xs)
-      ∙ ap₂ _+_ (h x (here x xs)) (length-joined xs (λ y m. h y (List·Memᴰ·tail m)))
-      ∙ add-comm w (length xs * w) ∙ sym (suc-mul (length xs) w)
-
   -- entries of w digits each that read back one by one read back as a list, whatever stands behind them
-  pub entries-joined : (read : List ℕ → A) (xs : List A) (behind : List ℕ) → ((x : A) → x ∈ xs → length (write x) ≡ w)
+  pub entries-flatMap : (read : List ℕ → A) (xs : List A) (behind : List ℕ) → ((x : A) → x ∈ xs → length (write x) ≡ w)
       → ((x : A) → x ∈ xs → read (write x) ≡ x)
-      → entries read w (length xs) (joined write xs ++ behind) ≡ xs
-  unfolding joined entries
-  entries-joined read [] behind h r = refl
-  entries-joined read (x ∷ xs) behind h r =
+      → entries read w (length xs) (flatMap write xs ++ behind) ≡ xs
+  unfolding flatMap entries
+  entries-flatMap read [] behind h r = refl
+  entries-flatMap read (x ∷ xs) behind h r =
       let long : length (write x) ≡ w = h x (here x xs) in
-      let whole : (write x ++ joined write xs) ++ behind
-      ≡ write x ++ (joined write xs ++ behind) = append-assoc (write x) (joined write xs) behind in
-      ap₂ _∷_ (ap (λ l. read (take w l)) whole ∙ ap read (take-at (write x) (joined write xs ++ behind) w long)
+      let whole : (write x ++ flatMap write xs) ++ behind
+      ≡ write x ++ (flatMap write xs ++ behind) = append-assoc (write x) (flatMap write xs) behind in
+      ap₂ _∷_ (ap (λ l. read (take w l)) whole ∙ ap read (take-at (write x) (flatMap write xs ++ behind) w long)
       ∙ r x (here x xs))
       (ap (λ l. entries read w (length xs) (drop w l)) whole
-      ∙ ap (entries read w (length xs)) (drop-at (write x) (joined write xs ++ behind) w long)
-      ∙ entries-joined read xs behind (λ y m. h y (List·Memᴰ·tail m)) (λ y m. r y (List·Memᴰ·tail m)))
+      ∙ ap (entries read w (length xs)) (drop-at (write x) (flatMap write xs ++ behind) w long)
+      ∙ entries-flatMap read xs behind (λ y m. h y (List·Memᴰ·tail m)) (λ y m. r y (List·Memᴰ·tail m)))
 
   pub entries-all : (read : List ℕ → A) (xs : List A) → ((x : A) → x ∈ xs → length (write x) ≡ w)
       → ((x : A) → x ∈ xs → read (write x) ≡ x)
-      → entries read w (length xs) (joined write xs) ≡ xs
-  entries-all read xs h r = ap (entries read w (length xs)) (sym (append-nil (joined write xs)))
-      ∙ entries-joined read xs [] h r
+      → entries read w (length xs) (flatMap write xs) ≡ xs
+  entries-all read xs h r = ap (entries read w (length xs)) (sym (append-nil (flatMap write xs)))
+      ∙ entries-flatMap read xs [] h r
 
 module _ {A : Type 0} (read : List ℕ → A) (w : ℕ) where
   pub length-entries : (k : ℕ) (run : List ℕ) → length (entries read w k run) ≡ k

@@ -1,7 +1,7 @@
 -- Laws of lists taken apart and put together: selecting along a list, the list that a map came from, lists joined end
 -- to end. Assumes nothing.
 use mathlib.Core.Bool.{Bool, true, false, cond}
-use mathlib.Core.List.{List, [], _∷_, _++_, map, flatMap, append-assoc, nil≢cons, List·Memᴰ·tail}
+use mathlib.Core.List.{List, [], _∷_, _++_, map, flatMap, append-assoc, append-nil, nil≢cons, List·Memᴰ·tail}
 use mathlib.Core.Path.{_≡_, refl, sym, ap, ap₂, _∙_}
 use Prim.Native.Nat.{ℕ, _+_, _*_}
 use native.Mathlib.Nat.{zero-mul, suc-mul, add-comm}
@@ -51,6 +51,11 @@ module _ {A B : Type 0} (f : A → List B) where
   flatMap-append [] ys = refl
   flatMap-append (x ∷ xs) ys = ap (λ l. f x ++ l) (flatMap-append xs ys)
       ∙ sym (append-assoc (f x) (flatMap f xs) (flatMap f ys))
+
+  -- one more at the end
+  pub flatMap-snoc : (xs : List A) (x : A) → flatMap f (xs ++ x ∷ []) ≡ flatMap f xs ++ f x
+  unfolding flatMap
+  flatMap-snoc xs x = flatMap-append xs (x ∷ []) ∙ ap (λ l. flatMap f xs ++ l) (append-nil (f x))
 
   -- lists of one length, joined
   pub length-flatMap : (k : ℕ) (xs : List A) → ((x : A) → x ∈ xs → length (f x) ≡ k)

@@ -2,10 +2,16 @@
 use mathlib.Core.Path.{ap, _∙_}
 use Prim.Native.Nat.{ℕ, _+_, _-_, _*_}
 use lib.ListN.{getD}
+use native.Mathlib.Omega.{arith}
 use borrow.Author.Needs.{needs}
 use Rattle.math.specs.Bits.{flip}
+use Rattle.points.specs.Laws.NextLaws.{digits-few}
 use Rattle.permutation_coverage.proofs.flipped_image.Statement.{statement}
 use Rattle.permutation_coverage.proofs.flipped_image.Tie as tie
+
+-- a digit's number is a 32-bit number
+cast-to : tie.Need-cast-to
+cast-to c = omega (arith, digits-few, c .before .before .before .pre .high)
 
 point-at-requires : tie.Need-point-at-requires
 point-at-requires c κs = search needs
@@ -25,7 +31,7 @@ flipped-image-spec =
     (λ c. search needs)
     (λ c. search needs)
     (λ c. search needs)
-    (λ c. search needs)
+    cast-to
     (λ c. search needs)
     point-at-requires
     flip-requires

@@ -9,6 +9,7 @@ use lib.ListN.{length, getD, drop}
 use lib.Seq.{drop-length}
 use borrow.Author.Needs.{needs}
 use Rattle.points.specs.Points.{pointDigits}
+use Rattle.points.specs.Laws.NextLaws.{digits-few}
 use Rattle.math.specs.Laws.ListLaws.{getD-in}
 use Rattle.permutation_images.specs.Laws.LoopLaws.{moved-step}
 use Rattle.permutation_theory.specs.Permutations.{moved}
@@ -41,10 +42,10 @@ sub-image : tie.Need-sub-image Inv-loop μ-loop
 sub-image c = read c .0
 
 cast-from : tie.Need-cast-from Inv-loop μ-loop
-cast-from c = let h = index c in omega arith
+cast-from c = let h = index c in omega (arith, digits-few)
 
 cast-to : tie.Need-cast-to Inv-loop μ-loop
-cast-to c = let h = read c in omega arith
+cast-to c = let h = read c in omega (arith, digits-few)
 
 carry-requires : tie.Need-carry-requires Inv-loop μ-loop
 carry-requires c κs = let from = index c in let to = read c in omega arith

@@ -7,8 +7,9 @@ use lib.ListN.{length, getD, drop}
 use borrow.Author.Needs.{needs}
 use Rattle.math.specs.Lists.{any}
 use Rattle.math.specs.Laws.ScanLaws.{any-ends, any-stops, any-goes-on}
+use Rattle.points.specs.Points.{emptyClause}
 use Rattle.points.specs.Laws.Contracts.{clauseOf}
-use Rattle.point_slices.specs.Slices.{noLiterals, lentClauses}
+use Rattle.point_slices.specs.Slices.{lentClauses}
 use Rattle.permutation_theory.specs.Permutations.{sameClause}
 use Rattle.permutation_symmetry.proofs.has_clause.Statement.{statement}
 use Rattle.permutation_symmetry.proofs.has_clause.Tie as tie
@@ -42,24 +43,24 @@ same-clause-requires c κs = search needs
 -- what the test compares with
 compared : (c : tie.After-same-clause Inv-loop μ-loop)
     → sameClause (clauseOf (c .before .before .before .before .before .before .before .before .before .before .args .c))
-    (getD (lentClauses (c .before .before .before .before .before .before .before .before .before .before .args .positive .now) (c .before .before .before .before .before .before .before .before .before .before .args .negative .now)) (c .before .before .before .loop .at) noLiterals)
+    (getD (lentClauses (c .before .before .before .before .before .before .before .before .before .before .args .positive .now) (c .before .before .before .before .before .before .before .before .before .before .args .negative .now)) (c .before .before .before .loop .at) emptyClause)
     ≡ c .same-clause .result
 compared c = ap (sameClause _) (sym (c .before .clause-at .ensures)) ∙ sym (c .same-clause .ensures)
 
 returns-2 : tie.Need-returns-2 Inv-loop μ-loop
 returns-2 c =
     let l = c .before .before .before .before .loop in
-    sym (l .inv .1 ∙ any-stops (sameClause _) _ noLiterals (l .at) (omega arith) (compared (c .before) ∙ c .if2 .taken))
+    sym (l .inv .1 ∙ any-stops (sameClause _) _ emptyClause (l .at) (omega arith) (compared (c .before) ∙ c .if2 .taken))
 
 loop-again : tie.Need-loop-again Inv-loop μ-loop
 loop-again c =
     let l = c .before .before .before .before .loop in
-    (l .inv .0, l .inv .1 ∙ any-goes-on (sameClause _) _ noLiterals (l .at) (omega arith) (compared (c .before) ∙ c .if2 .left))
+    (l .inv .0, l .inv .1 ∙ any-goes-on (sameClause _) _ emptyClause (l .at) (omega arith) (compared (c .before) ∙ c .if2 .left))
 
 returns-3 : tie.Need-returns-3 Inv-loop μ-loop
 returns-3 c =
     let l = c .before .loop in
-    sym (l .inv .1 ∙ any-ends (sameClause _) _ noLiterals (l .at) (omega arith))
+    sym (l .inv .1 ∙ any-ends (sameClause _) _ emptyClause (l .at) (omega arith))
 
 pub has-clause-spec : {M : Type 1} → statement M
 has-clause-spec =

@@ -8,7 +8,8 @@ use borrow.Author.Needs.{needs}
 use borrow.Author.Tests.{not-true, not-false}
 use Rattle.math.specs.Lists.{any, all}
 use Rattle.math.specs.Laws.ScanLaws.{all-ends, all-stops, all-goes-on}
-use Rattle.point_slices.specs.Slices.{noLiterals, lentClauses}
+use Rattle.points.specs.Points.{emptyClause}
+use Rattle.point_slices.specs.Slices.{lentClauses}
 use Rattle.permutation_images.specs.Laws.LoopLaws.{keeps-numbered}
 use Rattle.permutation_theory.specs.Permutations.{imageAmong, sameClause}
 use Rattle.permutation_symmetry.proofs.keeps.Statement.{statement}
@@ -41,7 +42,7 @@ has-clause-requires c κs = search needs
 -- what the test says of the clause at i
 tested : (c : tie.After-has-clause Inv-loop μ-loop)
     → imageAmong (lentClauses (c .before .before .before .before .before .before .before .before .before .before .args .positive .now) (c .before .before .before .before .before .before .before .before .before .before .args .negative .now)) (record { images = c .before .before .before .before .before .before .before .before .before .before .args .e .now })
-    (getD (lentClauses (c .before .before .before .before .before .before .before .before .before .before .args .positive .now) (c .before .before .before .before .before .before .before .before .before .before .args .negative .now)) (c .before .before .before .before .loop .i) noLiterals)
+    (getD (lentClauses (c .before .before .before .before .before .before .before .before .before .before .args .positive .now) (c .before .before .before .before .before .before .before .before .before .before .args .negative .now)) (c .before .before .before .before .loop .i) emptyClause)
     ≡ c .has-clause .result
 tested c =
     let a = c .before .before .before .before .before .before .before .before .before .before .args in
@@ -52,17 +53,17 @@ tested c =
 returns : tie.Need-returns Inv-loop μ-loop
 returns c =
     let l = c .before .before .before .before .before .loop in
-    sym (keeps-numbered _ _ ∙ l .inv .1 ∙ all-stops (imageAmong _ _) _ noLiterals (l .i) (omega arith) (tested (c .before) ∙ not-true _ (c .if1 .taken)))
+    sym (keeps-numbered _ _ ∙ l .inv .1 ∙ all-stops (imageAmong _ _) _ emptyClause (l .i) (omega arith) (tested (c .before) ∙ not-true _ (c .if1 .taken)))
 
 loop-again : tie.Need-loop-again Inv-loop μ-loop
 loop-again c =
     let l = c .before .before .before .before .before .loop in
-    (l .inv .0, l .inv .1 ∙ all-goes-on (imageAmong _ _) _ noLiterals (l .i) (omega arith) (tested (c .before) ∙ not-false _ (c .if1 .left)))
+    (l .inv .0, l .inv .1 ∙ all-goes-on (imageAmong _ _) _ emptyClause (l .i) (omega arith) (tested (c .before) ∙ not-false _ (c .if1 .left)))
 
 returns-2 : tie.Need-returns-2 Inv-loop μ-loop
 returns-2 c =
     let l = c .before .loop in
-    sym (keeps-numbered _ _ ∙ l .inv .1 ∙ all-ends (imageAmong _ _) _ noLiterals (l .i) (omega arith))
+    sym (keeps-numbered _ _ ∙ l .inv .1 ∙ all-ends (imageAmong _ _) _ emptyClause (l .i) (omega arith))
 
 pub keeps-spec : {M : Type 1} → statement M
 keeps-spec =

@@ -6,10 +6,10 @@ use native.Mathlib.Omega.{arith}
 use lib.ListN.{length, getD}
 use borrow.Author.Needs.{needs}
 use borrow.Author.Tests.{not-true, not-false}
-use Rattle.points.specs.Points.{satisfies}
+use Rattle.points.specs.Points.{satisfies, emptyClause}
 use Rattle.point_slices.specs.Laws.SliceLaws.{points-le, clauses-le, falsifiedFrom, falsified-ends}
 use Rattle.point_slices.specs.Laws.SliceLaws.{falsified-stops, falsified-goes-on}
-use Rattle.point_slices.specs.Slices.{pointsOf, noLiterals, lentClauses}
+use Rattle.point_slices.specs.Slices.{pointsOf, lentClauses}
 use Rattle.point_slices.proofs.first_falsified.Statement.{statement}
 use Rattle.point_slices.proofs.first_falsified.Tie as tie
 
@@ -34,7 +34,7 @@ satisfies-requires c κs = search needs
 
 -- what the test says of the clause at i
 tested : (c : tie.After-satisfies Inv-loop μ-loop)
-    → satisfies (getD (lentClauses (c .before .before .before .before .before .before .before .args .positive .now) (c .before .before .before .before .before .before .before .args .negative .now)) (c .before .before .before .loop .i) noLiterals)
+    → satisfies (getD (lentClauses (c .before .before .before .before .before .before .before .args .positive .now) (c .before .before .before .before .before .before .before .args .negative .now)) (c .before .before .before .loop .i) emptyClause)
     (c .before .before .before .before .before .before .before .args .x)
     ≡ c .satisfies .result
 tested c = ap (λ d. satisfies d (c .before .before .before .before .before .before .before .args .x)) (sym (c .before .clause-at .ensures)) ∙ sym (c .satisfies .ensures)

@@ -13,9 +13,10 @@ use native.Mathlib.Numerals.{add-one}
 use lib.ListN.{length, getD, take, drop, replicate, drop-of-length-le, List·getD-eq-default}
 use lib.Seq.{drop-cons}
 use Rattle.math.specs.Lists.{_∈_}
-use Rattle.points.specs.Points.{Clause, satisfies, numberedFrom, firstFalsified, numberOf}
-use Rattle.point_slices.specs.Slices.{pointsOf, restOf, clauseSlices, wholeClauses, firstClauses, clauseRoom}
-use Rattle.point_slices.specs.Slices.{beside, noLiterals}
+use Rattle.points.specs.Points.{Clause, satisfies, numberedFrom, firstFalsified, numberOf, emptyClause}
+use Rattle.point_slices.specs.Slices.{pointsOf, restOf, ClauseSlices, clauseSlices, wholeClauses, firstClauses}
+use Rattle.point_slices.specs.Slices.{clauseRoom, SlotSlices, slotSlices}
+use Rattle.point_slices.specs.Slices.{beside}
 
 -- ---- words
 
@@ -32,6 +33,26 @@ rest-blank k = refl
 pub points-le : (s : List ℕ) → length (pointsOf s) ≤ length s
 unfolding pointsOf
 points-le s = le-of-eq refl
+
+-- G.a: "all memory lent": the points and the words behind them are all that a slice holds
+pub points-whole : (s t : List ℕ) → pointsOf s ≡ pointsOf t → restOf s ≡ restOf t → s ≡ t
+unfolding pointsOf
+points-whole s t p r = p
+
+-- so equal records are equal slices: an equation of records fixes each slice, to its last word
+pub clauses-whole : {p q p′ q′ : List ℕ} → clauseSlices p q ≡ clauseSlices p′ q′ → (p ≡ p′) × (q ≡ q′)
+clauses-whole {p} {q} {p′} {q′} e = (
+  points-whole p p′ (ap (λ (s : ClauseSlices). s .positive) e) (ap (λ (s : ClauseSlices). s .positiveRest) e),
+  points-whole q q′ (ap (λ (s : ClauseSlices). s .negative) e) (ap (λ (s : ClauseSlices). s .negativeRest) e),
+)
+
+pub slots-whole : {p f d p′ f′ d′ : List ℕ} → slotSlices p f d ≡ slotSlices p′ f′ d′
+    → (p ≡ p′) × (f ≡ f′) × (d ≡ d′)
+slots-whole {p} {f} {d} {p′} {f′} {d′} e = (
+  points-whole p p′ (ap (λ (s : SlotSlices). s .points) e) (ap (λ (s : SlotSlices). s .pointsRest) e),
+  ap (λ (s : SlotSlices). s .falsified) e,
+  ap (λ (s : SlotSlices). s .depths) e,
+)
 
 -- slices of one length hold equally many points
 pub same-count : (s t : List ℕ) → length s ≡ length t → length (pointsOf s) ≡ length (pointsOf t)
@@ -85,7 +106,7 @@ pub clauses-le : (ps ns : List ℕ) → length (beside ps ns) ≤ length ps
 clauses-le ps ns = le-trans (le-of-eq (length-clauses ps ns)) (min-le-left (length ps) (length ns))
 
 pub clause-at : (ps ns : List ℕ) (i : ℕ) → i < length ps → i < length ns
-    → getD (beside ps ns) i noLiterals ≡ record { positive = getD ps i 0; negative = getD ns i 0 }
+    → getD (beside ps ns) i emptyClause ≡ record { positive = getD ps i 0; negative = getD ns i 0 }
 unfolding beside
 clause-at [] ns i hp hn = absurd (not-suc-le-zero hp)
 clause-at (p ∷ ps) [] i hp hn = absurd (not-suc-le-zero hn)
@@ -93,8 +114,8 @@ clause-at (p ∷ ps) (n ∷ ns) zero hp hn = refl
 clause-at (p ∷ ps) (n ∷ ns) (suc i) hp hn = clause-at ps ns i (le-of-suc-le-suc hp) (le-of-suc-le-suc hn)
 
 pub clause-past : (ps ns : List ℕ) (i : ℕ) → (length ps ≤ i) ⊎ (length ns ≤ i)
-    → noLiterals ≡ getD (beside ps ns) i noLiterals
-clause-past ps ns i h = sym (List·getD-eq-default (beside ps ns) noLiterals (past h))
+    → emptyClause ≡ getD (beside ps ns) i emptyClause
+clause-past ps ns i h = sym (List·getD-eq-default (beside ps ns) emptyClause (past h))
   where
     past : (length ps ≤ i) ⊎ (length ns ≤ i) → length (beside ps ns) ≤ i
     past (inl h) = le-trans (clauses-le ps ns) h
@@ -118,20 +139,20 @@ unfolding numberedFrom firstFalsified numberOf
 falsifiedFrom cs x i = numberOf (firstFalsified (numberedFrom (suc i) (drop i cs)) x)
 
 module _ (cs : List Clause) (x : ℕ) where
-  next : (i : ℕ) → i < length cs → drop i cs ≡ getD cs i noLiterals ∷ drop (i + 1) cs
-  next i h = drop-cons cs i noLiterals h ∙ ap (λ j. getD cs i noLiterals ∷ drop j cs) (sym (add-one i))
+  next : (i : ℕ) → i < length cs → drop i cs ≡ getD cs i emptyClause ∷ drop (i + 1) cs
+  next i h = drop-cons cs i emptyClause h ∙ ap (λ j. getD cs i emptyClause ∷ drop j cs) (sym (add-one i))
 
   pub falsified-ends : (i : ℕ) → length cs ≤ i → falsifiedFrom cs x i ≡ 0
   unfolding falsifiedFrom
   falsified-ends i h = ap (λ l. numberOf (firstFalsified (numberedFrom (suc i) l) x)) (drop-of-length-le cs h)
 
-  pub falsified-stops : (i : ℕ) → i < length cs → satisfies (getD cs i noLiterals) x ≡ false
+  pub falsified-stops : (i : ℕ) → i < length cs → satisfies (getD cs i emptyClause) x ≡ false
       → falsifiedFrom cs x i ≡ i + 1
   unfolding falsifiedFrom
   falsified-stops i h e = ap (λ l. numberOf (firstFalsified (numberedFrom (suc i) l) x)) (next i h)
       ∙ rw e (sym (add-one i))
 
-  pub falsified-goes-on : (i : ℕ) → i < length cs → satisfies (getD cs i noLiterals) x ≡ true
+  pub falsified-goes-on : (i : ℕ) → i < length cs → satisfies (getD cs i emptyClause) x ≡ true
       → falsifiedFrom cs x i ≡ falsifiedFrom cs x (i + 1)
   unfolding falsifiedFrom
   falsified-goes-on i h e =

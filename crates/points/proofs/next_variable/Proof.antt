@@ -3,10 +3,12 @@
 use mathlib.Core.Path.{ap, _∙_}
 use lib.Count.{trailingZeros, trailing-of-zero}
 use Rattle.math.specs.Laws.SetLaws.{trailing-lt, trailing-lowest}
+use Rattle.points.specs.Points.{pointDigits}
 use Rattle.points.proofs.next_variable.Statement.{statement}
 use Rattle.points.proofs.next_variable.Tie as tie
 
 returns : tie.Need-returns
+unfolding pointDigits
 returns c =
     record {
       empty = λ e. ap (trailingZeros 64) e ∙ trailing-of-zero 64;

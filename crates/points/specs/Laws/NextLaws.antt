@@ -1,5 +1,5 @@
--- Laws of the next variable of a set: one below n is the lowest, and where there is none below n the set of n has none.
--- Assumes nothing.
+-- Laws of the digits of a point and of the next variable of a set: one below n is the lowest, and where there is none
+-- below n the set of n has none. Assumes nothing.
 use mathlib.Core.Bool.{true≢false}
 use mathlib.Core.List.{[]}
 use mathlib.Core.Path.{_≡_, sym, ap, _∙_}
@@ -11,6 +11,11 @@ use Rattle.math.specs.Bits.{members, Lowest}
 use Rattle.math.specs.Laws.SetLaws.{members-none}
 use Rattle.points.specs.Points.{pointDigits}
 use Rattle.points.specs.Laws.Contracts.{NextVariable}
+
+-- the number of digits is a 32-bit number
+pub digits-few : pointDigits < 2 ^ 32
+unfolding pointDigits
+digits-few = omega arith
 
 -- where the lowest is not below n, a set of numbers below n is empty
 pub next-empty : (n left v : ℕ) → NextVariable left v → left < 2 ^ n → n ≤ v → left ≡ 0

@@ -14,7 +14,7 @@ use Rattle.formula.specs.Reply.{Reply, refused, satisfiable, unsatisfiable, unk
 use Rattle.formula.specs.Reply.{no-fault}
 use Rattle.formula.specs.Laws.ReplyLaws.{not-refused}
 use Rattle.search_theory.specs.Laws.Promised.{LowerBound, Nearest, HandedBack, ClosedSlots, reported}
-use Rattle.search_theory.specs.Slots.{filledWith}
+use Rattle.search_theory.specs.Filled.{filledWith}
 use Rattle.search_theory.specs.Walk.{Slot, walked}
 use Rattle.search.specs.Laws.Accepted.{answered}
 use Rattle.search.specs.Search.{searchFault, searchReply, searchSlots, searchSlices}

@@ -13,7 +13,7 @@ use Rattle.formula.specs.Problem.{Problem, problemOf}
 use Rattle.formula.specs.Refusals.{fits, permutationFault, symmetryFault}
 use Rattle.formula.specs.Reply.{no-fault, fault, first, unless, unlessKept}
 use Rattle.search.specs.Search.{slotFault, searchFault, searchReply, searchSlots, searchSlices}
-use Rattle.search_theory.specs.Slots.{filledWith}
+use Rattle.search_theory.specs.Filled.{filledWith}
 use Rattle.search_theory.specs.Walk.{walked}
 
 module _ (f g : Formula) (clauses : ClauseSlices) (same : problemOf f clauses ≡ problemOf g clauses) where

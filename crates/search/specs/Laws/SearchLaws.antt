@@ -28,7 +28,7 @@ use Rattle.search_expansion.specs.Laws.FillingLaws.{held-with}
 use Rattle.search_expansion.specs.Laws.Memory.{Lends}
 use Rattle.search_step.specs.Laws.Stepping.{framed, Searchable, Ended}
 use Rattle.search_theory.specs.Laws.Invariants.{Ready}
-use Rattle.search_theory.specs.Slots.{filledWith}
+use Rattle.search_theory.specs.Filled.{filledWith}
 use Rattle.search_theory.specs.Walk.{Slot, slot, start, Walks, walked}
 use Rattle.search_theory.specs.Laws.WalkLaws.{walks-walked}
 

@@ -28,7 +28,7 @@ use Rattle.search_expansion.specs.Laws.Filling.{visited, SlotsIndexed, F
 use Rattle.search_expansion.specs.Laws.Filling.{Advances}
 use Rattle.point_slices.specs.Slices.{SlotSlices, slotSlices}
 use Rattle.search_expansion.specs.Laws.Memory.{Holds, Lends, SameSizes, Stored}
-use Rattle.search_theory.specs.Slots.{filledWith}
+use Rattle.search_theory.specs.Filled.{filledWith}
 use Rattle.search_theory.specs.Walk.{Slot, slot, pointsIn, Expansion, complete, full, Fills, no-more, skipped}
 use Rattle.search_theory.specs.Walk.{filled-next, no-room}
 

@@ -18,8 +18,9 @@ use Rattle.math.specs.Laws.OverLaws.{over-change, over-at}
 use Rattle.math.specs.Laws.QueueLaws.{length-snoc, length-moved, map-moved}
 use Rattle.math.specs.Laws.SplitLaws.{map-append}
 use Rattle.points.specs.Points.{Clause, pointDigits, distance, listed, variables, Numbered, numbered, SatisfiesAll}
+use Rattle.points.specs.Points.{emptyClause}
 use Rattle.points.specs.Points.{FirstFalsified, firstFalsified, numberOf}
-use Rattle.point_slices.specs.Slices.{noLiterals, SlotSlices}
+use Rattle.point_slices.specs.Slices.{SlotSlices}
 use Rattle.point_theory.specs.Laws.Distance.{distance-wider}
 use Rattle.formula.specs.Limits.{maxSlots}
 use Rattle.formula.specs.Problem.{Problem}
@@ -97,7 +98,7 @@ module _ (g : Frame) (images : List ℕ) (clauses : List Clause) (ok : Searchabl
     pub point : from .point ≡ taken .point
     pub depth : from .depth ≡ taken .depth
     pub first : FirstFalsified (pb .clauses) (taken .point) falsified
-    pub place : falsified .clause ≡ getD clauses (number - 1) noLiterals
+    pub place : falsified .clause ≡ getD clauses (number - 1) emptyClause
     pub stands : Stands pb (g .room) old p (taken ∷ rest) m₀ q
     pub holds : Holds old ((p ++ withNumber taken falsified ∷ []) ++ rest) (numberedIn (q .at) number m₀)
 
@@ -196,11 +197,11 @@ module _ (g : Frame) (images : List ℕ) (clauses : List Clause) (ok : Searchabl
         )
 
     -- the variables of the clause: a set of variables below n
-    clause-listed : (c : Clause) (s : ℕ) → c ≡ getD clauses (number - 1) noLiterals → s ≡ listed c
+    clause-listed : (c : Clause) (s : ℕ) → c ≡ getD clauses (number - 1) emptyClause → s ≡ listed c
         → s ≡ listed (t .falsified .clause)
     clause-listed c s e l = l ∙ ap listed (e ∙ sym (t .place))
 
-    pub taken-below : (c : Clause) (s : ℕ) → c ≡ getD clauses (number - 1) noLiterals → s ≡ listed c
+    pub taken-below : (c : Clause) (s : ℕ) → c ≡ getD clauses (number - 1) emptyClause → s ≡ listed c
         → s < 2 ^ g .lookup .variables
     unfolding listed
     taken-below c s e l =
@@ -218,7 +219,7 @@ module _ (g : Frame) (images : List ℕ) (clauses : List Clause) (ok : Searchabl
           (variables (g .lookup .variables) (t .falsified .clause)) (t .rest) (ended enough waiting)
 
     pub flipped-of : {enough : Bool} {filled′ : ℕ} {m : SlotSlices} (c : Clause) (s : ℕ)
-        → c ≡ getD clauses (number - 1) noLiterals → s ≡ listed c
+        → c ≡ getD clauses (number - 1) emptyClause → s ≡ listed c
         → Advances (pb .permutations) (g .room) from (members (g .lookup .variables) s) (q .filled)
         (numberedIn (q .at) number m₀) enough [] filled′ m → Flipped enough filled′ m
     unfolding variables
@@ -296,7 +297,7 @@ module _ (g : Frame) (images : List ℕ) (clauses : List Clause) (ok : Searchabl
     pub depth-read : from .depth ≡ getD (m₀ .depths) (q .at) 0
     pub number-read : number ≡ numberOf (firstFalsified (numbered clauses) (from .point))
     pub unsatisfied : number ≡ 0 → ⊥
-    pub clause-read : c ≡ getD clauses (number - 1) noLiterals
+    pub clause-read : c ≡ getD clauses (number - 1) emptyClause
     pub listed-read : s ≡ listed c
 
   module _ {m₀ : SlotSlices} {q : Position} {from : Visit} {number s : ℕ} {c : Clause} (lt : q .at < q .filled)

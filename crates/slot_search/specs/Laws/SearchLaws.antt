@@ -16,7 +16,7 @@ use Rattle.formula.specs.Reply.{Fault, no-fault, fault, pointIn, unlessKept}
 use Rattle.search.specs.declared.Found.{Found}
 use Rattle.search.specs.Search.{searchReply, searchFault, searchSlots, searchSlices}
 use Rattle.search.specs.Contract.{Searched}
-use Rattle.search_theory.specs.Slots.{filledWith}
+use Rattle.search_theory.specs.Filled.{filledWith}
 use Rattle.search_theory.specs.Walk as W
 use Rattle.slot_columns.specs.declared.Slot.{Slot}
 use Rattle.slot_columns.specs.Slots.{pointsIn, falsifiedIn, depthsIn, slotsIn}

@@ -4,6 +4,7 @@ use borrow.Author.Needs.{needs}
 use Rattle.permutation_theory.specs.Permutations.{isPermutation}
 use Rattle.permutation_images.specs.Laws.LoopLaws.{Testing, testing-begins, testing-whole, testing-stops}
 use Rattle.permutation_images.specs.Laws.LoopLaws.{testing-goes-on, testing-ends}
+use Rattle.formula.specs.Laws.RefusalLaws.{digits-suffice}
 use Rattle.formula.proofs.refusals.first_non_permutation.Statement.{statement}
 use Rattle.formula.proofs.refusals.first_non_permutation.Tie as tie
 
@@ -17,7 +18,7 @@ permutation-at-requires : tie.Need-permutation-at-requires Inv-loop μ-loop
 permutation-at-requires c κs = search (needs, testing-whole)
 
 is-permutation-requires : tie.Need-is-permutation-requires Inv-loop μ-loop
-is-permutation-requires c κs = search needs
+is-permutation-requires c κs = search (needs, digits-suffice)
 
 pub first-non-permutation-spec : {M : Type 1} → statement M
 first-non-permutation-spec =

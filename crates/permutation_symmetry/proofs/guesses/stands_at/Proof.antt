@@ -5,7 +5,7 @@ use mathlib.Core.Path.{sym, ap, _∙_}
 use native.Mathlib.Omega.{arith}
 use borrow.Author.Needs.{needs}
 use Rattle.math.specs.Laws.ListLaws.{any-of, getD-in}
-use Rattle.point_slices.specs.Slices.{noLiterals}
+use Rattle.points.specs.Points.{emptyClause}
 use Rattle.permutation_theory.specs.Permutations.{sameClause}
 use Rattle.permutation_symmetry.proofs.guesses.stands_at.Statement.{statement}
 use Rattle.permutation_symmetry.proofs.guesses.stands_at.Tie as tie
@@ -24,7 +24,7 @@ same-clause-requires c κs = search needs
 
 returns-2 : tie.Need-returns-2
 returns-2 c e =
-    any-of (sameClause _) (getD-in _ _ noLiterals (omega (arith, c .before .before .before .clause-count .ensures, c .before .before .if1 .left)))
+    any-of (sameClause _) (getD-in _ _ emptyClause (omega (arith, c .before .before .before .clause-count .ensures, c .before .before .if1 .left)))
     (ap (sameClause _) (sym (c .before .clause-at .ensures)) ∙ sym (c .same-clause .ensures) ∙ e)
 
 pub stands-at-spec : {M : Type 1} → statement M
