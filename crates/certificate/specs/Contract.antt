@@ -47,10 +47,6 @@ pub record OpenedAs (file : List ℕ) (r : Opened) : Type 0 where
 abbrev pub entryOf : Entry → Option ℕ
 entryOf r = cond (r .inside) (some (r .value)) none
 
--- the answer that there is none
-abbrev pub noEntry : Entry
-noEntry = record { inside = false; value = 0 }
-
 -- the code's answer is this entry; the value is 0 where there is none
 pub record EntryIs (entry : Option ℕ) (r : Entry) : Type 0 where
   pub held : entryOf r ≡ entry

@@ -8,10 +8,11 @@ ghost use mathlib.Core.Path.{_≡_};
 ghost use Prim.Native.Nat.{_+_, _*_, _^_, _≤_, _<_};
 ghost use lib.ListN.{length, getD, take, drop};
 ghost use Rattle.math.specs.Lists.{over};
+ghost use Rattle.certificate.specs.Laws.Contracts.{noEntry};
 ghost use Rattle.point_slices.specs.Slices.{pointsOf, restOf};
 ghost use Rattle.certificate.specs.Bytes.{numberFrom, numbersIn, pointWidth, numberWidth, fieldWidth};
 ghost use Rattle.certificate.specs.Certificate.{contentsLength, numberAt};
-ghost use Rattle.certificate.specs.Contract.{noEntry, EntryIs, ImageRead, PointRead, NumberRead};
+ghost use Rattle.certificate.specs.Contract.{EntryIs, ImageRead, PointRead, NumberRead};
 
 // C1: the number that at most eight bytes stand for, low byte first. One step a byte. Its callers hand in parts of 4 or
 // 8 bytes.

@@ -8,8 +8,9 @@ use point_slices::point_at;
 use points::Point;
 ghost use mathlib.Core.Path.{_≡_};
 ghost use Rattle.math.specs.Lists.{firstFailing, below};
+ghost use Rattle.point_slices.specs.Laws.Contracts.{lentClauses};
 ghost use Rattle.points.specs.Points.{numbered};
-ghost use Rattle.point_slices.specs.Slices.{pointsOf, lentClauses};
+ghost use Rattle.point_slices.specs.Slices.{pointsOf};
 ghost use Rattle.formula.specs.Refusals.{faultOf};
 ghost use Rattle.certificate.specs.Rows.{clauseNumbered, falsifies, numberPasses, numbersFault};
 

@@ -219,6 +219,7 @@ Part clause-line = Clauses
 Part target-line = Option ℕ
 Part permutation-line = List Permutation
 
+-- that part
 abbrev pub partOf : (k : Kind) → Progress → Part k
 partOf clause-line s = s .clauses
 partOf target-line s = s .target

@@ -62,14 +62,6 @@ unfoldable pub symmetryFault : List Numbered → List Permutation → Fault
 unfolding firstFailing keeps faultAt
 symmetryFault cs es = faultAt 12 (firstFailing (keeps cs) es)
 
--- the rows 10, 11 and 12 in this order, which the search and the writer test first
-unfoldable pub problemFault : Formula → ClauseSlices → Fault
-unfolding first formulaFault permutationFault symmetryFault problemOf
-problemFault f clauses =
-    let pb = problemOf f clauses in
-    first (formulaFault f clauses ∷ permutationFault (pb .variables) (pb .permutations)
-    ∷ symmetryFault (pb .clauses) (pb .permutations) ∷ [])
-
 -- F10: what the code's answer of a test means
 abbrev pub faultOf : Checked → Fault
 faultOf Passed = no-fault

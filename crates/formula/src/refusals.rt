@@ -11,13 +11,15 @@ ghost use mathlib.Core.Path.{_≡_};
 ghost use Prim.Native.Nat.{_*_, _≤_};
 ghost use lib.ListN.{length};
 ghost use Rattle.math.specs.Lists.{firstFailing};
+ghost use Rattle.formula.specs.Laws.Contracts.{problemFault};
+ghost use Rattle.point_slices.specs.Laws.Contracts.{lentClauses};
 ghost use Rattle.points.specs.Points.{numbered};
-ghost use Rattle.point_slices.specs.Slices.{pointsOf, clauseSlices, lentClauses};
+ghost use Rattle.point_slices.specs.Slices.{pointsOf, clauseSlices};
 ghost use Rattle.permutation_images.specs.Laws.Contracts.{Listed};
 ghost use Rattle.permutation_theory.specs.Permutations.{isPermutation, keeps, permutationsIn};
 ghost use Rattle.formula.specs.Limits.{maxVariables, maxPermutations};
 ghost use Rattle.formula.specs.Refusals.{allBelow, fits, clausesFault, formulaFault, permutationFault};
-ghost use Rattle.formula.specs.Refusals.{symmetryFault, problemFault, faultOf};
+ghost use Rattle.formula.specs.Refusals.{symmetryFault, faultOf};
 
 // Whether no number of the slice has a bit at n or above. One step a number.
 fn all_below(xs: &[u64], n: u32) -> bool

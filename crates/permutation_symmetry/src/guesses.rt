@@ -12,8 +12,8 @@ ghost use mathlib.Core.Bool.{true};
 ghost use mathlib.Core.Path.{_≡_};
 ghost use Prim.Native.Nat.{_<_};
 ghost use Rattle.math.specs.Lists.{any};
+ghost use Rattle.point_slices.specs.Laws.Contracts.{lentClauses};
 ghost use Rattle.points.specs.Laws.Contracts.{clauseOf};
-ghost use Rattle.point_slices.specs.Slices.{lentClauses};
 ghost use Rattle.permutation_theory.specs.Permutations.{sameClause};
 
 // How many entries the slice should have; with fewer there are fewer guesses. At most half of them hold one.

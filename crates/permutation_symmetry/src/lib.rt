@@ -6,9 +6,9 @@ use point_slices::clause_count;
 use points::Clause;
 ghost use mathlib.Core.Path.{_≡_};
 ghost use Rattle.math.specs.Lists.{any};
+ghost use Rattle.point_slices.specs.Laws.Contracts.{lentClauses};
 ghost use Rattle.points.specs.Laws.Contracts.{clauseOf};
 ghost use Rattle.points.specs.Points.{numbered};
-ghost use Rattle.point_slices.specs.Slices.{lentClauses};
 ghost use Rattle.permutation_theory.specs.Permutations.{sameClause, keeps};
 ghost use Rattle.permutation_images.specs.Laws.Contracts.{Movable};
 

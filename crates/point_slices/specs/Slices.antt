@@ -45,10 +45,6 @@ beside (p ∷ ps) (n ∷ ns) = record { positive = p; negative = n } ∷ beside 
 abbrev pub clausesOf : ClauseSlices → List Clause
 clausesOf s = beside (s .positive) (s .negative)
 
--- the clauses of two slices as they are lent, for functions that read clauses alone
-abbrev pub lentClauses : List ℕ → List ℕ → List Clause
-lentClauses positive negative = beside (pointsOf positive) (pointsOf negative)
-
 -- the first k clauses alone
 abbrev pub firstClauses : ℕ → ClauseSlices → ClauseSlices
 firstClauses k s = wholeClauses (take k (s .positive)) (take k (s .negative))

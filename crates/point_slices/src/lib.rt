@@ -7,9 +7,10 @@ ghost use mathlib.Core.List.{[]};
 ghost use mathlib.Core.Path.{_≡_};
 ghost use Prim.Native.Nat.{min, _≤_};
 ghost use lib.ListN.{length, getD, set, take};
+ghost use Rattle.point_slices.specs.Laws.Contracts.{lentClauses};
 ghost use Rattle.points.specs.Laws.Contracts.{clauseOf};
 ghost use Rattle.points.specs.Points.{firstFalsified, numbered, numberOf, emptyClause};
-ghost use Rattle.point_slices.specs.Slices.{pointsOf, restOf, lentClauses};
+ghost use Rattle.point_slices.specs.Slices.{pointsOf, restOf};
 
 // How many points a slice holds.
 pub fn point_count(points: &[u64]) -> usize

@@ -92,7 +92,11 @@ reportOf n (written size) = []
 reportOf n opened = []
 reportOf n accepted = []
 
--- a bound for the text of every reply, in bytes: 15 in front of the names, four a name, 3 behind them, 38 in the last
+-- a bound for the text of a literal, in bytes: a blank, a minus, and the variable's digits
+abbrev pub longestLiteral : ℕ
+longestLiteral = 4
+
+-- a bound for the text of every reply, in bytes: 15 in front of the literals, 3 behind them, 38 in the last
 -- line
 abbrev pub longestText : ℕ
-longestText = 15 + 4 * maxVariables + 3 + 38
+longestText = 15 + longestLiteral * maxVariables + 3 + 38

@@ -13,11 +13,14 @@ ghost use Rattle.program_text.specs.Decimal.{numeral, field, line};
 ghost use Rattle.program_text.specs.Laws.Putting.{Put};
 ghost use Rattle.search.specs.Contract.{replyOfFound};
 ghost use Rattle.program_text.specs.Report.{literal, literals, satisfiableText, unsatisfiableText, unknownText};
-ghost use Rattle.program_text.specs.Report.{refusedText, reportOf, longestText};
+ghost use Rattle.program_text.specs.Report.{refusedText, reportOf, longestLiteral, longestText};
 ghost use Rattle.program_text.specs.Laws.Putting.{Printed};
 
+// A bound for the text of a literal, in bytes.
+const LITERAL: usize = 4;
+
 // A bound for the text of every reply, in bytes; the program's output and those who lend one have so many.
-pub const LONGEST: usize = 15 + 4 * Formula::MAX_VARIABLES as usize + 3 + 38;
+pub const LONGEST: usize = 15 + LITERAL * Formula::MAX_VARIABLES as usize + 3 + 38;
 
 // Puts one digit, and answers the place behind it.
 fn put_digit(out: &mut [u8], at: usize, d: u64) -> usize
@@ -71,10 +74,9 @@ pub fn put_line(out: &mut [u8], at: usize, head: &[u8], a: u64, between: &[u8], 
     put_text(out, second, b"\n")
 }
 
-// P3: puts the name of bit i of a point, with a minus where the bit is 0. That takes four bytes at most; `put_literals`
-// sees to them.
+// P3: puts the name of bit i of a point, with a minus where the bit is 0. `put_literals` sees to the room.
 fn put_literal(out: &mut [u8], at: usize, x: Point, i: u32) -> usize
-    requires { ⌜ (i < maxVariables) × (at + 4 ≤ length (now out)) ⌝ }
+    requires { ⌜ (i < maxVariables) × (at + longestLiteral ≤ length (now out)) ⌝ }
     ensures { λ r. ⌜ Put at (literal x i) (now (out .entry)) r (now (out .exit)) ⌝ }
 {
     let name = i as u64 + 1;
@@ -87,7 +89,7 @@ fn put_literal(out: &mut [u8], at: usize, x: Point, i: u32) -> usize
 
 // P3: puts the first n names of a point, ascending. One step a name. `put_satisfiable` sees to the room.
 fn put_literals(out: &mut [u8], at: usize, x: Point, n: u32) -> usize
-    requires { ⌜ (n ≤ maxVariables) × (at + 4 * n ≤ length (now out)) ⌝ }
+    requires { ⌜ (n ≤ maxVariables) × (at + longestLiteral * n ≤ length (now out)) ⌝ }
     ensures { λ r. ⌜ Put at (literals x n) (now (out .entry)) r (now (out .exit)) ⌝ }
 {
     let mut place = at;

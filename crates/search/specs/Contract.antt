@@ -17,6 +17,7 @@ replyOfOutcome x (Unsatisfiable filled) = unsatisfiable filled
 replyOfOutcome x (Unknown b filled) = unknown b filled
 replyOfOutcome x (Refused code place) = refused code place
 
+-- the same with the point that stands beside it
 abbrev pub replyOfFound : Found → Reply
 replyOfFound r = replyOfOutcome (r .point) (r .answer)
 

@@ -25,7 +25,7 @@ pub record SolverReply : Type 0 where
   pub reply : Reply
   pub certificate : Option Reply
 
--- F10: what the code's answer tells, with the point that stands beside it
+-- F10: what the code's answer tells, beside the point x
 unfoldable pub replyOfSolution : ℕ → Solution → SolverReply
 replyOfSolution x (Satisfiable d filled) = record { reply = satisfiable x d filled; certificate = none }
 replyOfSolution x (Refutes filled size) = record { reply = unsatisfiable filled; certificate = some (written size) }
@@ -36,6 +36,7 @@ replyOfSolution x (Uncertified filled needed) = record {
 replyOfSolution x (Unknown b filled) = record { reply = unknown b filled; certificate = none }
 replyOfSolution x (Refused code place) = record { reply = refused code place; certificate = none }
 
+-- the same with the point that stands beside it
 abbrev pub replyOfSettled : Settled → SolverReply
 replyOfSettled r = replyOfSolution (r .point) (r .answer)
 

@@ -10,6 +10,7 @@ use native.Mathlib.Omega.{arith}
 use lib.ListN.{length, getD, getElem?, take, drop, length-take, length-drop}
 use lib.Seq.{length-take-le, getD-take, getD-drop}
 use Rattle.math.specs.Laws.PartLaws.{index-some, index-none}
+use Rattle.certificate.specs.Laws.Contracts.{noEntry}
 use Rattle.permutation_theory.specs.Permutations.{Permutation}
 use Rattle.formula.specs.Reply.{no-fault, fault, opened, unless}
 use Rattle.certificate.specs.Bytes.{numberFrom, numbersIn, permutationWidth, pointWidth, numberWidth}
@@ -18,7 +19,7 @@ use Rattle.certificate.specs.Certificate.{contentsOf, WellFormed, wellFo
 use Rattle.certificate.specs.Certificate.{numbersBody, filePermutations, filePoints, fileNumbers, numberAt}
 use Rattle.certificate.specs.Certificate.{imageAt}
 use Rattle.certificate.specs.Reader.{openedReply, openedContents}
-use Rattle.certificate.specs.Contract.{replyOfOpened, contentsIn, handedOut, OpenedAs, entryOf, noEntry, EntryIs}
+use Rattle.certificate.specs.Contract.{replyOfOpened, contentsIn, handedOut, OpenedAs, entryOf, EntryIs}
 use Rattle.certificate.specs.declared.Entry.{Entry}
 use Rattle.certificate.specs.declared.Contents.{Contents}
 use Rattle.certificate.specs.declared.Opened.the-variants.{File, Refused}

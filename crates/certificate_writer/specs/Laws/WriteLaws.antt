@@ -7,6 +7,7 @@ use native.Mathlib.Nat.{le-of-eq, le-trans}
 use native.Mathlib.Omega.{arith}
 use lib.ListN.{length, drop}
 use Rattle.math.specs.Lists.{over}
+use Rattle.formula.specs.Laws.Contracts.{problemFault}
 use Rattle.points.specs.Points.{numbered}
 use Rattle.point_slices.specs.Slices.{ClauseSlices, SlotSlices, clausesOf}
 use Rattle.permutation_theory.specs.Permutations.{Permutation, permutationsIn}
@@ -17,7 +18,7 @@ use Rattle.formula.specs.declared.Formula.{Formula}
 use Rattle.formula.specs.Limits.{maxVariables, maxPermutations, maxSlots, capacity, maxImages}
 use Rattle.formula.specs.Problem.{problemOf}
 use Rattle.formula.specs.Laws.RefusalLaws.{formula-passes, passes-few, images-room}
-use Rattle.formula.specs.Refusals.{formulaFault, permutationFault, symmetryFault, problemFault, faultOf}
+use Rattle.formula.specs.Refusals.{formulaFault, permutationFault, symmetryFault, faultOf}
 use Rattle.formula.specs.Reply.{Fault, no-fault, fault, first, written}
 use Rattle.formula.specs.Laws.ReplyLaws.{first-split, first-last, first-after, first-before, first-nested}
 use Rattle.certificate_writer.specs.declared.Written.the-variants.{Bytes, Refused}

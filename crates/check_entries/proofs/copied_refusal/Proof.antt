@@ -2,9 +2,9 @@
 -- nothing.
 use mathlib.Core.Path.{ap₂, _∙_}
 use borrow.Author.Needs.{needs}
+use Rattle.point_slices.specs.Laws.Contracts.{lentClauses}
 use Rattle.point_slices.specs.Laws.SliceLaws.{same-count}
 use Rattle.points.specs.Points.{numbered}
-use Rattle.point_slices.specs.Slices.{lentClauses}
 use Rattle.permutation_theory.specs.Permutations.{permutationsIn}
 use Rattle.certificate.specs.Bytes.{pointWidth, numberWidth}
 use Rattle.check_entries.specs.Laws.EntryLaws.{copied, lent-ready}

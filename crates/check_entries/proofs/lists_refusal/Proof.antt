@@ -1,8 +1,9 @@
 -- `check_entries::lists_refusal` meets its contract: each is tested over everything before the next. Assumes nothing.
 use mathlib.Core.Path.{_≡_, sym, ap, _∙_, subst}
 use borrow.Author.Needs.{needs}
+use Rattle.point_slices.specs.Laws.Contracts.{lentClauses}
 use Rattle.points.specs.Points.{numbered}
-use Rattle.point_slices.specs.Slices.{pointsOf, lentClauses}
+use Rattle.point_slices.specs.Slices.{pointsOf}
 use Rattle.formula.specs.Limits.{maxSlots}
 use Rattle.formula.specs.Refusals.{faultOf}
 use Rattle.formula.specs.Reply.{no-fault}

@@ -7,8 +7,9 @@ use borrow.Author.Needs.{needs}
 use borrow.Author.Tests.{not-true, not-false}
 use Rattle.math.specs.Lists.{firstFailing, below}
 use Rattle.math.specs.Laws.ScanLaws.{onFrom, failing-begins, below-ends, below-stops, below-goes-on}
+use Rattle.point_slices.specs.Laws.Contracts.{lentClauses}
 use Rattle.points.specs.Points.{numbered}
-use Rattle.point_slices.specs.Slices.{pointsOf, lentClauses}
+use Rattle.point_slices.specs.Slices.{pointsOf}
 use Rattle.certificate.specs.Rows.{numberPasses}
 use Rattle.check_falsified.proofs.first_bad_number.Statement.{statement}
 use Rattle.check_falsified.proofs.first_bad_number.Tie as tie

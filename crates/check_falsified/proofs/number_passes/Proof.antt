@@ -2,8 +2,8 @@
 use mathlib.Core.Path.{ap₂, _∙_}
 use borrow.Author.Needs.{needs}
 use Prim.Native.Nat.{ℕ}
+use Rattle.point_slices.specs.Laws.Contracts.{lentClauses}
 use Rattle.points.specs.Points.{numbered}
-use Rattle.point_slices.specs.Slices.{lentClauses}
 use Rattle.certificate.specs.Rows.{clauseNumbered, falsifies, numberPasses}
 use Rattle.check_falsified.proofs.number_passes.Statement.{statement}
 use Rattle.check_falsified.proofs.number_passes.Tie as tie

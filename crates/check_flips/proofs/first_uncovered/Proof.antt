@@ -4,12 +4,13 @@ use mathlib.Core.Path.{_≡_, sym, _∙_, subst}
 use Prim.Native.Nat.{ℕ, _-_, _^_, _<_}
 use lib.ListN.{length, take, drop, length-replicate}
 use borrow.Author.Tests.{not-true, not-false}
+use Rattle.point_slices.specs.Laws.Contracts.{lentClauses}
 use Rattle.formula.specs.Limits.{maxPermutations}
 use Rattle.point_slices.specs.Laws.SliceLaws.{points-blank}
 use Rattle.math.specs.Lists.{firstFailing, below}
 use Rattle.math.specs.Laws.ScanLaws.{onFrom, failing-begins, below-ends, below-stops, below-goes-on}
 use Rattle.points.specs.Points.{numbered}
-use Rattle.point_slices.specs.Slices.{pointsOf, lentClauses}
+use Rattle.point_slices.specs.Slices.{pointsOf}
 use Rattle.permutation_theory.specs.Permutations.{permutationsIn}
 use Rattle.permutation_coverage.specs.Laws.Coverage.{Imaged}
 use Rattle.permutation_coverage.specs.Laws.CoverageLaws.{imaged-none}

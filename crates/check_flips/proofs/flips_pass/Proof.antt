@@ -2,8 +2,9 @@
 -- variables lists none at n or above. Assumes nothing.
 use mathlib.Core.Path.{sym, ap, _∙_, subst}
 use Prim.Native.Nat.{ℕ, _<_, _^_}
+use Rattle.point_slices.specs.Laws.Contracts.{lentClauses}
 use Rattle.points.specs.Points.{numbered}
-use Rattle.point_slices.specs.Slices.{pointsOf, lentClauses}
+use Rattle.point_slices.specs.Slices.{pointsOf}
 use Rattle.certificate.specs.Rows.{clauseNumbered}
 use Rattle.check_flips.specs.Laws.FlipLaws.{tested-coverable, listed-within, flips-passed}
 use Rattle.check_flips.specs.Laws.Loops.{listedBy}

@@ -4,8 +4,9 @@ use Prim.Native.Nat.{_-_}
 use native.Mathlib.Omega.{arith}
 use lib.ListN.{take, drop}
 use borrow.Author.Needs.{needs}
+use Rattle.point_slices.specs.Laws.Contracts.{lentClauses}
 use Rattle.points.specs.Points.{numbered}
-use Rattle.point_slices.specs.Slices.{clauseSlices, lentClauses}
+use Rattle.point_slices.specs.Slices.{clauseSlices}
 use Rattle.permutation_theory.specs.Permutations.{permutationsIn}
 use Rattle.formula.specs.Refusals.{permutationFault, symmetryFault, faultOf}
 use Rattle.formula.specs.Reply.{no-fault}

@@ -10,6 +10,7 @@ use borrow.Author.Tests.{leb-true, le-leb, lt-leb, ltb-true, lt-ltb, eqb-true, e
 use Rattle.math.specs.Laws.ListLaws.{and-split, all-at, all-of, map-in}
 use Rattle.math.specs.Laws.PartLaws.{none-failing, all-passing}
 use Rattle.math.specs.Lists.{_∈_, firstFailing}
+use Rattle.formula.specs.Laws.Contracts.{problemFault}
 use Rattle.points.specs.Points.{pointDigits, Numbered, numbered}
 use Rattle.point_slices.specs.Laws.SliceLaws.{length-clauses, clause-sets}
 use Rattle.point_slices.specs.Slices.{clausesOf, ClauseSlices}
@@ -23,7 +24,6 @@ use Rattle.permutation_theory.specs.Permutations.{permutationsIn}
 use Rattle.formula.specs.declared.Formula.{Formula}
 use Rattle.formula.specs.Limits.{maxVariables, maxClauses, maxPermutations, maxImages}
 use Rattle.formula.specs.Refusals.{allBelow, Fits, fits, formulaFault, permutationFault, symmetryFault}
-use Rattle.formula.specs.Refusals.{problemFault}
 use Rattle.formula.specs.Reply.{Fault, no-fault, fault, faultAt}
 use Rattle.formula.specs.Laws.ReplyLaws.{IsFault, fault-not-none, faultAt-none, answers-first, answers-rest}
 use Rattle.formula.specs.Laws.ReplyLaws.{first-last}

@@ -7,9 +7,9 @@ use lib.ListN.{length, getD, drop}
 use borrow.Author.Needs.{needs}
 use Rattle.math.specs.Lists.{any}
 use Rattle.math.specs.Laws.ScanLaws.{any-ends, any-stops, any-goes-on}
+use Rattle.point_slices.specs.Laws.Contracts.{lentClauses}
 use Rattle.points.specs.Points.{emptyClause}
 use Rattle.points.specs.Laws.Contracts.{clauseOf}
-use Rattle.point_slices.specs.Slices.{lentClauses}
 use Rattle.permutation_theory.specs.Permutations.{sameClause}
 use Rattle.permutation_symmetry.proofs.has_clause.Statement.{statement}
 use Rattle.permutation_symmetry.proofs.has_clause.Tie as tie

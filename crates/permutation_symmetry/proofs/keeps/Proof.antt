@@ -8,8 +8,8 @@ use borrow.Author.Needs.{needs}
 use borrow.Author.Tests.{not-true, not-false}
 use Rattle.math.specs.Lists.{any, all}
 use Rattle.math.specs.Laws.ScanLaws.{all-ends, all-stops, all-goes-on}
+use Rattle.point_slices.specs.Laws.Contracts.{lentClauses}
 use Rattle.points.specs.Points.{emptyClause}
-use Rattle.point_slices.specs.Slices.{lentClauses}
 use Rattle.permutation_images.specs.Laws.LoopLaws.{keeps-numbered}
 use Rattle.permutation_theory.specs.Permutations.{imageAmong, sameClause}
 use Rattle.permutation_symmetry.proofs.keeps.Statement.{statement}

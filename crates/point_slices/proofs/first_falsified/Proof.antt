@@ -6,10 +6,11 @@ use native.Mathlib.Omega.{arith}
 use lib.ListN.{length, getD}
 use borrow.Author.Needs.{needs}
 use borrow.Author.Tests.{not-true, not-false}
+use Rattle.point_slices.specs.Laws.Contracts.{lentClauses}
 use Rattle.points.specs.Points.{satisfies, emptyClause}
 use Rattle.point_slices.specs.Laws.SliceLaws.{points-le, clauses-le, falsifiedFrom, falsified-ends}
 use Rattle.point_slices.specs.Laws.SliceLaws.{falsified-stops, falsified-goes-on}
-use Rattle.point_slices.specs.Slices.{pointsOf, lentClauses}
+use Rattle.point_slices.specs.Slices.{pointsOf}
 use Rattle.point_slices.proofs.first_falsified.Statement.{statement}
 use Rattle.point_slices.proofs.first_falsified.Tie as tie
 

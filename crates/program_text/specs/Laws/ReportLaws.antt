@@ -15,7 +15,7 @@ use Rattle.program_text.specs.Laws.DecimalLaws.{numeral-length, line-len
 use Rattle.program_text.specs.Laws.Putting.{Put}
 use Rattle.program_text.specs.Report.{sign, literal, literals, satisfiableHead, valuesEnd, changesHead}
 use Rattle.program_text.specs.Report.{slotsBetween, unsatisfiableHead, space, satisfiableText, unsatisfiableText}
-use Rattle.program_text.specs.Report.{longestText}
+use Rattle.program_text.specs.Report.{longestLiteral, longestText}
 use Rattle.program_text.specs.Laws.Putting.{Printed}
 
 -- put at the front of the output
@@ -50,7 +50,7 @@ sign-length true = omega arith
 sign-length false = omega arith
 
 -- each name takes four bytes at most
-pub literals-length : (x n : ℕ) → n ≤ maxVariables → length (literals x n) ≤ 4 * n
+pub literals-length : (x n : ℕ) → n ≤ maxVariables → length (literals x n) ≤ longestLiteral * n
 unfolding literals
 literals-length x zero le = omega arith
 literals-length x (suc n) le =
@@ -64,7 +64,7 @@ literals-length x (suc n) le =
     )
 
 -- there is room for the next one
-pub literal-room : (at x i n : ℕ) (out : List ℕ) → n ≤ maxVariables → at + 4 * n ≤ length out → i < n
+pub literal-room : (at x i n : ℕ) (out : List ℕ) → n ≤ maxVariables → at + longestLiteral * n ≤ length out → i < n
     → at + length (literals x i ++ literal x i) ≤ length out
 literal-room at x i n out few room more = omega (
   arith,

@@ -5,6 +5,7 @@ use Prim.Native.Nat.{ℕ, zero, suc}
 use native.Mathlib.Nat.{le-trans, le-of-eq}
 use native.Mathlib.Omega.{arith}
 use lib.ListN.{length}
+use Rattle.formula.specs.Laws.Contracts.{problemFault}
 use Rattle.points.specs.Points.{numbered}
 use Rattle.point_slices.specs.Slices.{ClauseSlices, SlotSlices, clausesOf}
 use Rattle.permutation_theory.specs.Permutations.{permutationsIn}
@@ -15,7 +16,7 @@ use Rattle.formula.specs.Limits.{maxImages, capacity}
 use Rattle.formula.specs.Problem.{problemOf}
 use Rattle.formula.specs.Laws.RefusalLaws.{formula-passes, formula-listed, permutation-passes, passes-few}
 use Rattle.formula.specs.Laws.RefusalLaws.{digits-suffice, fits-count}
-use Rattle.formula.specs.Refusals.{formulaFault, permutationFault, symmetryFault, problemFault, faultOf}
+use Rattle.formula.specs.Refusals.{formulaFault, permutationFault, symmetryFault, faultOf}
 use Rattle.formula.specs.Reply.{Reply, Fault, no-fault, fault, pointIn}
 use Rattle.formula.specs.Laws.ReplyLaws.{first-last, first-after, first-before, unless-none}
 use Rattle.search.specs.Laws.Accepted.{rows, ready-of-faults, lent-of-faults, lent-few}
@@ -24,7 +25,6 @@ use Rattle.search.specs.Contract.{replyOfFound, Searched}
 use Rattle.search_expansion.specs.declared.Frame.{Frame}
 use Rattle.search.specs.declared.Found.{Found}
 use Rattle.search.specs.declared.Outcome.the-variants.{Refused}
-use Rattle.search_expansion.specs.Laws.FillingLaws.{held-with}
 use Rattle.search_expansion.specs.Laws.Memory.{Lends}
 use Rattle.search_step.specs.Laws.Stepping.{framed, Searchable, Ended}
 use Rattle.search_theory.specs.Laws.Invariants.{Ready}
@@ -173,5 +173,5 @@ module _ (f : Formula) (clauses : ClauseSlices) where
               record {
                 reply = same .0 ∙ answer;
                 point = same .1 ∙ ap pointIn answer;
-                slots = slices-of (e .slots) slots m passed-here (w .1) (held-with (e .holds));
+                slots = slices-of (e .slots) slots m passed-here (w .1) (e .holds .held);
               }

@@ -28,7 +28,6 @@ use Rattle.search_expansion.specs.Laws.Filling.{visited, SlotsIndexed, F
 use Rattle.search_expansion.specs.Laws.Filling.{Advances}
 use Rattle.point_slices.specs.Slices.{SlotSlices, slotSlices}
 use Rattle.search_expansion.specs.Laws.Memory.{Holds, Lends, SameSizes, Stored}
-use Rattle.search_theory.specs.Filled.{filledWith}
 use Rattle.search_theory.specs.Walk.{Slot, slot, pointsIn, Expansion, complete, full, Fills, no-more, skipped}
 use Rattle.search_theory.specs.Walk.{filled-next, no-room}
 
@@ -79,7 +78,7 @@ lends-fewer le r = record {
 -- the points of the slots are the first of the slice
 pub held-points : {old : SlotSlices} {l : List Slot} {m : SlotSlices} (filled : ℕ) → Holds old l m → length l ≡ filled
     → take filled (m .points) ≡ pointsIn l
-held-points {old} {l} filled h e = ap (take filled) (h .points-held)
+held-points {old} {l} filled h e = ap (λ (t : SlotSlices). take filled (t .points)) (h .held)
     ∙ over-front filled (pointsIn l) (old .points) (length-map l (λ (s : Slot). s .point) ∙ e)
 
 -- one of the slices has the same length before and after, and so room for a slot more
@@ -110,44 +109,32 @@ pub held-more : {old : SlotSlices} {l : List Slot} {m m′ : SlotSlices} {s : Sl
     → length l ≡ filled → Lends (suc filled) m → Stored m filled s m′
     → Holds old (l ++ s ∷ []) m′
 held-more {old} {l} {m} {s = s} filled h n room st =
+    let points = st .points-stored
+    ∙ slice-more (λ (s : Slot). s .point) l s (old .points) (m .points) filled
+    (ap (λ (t : SlotSlices). t .points) (h .held)) n (room .points-room) in
+    let rest = st .rest-stored ∙ ap (λ (t : SlotSlices). t .pointsRest) (h .held) in
+    let falsified = st .falsified-stored
+    ∙ slice-more (λ (s : Slot). s .falsified) l s (old .falsified) (m .falsified) filled
+    (ap (λ (t : SlotSlices). t .falsified) (h .held)) n (room .falsified-room) in
+    let depths = st .depths-stored
+    ∙ slice-more (λ (s : Slot). s .depth) l s (old .depths) (m .depths) filled
+    (ap (λ (t : SlotSlices). t .depths) (h .held)) n (room .depths-room) in
     record {
-      points-held = st .points-stored
-          ∙ slice-more (λ (s : Slot). s .point) l s (old .points) (m .points) filled (h .points-held) n
-          (room .points-room);
-      rest-held = st .rest-stored ∙ h .rest-held;
-      falsified-held = st .falsified-stored
-          ∙ slice-more (λ (s : Slot). s .falsified) l s (old .falsified) (m .falsified) filled (h .falsified-held) n
-          (room .falsified-room);
-      depths-held = st .depths-stored
-          ∙ slice-more (λ (s : Slot). s .depth) l s (old .depths) (m .depths) filled (h .depths-held) n
-          (room .depths-room);
+      held = λ i. record { points = points i; pointsRest = rest i; falsified = falsified i; depths = depths i };
     }
 
 -- the first slot stored, nothing is held but it
 pub held-first : {m m′ : SlotSlices} {s : Slot} → Lends 1 m → Stored m 0 s m′ → Holds m (s ∷ []) m′
 held-first {m} room st =
-    held-more {l = []} 0 (record {
-      points-held = sym (over-none (m .points));
-      rest-held = refl;
-      falsified-held = sym (over-none (m .falsified));
-      depths-held = sym (over-none (m .depths));
-    }) refl room st
-
--- the memory as the definition has it
-pub held-with : {old : SlotSlices} {l : List Slot} {m : SlotSlices} → Holds old l m → m ≡ filledWith l old
-held-with {old} {l} {m} h =
-    ap (λ (x : List ℕ). whole x (m .pointsRest) (m .falsified) (m .depths)) (h .points-held)
-    ∙ ap (λ (x : List ℕ). whole (filledWith l old .points) x (m .falsified) (m .depths)) (h .rest-held)
-    ∙ ap (λ (x : List ℕ). whole (filledWith l old .points) (old .pointsRest) x (m .depths)) (h .falsified-held)
-    ∙ ap (whole (filledWith l old .points) (old .pointsRest) (filledWith l old .falsified)) (h .depths-held)
-  where
-    whole : List ℕ → List ℕ → List ℕ → List ℕ → SlotSlices
-    whole points rest falsified depths = record {
-      points = points;
-      pointsRest = rest;
-      falsified = falsified;
-      depths = depths;
-    }
+    let none : Holds m [] m = record {
+      held = λ i. record {
+        points = sym (over-none (m .points)) i;
+        pointsRest = m .pointsRest;
+        falsified = sym (over-none (m .falsified)) i;
+        depths = sym (over-none (m .depths)) i;
+      };
+    } in
+    held-more {l = []} 0 none refl room st
 
 -- ---- the index
 

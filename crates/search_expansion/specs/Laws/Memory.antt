@@ -1,18 +1,15 @@
 -- The three lent slices as the search's memory: what it holds, and what a store of a slot does to it. Assumes nothing.
 use mathlib.Core.Path.{_≡_}
-use mathlib.Core.List.{List, map}
+use mathlib.Core.List.{List}
 use Prim.Native.Nat.{ℕ, _≤_}
 use lib.ListN.{length, set}
-use Rattle.math.specs.Lists.{over}
 use Rattle.point_slices.specs.Slices.{SlotSlices}
 use Rattle.search_theory.specs.Walk.{Slot}
+use Rattle.search_theory.specs.Filled.{filledWith}
 
 -- the slots l stand at the front of the memory m, and behind them is what the memory `old` has there
 pub record Holds (old : SlotSlices) (l : List Slot) (m : SlotSlices) : Type 0 where
-  pub points-held : m .points ≡ over (map (λ (s : Slot). s .point) l) (old .points)
-  pub rest-held : m .pointsRest ≡ old .pointsRest
-  pub falsified-held : m .falsified ≡ over (map (λ (s : Slot). s .falsified) l) (old .falsified)
-  pub depths-held : m .depths ≡ over (map (λ (s : Slot). s .depth) l) (old .depths)
+  pub held : m ≡ filledWith l old
 
 -- each slice has room for k slots
 pub record Lends (k : ℕ) (m : SlotSlices) : Type 0 where

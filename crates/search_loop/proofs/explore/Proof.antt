@@ -5,7 +5,8 @@ use Prim.Native.Nat.{ℕ, _-_, _^_, _≤_, _<_}
 use native.Mathlib.Nat.{le-trans}
 use native.Mathlib.Omega.{arith}
 use lib.ListN.{length, length-replicate}
-use Rattle.point_slices.specs.Slices.{pointsOf, slotSlices, lentClauses}
+use Rattle.point_slices.specs.Laws.Contracts.{lentClauses}
+use Rattle.point_slices.specs.Slices.{pointsOf, slotSlices}
 use Rattle.point_slices.specs.Laws.SliceLaws.{points-blank}
 use Rattle.permutation_coverage.specs.Laws.Coverage.{Imaged}
 use Rattle.permutation_coverage.specs.Laws.CoverageLaws.{imaged-none}

@@ -2,9 +2,10 @@
 use mathlib.Core.Path.{refl}
 use native.Mathlib.Omega.{arith}
 use lib.ListN.{getD, length-set}
+use Rattle.point_slices.specs.Laws.Contracts.{lentClauses}
 use Rattle.points.specs.Laws.Contracts.{clauseOf}
 use Rattle.point_slices.specs.Laws.SliceLaws.{falsified-le}
-use Rattle.point_slices.specs.Slices.{slotSlices, lentClauses}
+use Rattle.point_slices.specs.Slices.{slotSlices}
 use Rattle.search_step.specs.Laws.SteppingLaws.{Read, step-met, read-fillable, read-below, read-room, read-goes}
 use Rattle.search_step.specs.Laws.SteppingLaws.{read-stuck}
 use borrow.Author.Needs.{needs}

@@ -66,17 +66,22 @@ number-stored : (old : SlotSlices) (p w : List Slot) (s : Slot) (c : Numbered) (
     → Holds old (p ++ s ∷ w) m → length p ≡ i
     → Holds old ((p ++ withNumber s c ∷ []) ++ w) (numberedIn i (c .number) m)
 number-stored old p w s c i m h n =
+    let points = ap (λ (t : SlotSlices). t .points) (h .held) ∙ ap (λ l. over l (old .points))
+    (sym (map-moved (λ (s : Slot). s .point) p w (withNumber s c) s refl)) in
+    let falsified = ap (λ (t : SlotSlices). set (t .falsified) i (c .number)) (h .held)
+    ∙ ap (λ l. set (over l (old .falsified)) i (c .number)) (map-append part p (s ∷ w))
+    ∙ over-change i (map part p) (map part w) (old .falsified) (s .falsified) (c .number) (length-map p part ∙ n)
+    ∙ ap (λ l. over l (old .falsified)) (sym (map-append part p (withNumber s c ∷ w))
+    ∙ sym (map-moved part p w (withNumber s c) (withNumber s c) refl)) in
+    let depths = ap (λ (t : SlotSlices). t .depths) (h .held) ∙ ap (λ l. over l (old .depths))
+    (sym (map-moved (λ (s : Slot). s .depth) p w (withNumber s c) s refl)) in
     record {
-      points-held = h .points-held ∙ ap (λ l. over l (old .points))
-          (sym (map-moved (λ (s : Slot). s .point) p w (withNumber s c) s refl));
-      rest-held = h .rest-held;
-      falsified-held = ap (λ l. set l i (c .number)) (h .falsified-held
-          ∙ ap (λ l. over l (old .falsified)) (map-append part p (s ∷ w)))
-          ∙ over-change i (map part p) (map part w) (old .falsified) (s .falsified) (c .number) (length-map p part ∙ n)
-          ∙ ap (λ l. over l (old .falsified)) (sym (map-append part p (withNumber s c ∷ w))
-          ∙ sym (map-moved part p w (withNumber s c) (withNumber s c) refl));
-      depths-held = h .depths-held ∙ ap (λ l. over l (old .depths))
-          (sym (map-moved (λ (s : Slot). s .depth) p w (withNumber s c) s refl));
+      held = λ j. record {
+        points = points j;
+        pointsRest = h .held j .pointsRest;
+        falsified = falsified j;
+        depths = depths j;
+      };
     }
   where
     part : Slot → ℕ
@@ -114,7 +119,7 @@ module _ (g : Frame) (images : List ℕ) (clauses : List Clause) (ok : Searchabl
       -- the point read is the first waiting slot's
       point-of : (s : Slot) (w : List Slot) → Stands pb (g .room) old p (s ∷ w) m₀ q → x ≡ s .point
       point-of s w st = read ∙ slot-read (λ (s : Slot). s .point) p w s (old .points) (m₀ .points) (q .at)
-          (st .holds .points-held) (st .processed)
+          (ap (λ (t : SlotSlices). t .points) (st .holds .held)) (st .processed)
 
       -- W5: "it meets all rules: answer met .., with the choice, its changes .. and the number of slots filled"
       pub step-met : (w : List Slot) (d : ℕ) → number ≡ 0 → d ≡ distance pointDigits x (g .target)
@@ -153,7 +158,7 @@ module _ (g : Frame) (images : List ℕ) (clauses : List Clause) (ok : Searchabl
             split = refl;
             point = same;
             depth = deep ∙ slot-read (λ (s : Slot). s .depth) p w s (old .depths) (m₀ .depths) (q .at)
-                (st .holds .depths-held) (st .processed);
+                (ap (λ (t : SlotSlices). t .depths) (st .holds .held)) (st .processed);
             first = subst (λ y. FirstFalsified (pb .clauses) y (f .0)) same (f .1);
             place = f .3;
             stands = st;
@@ -171,7 +176,7 @@ module _ (g : Frame) (images : List ℕ) (clauses : List Clause) (ok : Searchabl
       by p (s ∷ w) st =
           subst (λ (y : ℕ). y < 2 ^ g .lookup .variables)
           (sym (slot-read (λ (t : Slot). t .point) p w s (at .old .points)
-          (m₀ .points) (q .at) (st .holds .points-held) (st .processed)))
+          (m₀ .points) (q .at) (ap (λ (t : SlotSlices). t .points) (st .holds .held)) (st .processed)))
           (st .invariants .filled .below s (Memᴰ·append-right p (here s w)))
 
   -- ---- the slot that is taken, and its flips

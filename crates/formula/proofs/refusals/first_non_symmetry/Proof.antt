@@ -1,8 +1,8 @@
 -- `formula::refusals::first_non_symmetry` meets its contract: before index `at` none has failed. Assumes nothing.
 use Prim.Native.Nat.{_-_}
 use borrow.Author.Needs.{needs}
+use Rattle.point_slices.specs.Laws.Contracts.{lentClauses}
 use Rattle.points.specs.Points.{numbered}
-use Rattle.point_slices.specs.Slices.{lentClauses}
 use Rattle.permutation_theory.specs.Permutations.{keeps}
 use Rattle.permutation_images.specs.Laws.LoopLaws.{listed-movable, Testing, testing-begins, testing-whole}
 use Rattle.permutation_images.specs.Laws.LoopLaws.{testing-stops, testing-goes-on, testing-ends}

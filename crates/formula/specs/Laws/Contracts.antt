@@ -1,0 +1,15 @@
+-- What contracts of functions inside the library cite beside the definitions. Assumes nothing.
+use mathlib.Core.List.{[], _∷_}
+use Rattle.point_slices.specs.Slices.{ClauseSlices}
+use Rattle.formula.specs.declared.Formula.{Formula}
+use Rattle.formula.specs.Problem.{problemOf}
+use Rattle.formula.specs.Reply.{Fault, first}
+use Rattle.formula.specs.Refusals.{formulaFault, permutationFault, symmetryFault}
+
+-- the rows 10, 11 and 12 in this order, which the search and the writer test first
+unfoldable pub problemFault : Formula → ClauseSlices → Fault
+unfolding first formulaFault permutationFault symmetryFault problemOf
+problemFault f clauses =
+    let pb = problemOf f clauses in
+    first (formulaFault f clauses ∷ permutationFault (pb .variables) (pb .permutations)
+    ∷ symmetryFault (pb .clauses) (pb .permutations) ∷ [])
