@@ -2,8 +2,8 @@
 """docs/PROMISES.md and the tree: the column 'In' of each row lists the files under crates/ that carry the row's
 label in a comment. `tools/promises.py` compares, `tools/promises.py --write` writes the column. Also wrong: a label
 in crates/ without a row, a row that names no file and does not say what it waits for, and a name in the column
-before that is no word of the crates (in backticks, or as crate::function). Prints what is wrong; exit status 1 if
-anything is."""
+before that is no word of the crates (in backticks), or, as crate::function, not declared in that crate's code.
+Prints what is wrong; exit status 1 if anything is."""
 import glob
 import os
 import re
@@ -43,11 +43,21 @@ def known():
     return words
 
 
+def declared(crate):
+    """What a crate's code declares: functions, types, constants and modules."""
+    text = "".join(open(path).read() for path in glob.glob(f"crates/{crate}/src/*.rt"))
+    return set(re.findall(r"\b(?:fn|struct|enum|type|const|mod|impl) (\w+)", text))
+
+
 def unknown(cell, words):
-    """The names in a cell and the crates do not have."""
-    names = re.findall(r"`([A-Za-z][\w.-]*)`", cell) + re.findall(r"\b([a-z_]+(?:::\w+)+)", cell)
+    """The names in a cell that the crates do not have."""
     there = words | set(tree.crates())
-    return [name for name in names if not set(re.split(r"\.|::", name)) <= there]
+    named = [name for name in re.findall(r"`([A-Za-z][\w.-]*)`", cell) if not set(name.split(".")) <= there]
+    for path in re.findall(r"\b([a-z_]+(?:::\w+)+)", cell):
+        crate, *names = path.split("::")
+        if not set(names) <= declared(crate):
+            named.append(path)
+    return named
 
 
 os.chdir(tree.TOP)

@@ -49,7 +49,7 @@ unfolding sign
 sign-length true = omega arith
 sign-length false = omega arith
 
--- each name takes four bytes at most
+-- each literal takes no more than its bound
 pub literals-length : (x n : ℕ) → n ≤ maxVariables → length (literals x n) ≤ longestLiteral * n
 unfolding literals
 literals-length x zero le = omega arith
