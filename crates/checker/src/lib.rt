@@ -8,10 +8,13 @@ use formula::refusals::clauses_refusal;
 use formula::refusals::permutations_refusal;
 use formula::refusals::symmetry_refusal;
 ghost use mathlib.Core.Path.{_≡_};
+ghost use Prim.Native.Nat.{_≤_};
 ghost use Rattle.point_slices.specs.Laws.Contracts.{lentClauses};
 ghost use Rattle.points.specs.Points.{numbered};
 ghost use Rattle.point_slices.specs.Slices.{clauseSlices};
-ghost use Rattle.formula.specs.Refusals.{Fits, faultOf};
+ghost use Rattle.point_theory.specs.Laws.Notions.{ClausesBelow};
+ghost use Rattle.formula.specs.Limits.{maxVariables};
+ghost use Rattle.formula.specs.Refusals.{faultOf};
 ghost use Rattle.formula.specs.Reply.{accepted, unless};
 ghost use Rattle.certificate.specs.Certificate.{filePermutations, filePoints, fileNumbers};
 ghost use Rattle.checker.specs.Contract.{replyOfVerdict, CheckedAs};
@@ -36,7 +39,7 @@ fn as_verdict(checked: Checked) -> Verdict
 // C8, F4: refusals 11, 12, 16, 17 and 18, each body handed on as its own part of the file. K2: the permutations are the
 // file's. `file_refusal` sees to what it requires.
 fn bodies_refusal(c: Contents, positive: &[u64], negative: &[u64], file: &[u8]) -> Checked
-    requires { ⌜ Readable c (clauseSlices (now positive) (now negative)) (now file) ⌝ }
+    requires { ⌜ Readable c (lentClauses (now positive) (now negative)) (now file) ⌝ }
     ensures { λ r. ⌜ faultOf r ≡ bodiesFault (c .variables)
         (numbered (lentClauses (now (positive .entry)) (now (negative .entry)))) (filePermutations (now (file .entry)))
         (filePoints (now (file .entry))) (fileNumbers (now (file .entry))) ⌝ }
@@ -75,8 +78,8 @@ fn bodies_refusal(c: Contents, positive: &[u64], negative: &[u64], file: &[u8]) 
 
 // R15: refusals 14 and 15, then those of the bodies. Refusal 10 sees to what it requires.
 fn file_refusal(n: u32, clauses: u32, positive: &[u64], negative: &[u64], file: &[u8]) -> Checked
-    requires { ⌜ Fits n clauses (clauseSlices (now positive) (now negative)) ⌝ }
-    ensures { λ r. ⌜ faultOf r ≡ fileRows n clauses (clauseSlices (now (positive .entry)) (now (negative .entry)))
+    requires { ⌜ (n ≤ maxVariables) × ClausesBelow n (numbered (lentClauses (now positive) (now negative))) ⌝ }
+    ensures { λ r. ⌜ faultOf r ≡ fileRows n clauses (lentClauses (now (positive .entry)) (now (negative .entry)))
         (now (file .entry)) ⌝ }
 {
     let opened = certificate::read(file);

@@ -1,8 +1,10 @@
 -- `checker::file_refusal` meets its contract: a law of PartLaws for each way out. Assumes nothing.
 use mathlib.Core.Bool.{true}
+use mathlib.Core.List.{List}
 use mathlib.Core.Path.{_≡_, sym, ap, _∙_}
 use borrow.Author.Needs.{needs}
-use Rattle.point_slices.specs.Slices.{ClauseSlices, clauseSlices}
+use Rattle.points.specs.Points.{Clause}
+use Rattle.point_slices.specs.Laws.Contracts.{lentClauses}
 use Rattle.formula.specs.Refusals.{faultOf}
 use Rattle.certificate.specs.Certificate.{contentsOf, wellFormed}
 use Rattle.certificate.specs.Contract.{replyOfOpened, contentsIn, handedOut}
@@ -21,8 +23,8 @@ unfolding handedOut
 read-file c = opened-file _ _ (ap handedOut (sym (c .opened2 .given .1)) ∙ c .before .before .read .ensures .contents)
 
 -- the clauses lent
-abbrev lent : (c : tie.After-opened2) → ClauseSlices
-lent c = let a = c .before .before .before .before .before .before .args in clauseSlices (a .positive .now) (a .negative .now)
+abbrev lent : (c : tie.After-opened2) → List Clause
+lent c = let a = c .before .before .before .before .before .before .args in lentClauses (a .positive .now) (a .negative .now)
 
 returns : tie.Need-returns
 returns c =
@@ -37,13 +39,14 @@ returns-2 c =
 bodies-refusal-requires : tie.Need-bodies-refusal-requires
 bodies-refusal-requires c κs =
     let w = read-file (c .before .before .before .before .before) in
-    readable _ _ _ _ _ (w .0) (w .1) (c .before .before .if1 .left) (c .if2 .left) (c .before .before .before .before .before .before .before .before .before .before .before .pre)
+    let pre = c .before .before .before .before .before .before .before .before .before .before .before .pre in
+    readable _ (c .before .before .before .before .before .before .before .before .before .before .before .args .clauses) _ _ _ (w .0) (w .1) (c .before .before .if1 .left) (pre .0) (pre .1)
 
 returns-3 : tie.Need-returns-3
 unfolding replyOfOpened
 returns-3 c =
     let a = c .before .before .before .before .before .before .before .args in
-    stops-14 _ _ (clauseSlices (a .positive .now) (a .negative .now)) _ _ _ (ap replyOfOpened (sym (c .before .opened .given .1)) ∙ c .before .before .before .read .ensures .reply)
+    stops-14 _ _ (lentClauses (a .positive .now) (a .negative .now)) _ _ _ (ap replyOfOpened (sym (c .before .opened .given .1)) ∙ c .before .before .before .read .ensures .reply)
 
 returns-4 : tie.Need-returns-4
 returns-4 c =

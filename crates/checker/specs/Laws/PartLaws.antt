@@ -9,15 +9,16 @@ use native.Mathlib.Omega.{arith}
 use lib.Dec.{eqb}
 use lib.ListN.{length, take, drop, length-take, length-drop}
 use borrow.Author.Tests.{eq-eqb, ne-eqb}
-use Rattle.points.specs.Points.{Numbered, numbered}
+use Rattle.points.specs.Points.{Clause, Numbered, numbered}
 use Rattle.point_slices.specs.Slices.{clausesOf, ClauseSlices}
+use Rattle.point_theory.specs.Laws.Notions.{ClausesBelow}
 use Rattle.permutation_images.specs.Laws.Contracts.{Listed}
 use Rattle.permutation_theory.specs.Permutations.{Permutation, permutationsIn}
 use Rattle.formula.specs.declared.Formula.{Formula}
-use Rattle.formula.specs.Limits.{maxSlots}
+use Rattle.formula.specs.Limits.{maxVariables, maxSlots}
 use Rattle.formula.specs.Problem.{problemOf}
 use Rattle.formula.specs.Laws.RefusalLaws.{passes-few, passes-listed, permutation-passes, fits-sound, fits-below}
-use Rattle.formula.specs.Refusals.{Fits, fits, clausesFault, permutationFault, symmetryFault}
+use Rattle.formula.specs.Refusals.{fits, clausesFault, permutationFault, symmetryFault}
 use Rattle.formula.specs.Reply.{Fault, no-fault, fault, first, refused, opened, accepted, unless}
 use Rattle.formula.specs.Laws.ReplyLaws.{IsFault, answers-first, answers-rest, tested, opened-not-refused}
 use Rattle.formula.specs.Laws.ReplyLaws.{refused-fault}
@@ -45,9 +46,9 @@ part-long i j k l apart end = omega (arith, length-take (j - i) (drop i l), leng
 
 -- ---- the bodies of a file
 
-module _ (c : Contents) (clauses : ClauseSlices) (file : List ℕ) (ok : Readable c clauses file) where
+module _ (c : Contents) (clauses : List Clause) (file : List ℕ) (ok : Readable c clauses file) where
   abbrev cs : List Numbered
-  cs = numbered (clausesOf clauses)
+  cs = numbered clauses
 
   abbrev es : List Permutation
   es = filePermutations file
@@ -128,18 +129,18 @@ module _ (c : Contents) (clauses : ClauseSlices) (file : List ℕ) (ok : Readabl
     row11 = ap (permutationFault (c .variables)) (sym listed-part) ∙ eleven
 
     pub images-listed : Listed (c .variables) (c .permutations) images
-    images-listed = passes-listed (c .variables) (c .permutations) images (ok .fitting .few-variables)
+    images-listed = passes-listed (c .variables) (c .permutations) images (ok .few)
         (laid .images-long) eleven
 
     -- what the tests of the entries take for granted
-    pub images-proper : Proper (c .variables) (c .permutations) images (clausesOf clauses)
+    pub images-proper : Proper (c .variables) (c .permutations) images clauses
     images-proper =
         record {
-          few = ok .fitting .few-variables;
+          few = ok .few;
           few-permutations = passes-few (c .variables) (c .permutations) images eleven;
           listed = images-listed;
           proper = permutation-passes (c .variables) (permutationsIn (c .variables) (c .permutations) images) eleven .1;
-          below = fits-below (c .variables) (c .clauses) clauses (ok .fitting);
+          below = ok .below;
         }
 
     pub stops-12 : (r : Fault) → r ≡ symmetryFault cs (permutationsIn (c .variables) (c .permutations) images)
@@ -171,10 +172,10 @@ module _ (c : Contents) (clauses : ClauseSlices) (file : List ℕ) (ok : Readabl
 
 -- ---- a file
 
-module _ (n m : ℕ) (clauses : ClauseSlices) (file : List ℕ) where
+module _ (n m : ℕ) (clauses : List Clause) (file : List ℕ) where
   abbrev rows : List Fault
   rows =
-      let cs = numbered (clausesOf clauses) in
+      let cs = numbered clauses in
       let es = filePermutations file in
       let ps = filePoints file in
       let ns = fileNumbers file in
@@ -212,22 +213,22 @@ module _ (n m : ℕ) (clauses : ClauseSlices) (file : List ℕ) where
     other-clauses e ne = stops-15 (sizes true false (eq-eqb (c .variables) n e) (ne-eqb (c .clauses) m ne))
 
     pub ends-bodies : c .variables ≡ n → c .clauses ≡ m → (r : Fault)
-        → r ≡ bodiesFault (c .variables) (numbered (clausesOf clauses)) (filePermutations file)
+        → r ≡ bodiesFault (c .variables) (numbered clauses) (filePermutations file)
         (filePoints file) (fileNumbers file) → r ≡ fileRows n m clauses file
     ends-bodies e g r h =
         answers-rest r (fileFault file) (sizesFault n m file ∷ rows) row14
         (answers-rest r (sizesFault n m file) rows (sizes true true (eq-eqb (c .variables) n e)
         (eq-eqb (c .clauses) m g))
-        (h ∙ ap (λ (k : ℕ). bodiesFault k (numbered (clausesOf clauses)) (filePermutations file)
+        (h ∙ ap (λ (k : ℕ). bodiesFault k (numbered clauses) (filePermutations file)
         (filePoints file) (fileNumbers file)) e))
 
-    pub readable : c .variables ≡ n → c .clauses ≡ m → Fits n m clauses → Readable c clauses file
-    readable e g f =
+    pub readable : c .variables ≡ n → n ≤ maxVariables → ClausesBelow n (numbered clauses) → Readable c clauses file
+    readable e few below =
         record {
           formed = wellFormed-sound file formed;
           same = same;
-          fitting = subst (λ (k : ℕ). Fits k (c .clauses) clauses) (sym e)
-              (subst (λ (k : ℕ). Fits n k clauses) (sym g) f);
+          few = subst (λ (k : ℕ). k ≤ maxVariables) (sym e) few;
+          below = subst (λ (k : ℕ). ClausesBelow k (numbered clauses)) (sym e) below;
         }
 
 -- what the plain reader's contents tell
@@ -247,7 +248,7 @@ module _ (f : Formula) (clauses : ClauseSlices) (file : List ℕ) where
   -- its rows are refusal 10 and the file's
   all-rows : checkFault f clauses file
       ≡ first (clausesFault f clauses ∷ fileFault file ∷ sizesFault (f .variables) (f .clauses) file
-      ∷ rows (f .variables) (f .clauses) clauses file)
+      ∷ rows (f .variables) (f .clauses) (clausesOf clauses) file)
   unfolding problemOf
   all-rows = check-rows f clauses file
 
@@ -261,12 +262,15 @@ module _ (f : Formula) (clauses : ClauseSlices) (file : List ℕ) where
   stops-10 r e h = answered r (answers-first r _ _ e h ∙ sym all-rows)
 
   pub ends-file : (r : Fault) → clausesFault f clauses ≡ no-fault
-      → r ≡ fileRows (f .variables) (f .clauses) clauses file
+      → r ≡ fileRows (f .variables) (f .clauses) (clausesOf clauses) file
       → unless r accepted ≡ checkReply f clauses file
   ends-file r ten e = answered r (answers-rest r _ _ ten e ∙ sym all-rows)
 
   -- what refusal 10 leaves certain
-  pub clauses-fit : clausesFault f clauses ≡ no-fault → Fits (f .variables) (f .clauses) clauses
+  pub clauses-fit : clausesFault f clauses ≡ no-fault
+      → (f .variables ≤ maxVariables) × ClausesBelow (f .variables) (numbered (clausesOf clauses))
   unfolding clausesFault
-  clauses-fit h = fits-sound (f .variables) (f .clauses) clauses
-      (tested (fits (f .variables) (f .clauses) clauses) no-fault 10 0 h .0)
+  clauses-fit h =
+      let g = fits-sound (f .variables) (f .clauses) clauses
+      (tested (fits (f .variables) (f .clauses) clauses) no-fault 10 0 h .0) in
+      (g .few-variables, fits-below (f .variables) (f .clauses) clauses g)

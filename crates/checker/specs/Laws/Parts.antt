@@ -1,13 +1,13 @@
 -- What the parts of the checker promise, and what they require of one another. Assumes nothing.
 use mathlib.Core.List.{List, [], _∷_}
 use mathlib.Core.Path.{_≡_}
-use Prim.Native.Nat.{ℕ}
+use Prim.Native.Nat.{ℕ, _≤_}
 use lib.ListN.{length}
-use Rattle.points.specs.Points.{Numbered, numbered}
-use Rattle.point_slices.specs.Slices.{clausesOf, ClauseSlices}
+use Rattle.points.specs.Points.{Clause, Numbered, numbered}
+use Rattle.point_theory.specs.Laws.Notions.{ClausesBelow}
 use Rattle.permutation_theory.specs.Permutations.{Permutation}
-use Rattle.formula.specs.Limits.{maxSlots}
-use Rattle.formula.specs.Refusals.{Fits, permutationFault, symmetryFault}
+use Rattle.formula.specs.Limits.{maxVariables, maxSlots}
+use Rattle.formula.specs.Refusals.{permutationFault, symmetryFault}
 use Rattle.formula.specs.Reply.{Fault, first}
 use Rattle.certificate.specs.declared.Contents.{Contents}
 use Rattle.certificate.specs.Certificate.{contentsOf, WellFormed, filePermutations, filePoints, fileNumbers}
@@ -23,9 +23,9 @@ bodiesFault n cs es ps ns =
     ∷ numbersFault cs (length ps) ps ns ∷ flipsFault n cs es ps ns ∷ [])
 
 -- before them the rows 14 and 15, of a file
-abbrev pub fileRows : ℕ → ℕ → ClauseSlices → List ℕ → Fault
+abbrev pub fileRows : ℕ → ℕ → List Clause → List ℕ → Fault
 fileRows n m clauses file =
-    let cs = numbered (clausesOf clauses) in
+    let cs = numbered clauses in
     let es = filePermutations file in
     let ps = filePoints file in
     let ns = fileNumbers file in
@@ -34,7 +34,8 @@ fileRows n m clauses file =
     ∷ flipsFault n cs es ps ns ∷ [])
 
 -- c is what the well-formed file's first bytes say, and the clauses fit its n: rows 10, 14 and 15 see to it
-pub record Readable (c : Contents) (clauses : ClauseSlices) (file : List ℕ) : Type 0 where
+pub record Readable (c : Contents) (clauses : List Clause) (file : List ℕ) : Type 0 where
   pub formed : WellFormed file
   pub same : contentsIn c ≡ contentsOf file
-  pub fitting : Fits (c .variables) (c .clauses) clauses
+  pub few : c .variables ≤ maxVariables
+  pub below : ClausesBelow (c .variables) (numbered clauses)

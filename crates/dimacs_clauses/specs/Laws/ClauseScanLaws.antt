@@ -76,15 +76,23 @@ module _ {n place : ℕ} {clauses : ClauseSlices} {b : Begun} {negated : Bool} {
             ∙ ap (λ l. goes (record { closed = l; begun = record { positive = 0; negative = 0 } }))
             (clauses-more clauses clauses₁ (b .closed) (b .positive) (b .negative) lt ep en)
             ∙ ap (λ v. tokenStep n (clausesFrom clauses b) place (signed negated v)) (sym e);
-        few = le-of-eq (ap (λ (m : Begun). m .closed) f);
-        room = room-kept clauses clauses₁ (b .closed) (b .positive) (b .negative) ep en;
+        kept =
+            λ z ready under.
+            subst (λ (m : Begun). Ready z (m .closed) clauses₁) (sym f)
+            (record {
+              variables = ready .variables;
+              few = ready .few;
+              room = subst (λ j. z .total ≤ j)
+                  (sym (room-kept clauses clauses₁ (b .closed) (b .positive) (b .negative) ep en)) (ready .room);
+              closed = omega arith;
+            });
       }
 
   -- R6: "name above n | 6 | word's first byte"
   pub number-above : (value ≡ 0 → ⊥) → n < value
       → Taking n place clauses b negated value (record { answer = Refused 6 place; begun = b }) clauses
   unfolding tokenStep
-  number-above ne lt = record { step = by negated value ne lt; few = omega arith; room = refl }
+  number-above ne lt = record { step = by negated value ne lt; kept = λ z ready under. ready }
     where
       by : (negated : Bool) (value : ℕ) → (value ≡ 0 → ⊥) → n < value
           → refuses 6 place ≡ tokenStep n (clausesFrom clauses b) place (signed negated value)
@@ -97,7 +105,7 @@ module _ {n place : ℕ} {clauses : ClauseSlices} {b : Begun} {negated : Bool} {
       → Taking n place clauses b negated value
       (record { answer = Passed; begun = record { closed = b .closed; positive = s; negative = b .negative } }) clauses
   unfolding tokenStep
-  number-positive {s = s} sign ne le e = record { step = by value ne le e; few = omega arith; room = refl }
+  number-positive {s = s} sign ne le e = record { step = by value ne le e; kept = λ z ready under. ready }
     where
       by : (value : ℕ) → (value ≡ 0 → ⊥) → value ≤ n → s ≡ bitOr (b .positive) (2 ^ (value - 1))
           → goes (clausesFrom clauses (record { closed = b .closed; positive = s; negative = b .negative }))
@@ -110,7 +118,7 @@ module _ {n place : ℕ} {clauses : ClauseSlices} {b : Begun} {negated : Bool} {
       → Taking n place clauses b negated value
       (record { answer = Passed; begun = record { closed = b .closed; positive = b .positive; negative = s } }) clauses
   unfolding tokenStep
-  number-negative {s = s} sign ne le e = record { step = by value ne le e; few = omega arith; room = refl }
+  number-negative {s = s} sign ne le e = record { step = by value ne le e; kept = λ z ready under. ready }
     where
       by : (value : ℕ) → (value ≡ 0 → ⊥) → value ≤ n → s ≡ bitOr (b .negative) (2 ^ (value - 1))
           → goes (clausesFrom clauses (record { closed = b .closed; positive = b .positive; negative = s }))
@@ -168,7 +176,7 @@ module _ (z : Sizes) (start : ℕ) (line : List ℕ) (at from : ℕ) (clauses : 
   unfolding andThen
   stops lt code place r f e =
       subst (λ t. Stepping z start line at clauses b t clauses) (sym f)
-      (record { later = lt; within = omega arith; left = skipped ∙ e; few = ready .closed; room = refl })
+      (record { later = lt; within = omega arith; left = skipped ∙ e; ready = ready })
 
 module _ {z : Sizes} {start : ℕ} {line : List ℕ} {at from : ℕ} {clauses : ClauseSlices} {b : Begun}
     (run : Stretch (belongs Blank) line at from) (ready : Ready z (b .closed) clauses) where
@@ -183,8 +191,7 @@ module _ {z : Sizes} {start : ℕ} {line : List ℕ} {at from : ℕ} {clauses : 
         left = skipped z start line at from clauses b run ready
             ∙ ap (λ j. wordsFrom z start line j (clausesFrom clauses b))
             (let w = run .within in let e : from ≡ length line = omega arith in e);
-        few = ready .closed;
-        room = refl;
+        ready = ready;
       }
 
   pub line-over : (w : WordAnswer) {r : Stepped} → WordRead line from w → z .total ≤ b .closed → at < length line
@@ -214,7 +221,6 @@ module _ {z : Sizes} {start : ℕ} {line : List ℕ} {at from : ℕ} {clauses : 
       let word : WordAt line from (next .at) (signed negated v) = subst (WordRead line from) e w in
       let o = run .ordered in
       let l = word .later in
-      let few = k .few in
       record {
         later = omega arith;
         within = word .within;
@@ -223,8 +229,7 @@ module _ {z : Sizes} {start : ℕ} {line : List ℕ} {at from : ℕ} {clauses : 
             ∙ word-token z (clausesFrom clauses b) start line from (next .at) (signed negated v) word
             (omega (arith, size z start line at from clauses b run ready))
             ∙ ap (λ m. andThen m (wordsFrom z start line (next .at))) (sym (k .step));
-        few = omega arith;
-        room = k .room;
+        ready = k .kept z ready h;
       }
 
 -- ---- the loop over the words of a line
@@ -237,7 +242,6 @@ module _ {z : Sizes} {start : ℕ} {line : List ℕ} {clauses₀ : ClauseSlices}
         inside = inside;
         within = zero-le;
         left = ap (λ j. walk (wordStep z) (clausesFrom clauses₀ b₀) (words j line)) (sym (add-zero start));
-        room = refl;
       }
 
   module _ {clauses : ClauseSlices} {b : Begun} {at : ℕ} (a : Along z start line clauses₀ b₀ clauses b at) where
@@ -248,8 +252,7 @@ module _ {z : Sizes} {start : ℕ} {line : List ℕ} {clauses₀ : ClauseSlices}
         record {
           step = sym (a .left ∙ ap (walk (wordStep z) (clausesFrom clauses b))
               (words-end line start at (let w = a .within in omega arith)));
-          few = a .ready .closed;
-          room = a .room;
+          ready = a .ready;
         }
 
     module _ {r : Stepped} {clauses₁ : ClauseSlices} (k : Stepping z start line at clauses b r clauses₁) where
@@ -260,23 +263,16 @@ module _ {z : Sizes} {start : ℕ} {line : List ℕ} {clauses₀ : ClauseSlices}
             step = sym (a .left ∙ k .left ∙ then-refused (r .taken .answer) code place
                 (clausesFrom clauses₁ (r .taken .begun)) (clausesFrom clauses₁ (r .taken .begun))
                 (wordsFrom z start line (r .next .at)) e);
-            few = k .few;
-            room = k .room ∙ a .room;
+            ready = k .ready;
           }
 
       pub along-goes-on : r .taken .answer ≡ Passed
           → Along z start line clauses₀ b₀ clauses₁ (r .taken .begun) (r .next .at)
       along-goes-on e =
           record {
-            ready = record {
-              variables = a .ready .variables;
-              few = a .ready .few;
-              room = subst (λ j. z .total ≤ j) (sym (k .room)) (a .ready .room);
-              closed = k .few;
-            };
+            ready = k .ready;
             inside = a .inside;
             within = k .within;
             left = a .left ∙ k .left ∙ then-passed (r .taken .answer) (clausesFrom clauses₁ (r .taken .begun))
                 (wordsFrom z start line (r .next .at)) e;
-            room = k .room ∙ a .room;
           }

@@ -28,26 +28,25 @@ clausesFrom clauses b = record {
 abbrev pub noneBegun : ℕ → Begun
 noneBegun closed = record { closed = closed; positive = 0; negative = 0 }
 
--- what one number leads to
-pub record Taking (n place : ℕ) (clauses₀ : ClauseSlices) (b : Begun) (negated : Bool) (value : ℕ) (r : Taken)
-    (clauses₁ : ClauseSlices) : Type 0 where
-  pub step : stepTo (r .answer) (clausesFrom clauses₁ (r .begun))
-      ≡ tokenStep n (clausesFrom clauses₀ b) place (signed negated value)
-  pub few : r .begun .closed ≤ b .closed + 1
-  pub room : clauseRoom clauses₁ ≡ clauseRoom clauses₀
-
--- there is room for clause number k + 1, and n is within its limit
-pub record Room (n k : ℕ) (clauses : ClauseSlices) : Type 0 where
-  pub variables : n ≤ maxVariables
-  pub few : k < maxClauses
-  pub room : k < clauseRoom clauses
-
 -- n and C are within their limits, the slices have room for C clauses, and at most C are closed
 pub record Ready (z : Sizes) (k : ℕ) (clauses : ClauseSlices) : Type 0 where
   pub variables : z .variables ≤ maxVariables
   pub few : z .total ≤ maxClauses
   pub room : z .total ≤ clauseRoom clauses
   pub closed : k ≤ z .total
+
+-- what one number leads to; it keeps the slices ready, where there is room for one clause more
+pub record Taking (n place : ℕ) (clauses₀ : ClauseSlices) (b : Begun) (negated : Bool) (value : ℕ) (r : Taken)
+    (clauses₁ : ClauseSlices) : Type 0 where
+  pub step : stepTo (r .answer) (clausesFrom clauses₁ (r .begun))
+      ≡ tokenStep n (clausesFrom clauses₀ b) place (signed negated value)
+  pub kept : (z : Sizes) → Ready z (b .closed) clauses₀ → b .closed < z .total → Ready z (r .begun .closed) clauses₁
+
+-- there is room for clause number k + 1, and n is within its limit
+pub record Room (n k : ℕ) (clauses : ClauseSlices) : Type 0 where
+  pub variables : n ≤ maxVariables
+  pub few : k < maxClauses
+  pub room : k < clauseRoom clauses
 
 -- a line lies within a text of the size that refusal 1 lets pass
 abbrev pub Inside : ℕ → List ℕ → Type 0
@@ -69,16 +68,14 @@ pub record Stepping (z : Sizes) (start : ℕ) (line : List ℕ) (at : ℕ) (clau
   pub left : wordsFrom z start line at (clausesFrom clauses₀ b)
       ≡ andThen (stepTo (r .taken .answer) (clausesFrom clauses₁ (r .taken .begun)))
       (wordsFrom z start line (r .next .at))
-  pub few : r .taken .begun .closed ≤ z .total
-  pub room : clauseRoom clauses₁ ≡ clauseRoom clauses₀
+  pub ready : Ready z (r .taken .begun .closed) clauses₁
 
 -- what a line of words leads to
 pub record Scanning (z : Sizes) (start : ℕ) (line : List ℕ) (clauses₀ : ClauseSlices) (b : Begun) (r : Taken)
     (clauses₁ : ClauseSlices) : Type 0 where
   pub step : stepTo (r .answer) (clausesFrom clauses₁ (r .begun))
       ≡ walk (wordStep z) (clausesFrom clauses₀ b) (words start line)
-  pub few : r .begun .closed ≤ z .total
-  pub room : clauseRoom clauses₁ ≡ clauseRoom clauses₀
+  pub ready : Ready z (r .begun .closed) clauses₁
 
 -- the loop over the words of a line: what is left of the walk, with the slices and the clause begun as they are, is the
 -- whole walk
@@ -89,4 +86,3 @@ pub record Along (z : Sizes) (start : ℕ) (line : List ℕ) (clauses₀ : Claus
   pub within : at ≤ length line
   pub left : walk (wordStep z) (clausesFrom clauses₀ b₀) (words start line)
       ≡ wordsFrom z start line at (clausesFrom clauses b)
-  pub room : clauseRoom clauses ≡ clauseRoom clauses₀

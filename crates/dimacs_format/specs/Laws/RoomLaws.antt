@@ -9,9 +9,11 @@ use Prim.Native.Nat.{ℕ, _≤_}
 use native.Mathlib.Nat.{le-trans}
 use native.Mathlib.Omega.{arith}
 use lib.Dec.{eqb, leb, ltb}
-use lib.ListN.{length}
+use lib.ListN.{length, drop, length-append, length-map}
 use borrow.Author.Tests.{leb-true, le-leb}
 use Rattle.math.specs.Laws.ListLaws.{and-split}
+use Rattle.math.specs.Lists.{over}
+use Rattle.points.specs.Points.{Clause}
 use Rattle.point_slices.specs.Slices.{ClauseSlices, clauseRoom, firstClauses}
 use Rattle.permutation_theory.specs.Permutations.{Permutation}
 use Rattle.formula.specs.Limits.{maxVariables, maxClauses, maxPermutations}
@@ -19,17 +21,27 @@ use Rattle.formula.specs.Problem.{emptyFormula}
 use Rattle.formula.specs.Reply.{refused}
 use Rattle.dimacs_format.specs.Text.{maxText, Line, Word, lines, wordsOf, variable, Token, tokenIn, literal}
 use Rattle.dimacs_format.specs.Text.{close, malformed, targetHead, permutationHead, behind}
-use Rattle.dimacs_format.specs.Input.{Input, formulaOf}
+use Rattle.dimacs_format.specs.Input.{Input, formulaOf, positives, negatives}
 use Rattle.dimacs_format.specs.Reader.{Step, andThen, walk, Sizes, problemIn, withinLimits, Clauses, tokenStep}
 use Rattle.dimacs_format.specs.Reader.{wordStep, targetIn, targetKept, targetSaid, permutationIn, permutationKept}
 use Rattle.dimacs_format.specs.Reader.{permutationSaid, Kind, kindOf, Progress, Part, partOf, withPart, partStep}
 use Rattle.dimacs_format.specs.Reader.{handled, lineStep, linesSay, begin, fromProblem, atEnd, textSays, withRoom}
 use Rattle.dimacs_format.specs.Reader.{withProblem, withLines, reading, replyTo, formulaFrom, slicesFrom}
 use Rattle.dimacs_format.specs.Reader.{readReply, readFormula, readClauses, goes, refuses, clause-line}
-use Rattle.dimacs_format.specs.Reader.{target-line}
-use Rattle.dimacs_format.specs.Reader.{permutation-line}
+use Rattle.dimacs_format.specs.Reader.{target-line, permutation-line, storedIn}
 use Rattle.dimacs_format.specs.Laws.StepLaws.{never}
 use Rattle.dimacs_format.specs.Laws.InputLaws.{front-positive, front-negative}
+
+-- where clauses are stored there is room for them
+pub stored-room : (clauses : ClauseSlices) (cs : List Clause) → length cs ≤ clauseRoom (storedIn clauses cs)
+unfolding over
+stored-room clauses cs = omega (
+  arith,
+  length-append (positives cs) (drop (length (positives cs)) (clauses .positive)),
+  length-map cs (λ (c : Clause). c .positive),
+  length-append (negatives cs) (drop (length (negatives cs)) (clauses .negative)),
+  length-map cs (λ (c : Clause). c .negative),
+)
 
 -- ---- with less room
 

@@ -1,15 +1,16 @@
 -- `dimacs_lines::copy` meets its contract: the first i points are there, the others as they were. Assumes nothing.
-use mathlib.Core.Path.{_≡_}
+use mathlib.Core.Path.{_≡_, _∙_}
 use Prim.Native.Nat.{_-_}
 use lib.ListN.{length}
 use borrow.Author.Needs.{needs}
-use Rattle.dimacs_lines.specs.Laws.ParsedLaws.{copy-begins, copy-goes-on, copy-ends}
-use Rattle.dimacs_lines.specs.Laws.ParsedAs.{Copying}
+use Rattle.math.specs.Laws.OverLaws.{Copying, copying-begins, copying-goes-on, copying-ends}
+use Rattle.point_slices.specs.Slices.{pointsOf, restOf}
 use Rattle.dimacs_lines.proofs.copy.Statement.{statement}
 use Rattle.dimacs_lines.proofs.copy.Tie as tie
 
 abbrev Inv-loop : tie.InvT-loop
-Inv-loop from to₀ count i₀ to i = Copying from to₀ count to i × (length to ≡ length to₀)
+Inv-loop from to₀ count i₀ to i =
+    Copying count (pointsOf from) (pointsOf to₀) i (pointsOf to) × (restOf to ≡ restOf to₀) × (length to ≡ length to₀)
 
 abbrev μ-loop : tie.MeasureT-loop
 μ-loop from to₀ count i₀ to i = count - i
@@ -20,17 +21,20 @@ point-at-requires c κs = search needs
 put-point-requires : tie.Need-put-point-requires Inv-loop μ-loop
 put-point-requires c κs = search needs
 
+loop-again : tie.Need-loop-again Inv-loop μ-loop
+loop-again c = (search (needs, copying-goes-on), c .before .before .put-point .ensures .1 ∙ c .before .before .before .before .before .before .loop .inv .1, search needs)
+
 pub copy-spec : {M : Type 1} → statement M
 copy-spec =
     tie.close
     (tie.spec
     Inv-loop
     μ-loop
-    (λ c. search (needs, copy-begins))
+    (λ c. search (needs, copying-begins))
     point-at-requires
     put-point-requires
     (λ c. search needs)
     (λ c. search needs)
-    (λ c. search (needs, copy-goes-on))
+    loop-again
     (λ c. search needs)
-    (λ c. search (needs, copy-ends)))
+    (λ c. search (needs, copying-ends)))

@@ -127,12 +127,7 @@ module _ {z : Sizes} {start : ℕ} {line : List ℕ} {s : State} {images : List 
           stands =
               where-passed (r .answer)
               (record {
-                ready = record {
-                  variables = st .ready .variables;
-                  few = st .ready .few;
-                  room = subst (λ j. z .total ≤ j) (sym (k .room)) (st .ready .room);
-                  closed = k .few;
-                };
+                ready = k .ready;
                 kept = record { variables = st .kept .variables; images-kept = st .kept .images-kept };
               });
         }

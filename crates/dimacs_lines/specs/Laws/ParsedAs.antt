@@ -19,14 +19,6 @@ pub record Copied (from to₀ : List ℕ) (count : ℕ) (to₁ : List ℕ) : Typ
   pub points : pointsOf to₁ ≡ over (take count (pointsOf from)) (pointsOf to₀)
   pub rest : restOf to₁ ≡ restOf to₀
 
--- the loop that copies: the first i points are there, the others as they were
-pub record Copying (from to₀ : List ℕ) (count : ℕ) (to : List ℕ) (i : ℕ) : Type 0 where
-  pub room-from : count ≤ length (pointsOf from)
-  pub room-to : count ≤ length (pointsOf to₀)
-  pub within : i ≤ count
-  pub copied : pointsOf to ≡ paste (pointsOf to₀) 0 (pointsOf from) i
-  pub rest : restOf to ≡ restOf to₀
-
 -- a refusal beside the formula that is 0 throughout
 abbrev pub refusedWith : ℕ → ℕ → Parsed
 refusedWith code place = record { formula = emptyFormula; answer = Refused code place }

@@ -32,50 +32,7 @@ use Rattle.dimacs_comments.specs.Laws.CommentScans.{wantedOf}
 use Rattle.dimacs_comments.specs.Laws.HandlerScans.{KeptImages}
 use Rattle.dimacs_comments.specs.Laws.HandlerLaws.{images-take}
 use Rattle.dimacs_lines.specs.Laws.LineScans.{nothingSaid, progressFrom, Standing}
-use Rattle.dimacs_lines.specs.Laws.ParsedAs.{Copied, Copying, refusedWith, Limited, HasRoom, ParsedAs}
-
--- ---- the copy
-
-module _ {from to₀ : List ℕ} {count : ℕ} where
-  pub copy-begins : count ≤ length (pointsOf from) → count ≤ length (pointsOf to₀) → Copying from to₀ count to₀ 0
-  copy-begins hf ht =
-      record {
-        room-from = hf;
-        room-to = ht;
-        within = zero-le;
-        copied = paste-zero (pointsOf to₀) 0 (pointsOf from);
-        rest = refl;
-      }
-
-  module _ {to : List ℕ} {i : ℕ} (a : Copying from to₀ count to i) where
-    pub copy-goes-on : {x : ℕ} {new : List ℕ} → i < count → x ≡ getD (pointsOf from) i 0
-        → pointsOf new ≡ set (pointsOf to) i x → restOf new ≡ restOf to
-        → Copying from to₀ count new (i + 1)
-    copy-goes-on lt e f g =
-        record {
-          room-from = a .room-from;
-          room-to = a .room-to;
-          within = omega arith;
-          copied =
-              f ∙ ap₂ (λ (l : List ℕ) (y : ℕ). set l i y) (a .copied) e
-              ∙ ap (λ j. set (paste (pointsOf to₀) 0 (pointsOf from) i) j (getD (pointsOf from) i 0)) (sym (zero-add i))
-              ∙ paste-suc (pointsOf to₀) 0 (pointsOf from) i 0 (let x = a .room-to in omega arith)
-              (let x = a .room-from in omega arith)
-              ∙ ap (paste (pointsOf to₀) 0 (pointsOf from)) (sym (add-one i));
-          rest = g ∙ a .rest;
-        }
-
-    pub copy-ends : count ≤ i → Copied from to₀ count to
-    unfolding over
-    copy-ends h =
-        let e : i ≡ count = let w = a .within in omega arith in
-        record {
-          points =
-              a .copied ∙ ap (paste (pointsOf to₀) 0 (pointsOf from)) e
-              ∙ ap (λ j. take count (pointsOf from) ++ drop j (pointsOf to₀))
-              (zero-add count ∙ sym (length-take-le count (pointsOf from) (a .room-from)));
-          rest = a .rest;
-        }
+use Rattle.dimacs_lines.specs.Laws.ParsedAs.{refusedWith, Limited, HasRoom, ParsedAs}
 
 -- ---- the formula
 

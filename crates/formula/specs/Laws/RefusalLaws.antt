@@ -42,16 +42,12 @@ module _ (n m : ℕ) (clauses : ClauseSlices) where
   pub fits-sound : fits n m clauses ≡ true → Fits n m clauses
   unfolding fits
   fits-sound h =
-      let g = and-split (leb 1 n && leb n maxVariables && leb m maxClauses && eqb (length (clauses .positive)) m
-      && eqb (length (clauses .negative)) m && allBelow n (clauses .positive)) (allBelow n (clauses .negative)) h in
-      let f = and-split (leb 1 n && leb n maxVariables && leb m maxClauses && eqb (length (clauses .positive)) m
-      && eqb (length (clauses .negative)) m) (allBelow n (clauses .positive)) (g .0) in
-      let e = and-split (leb 1 n && leb n maxVariables && leb m maxClauses && eqb (length (clauses .positive)) m)
-      (eqb (length (clauses .negative)) m) (f .0) in
-      let d = and-split (leb 1 n && leb n maxVariables && leb m maxClauses) (eqb (length (clauses .positive)) m) (e .0)
-      in
-      let c = and-split (leb 1 n && leb n maxVariables) (leb m maxClauses) (d .0) in
-      let b = and-split (leb 1 n) (leb n maxVariables) (c .0) in
+      let g = and-split _ _ h in
+      let f = and-split _ _ (g .0) in
+      let e = and-split _ _ (f .0) in
+      let d = and-split _ _ (e .0) in
+      let c = and-split _ _ (d .0) in
+      let b = and-split _ _ (c .0) in
       record {
         some-variable = leb-true 1 n (b .0);
         few-variables = leb-true n maxVariables (b .1);

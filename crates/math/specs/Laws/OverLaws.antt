@@ -1,11 +1,11 @@
--- Laws of new contents in front of what was there, while they grow at their end or one element of them changes. Assumes
--- nothing.
+-- Laws of new contents in front of what was there, while they grow at their end or one element of them changes, and of
+-- the loop that copies a list there. Assumes nothing.
 use mathlib.Core.List.{List, [], _∷_, _++_, append-assoc}
-use mathlib.Core.Path.{_≡_, refl, sym, ap, _∙_}
-use Prim.Native.Nat.{ℕ, suc, _+_, _<_}
-use native.Mathlib.Nat.{le-of-lt}
+use mathlib.Core.Path.{_≡_, refl, sym, ap, ap₂, _∙_}
+use Prim.Native.Nat.{ℕ, suc, _+_, _≤_, _<_, zero-le}
+use native.Mathlib.Nat.{le-of-lt, lt-of-lt-of-le, le-antisymm}
 use native.Mathlib.Omega.{arith}
-use lib.ListN.{length, getD, set, take, drop, length-append}
+use lib.ListN.{length, getD, set, take, drop, length-append, length-set}
 use lib.Seq.{length-take-le, take-suc, drop-cons, set-at, getD-at}
 use Rattle.math.specs.Lists.{over}
 use Rattle.math.specs.Laws.QueueLaws.{length-snoc}
@@ -52,3 +52,33 @@ module _ {A : Type 0} where
       over-snoc i (take i xs) old (getD xs i d) (length-take-le i xs (le-of-lt more)) room
       ∙ ap (λ l. over l old) (sym (take-suc xs i d more)
       ∙ ap (λ (j : ℕ). take j xs) (let z : suc i ≡ i + 1 = omega arith in z))
+
+-- the loop that copies the first `count` numbers of a list to the front of another: the first i are there
+pub record Copying (count : ℕ) (xs old : List ℕ) (i : ℕ) (to : List ℕ) : Type 0 where
+  pub enough : count ≤ length xs
+  pub room : count ≤ length old
+  pub within : i ≤ count
+  pub long : length to ≡ length old
+  pub copied : to ≡ over (take i xs) old
+
+module _ {count : ℕ} {xs old : List ℕ} where
+  -- before the first turn nothing is copied
+  pub copying-begins : count ≤ length xs → count ≤ length old → Copying count xs old 0 old
+  copying-begins e r = record { enough = e; room = r; within = zero-le; long = refl; copied = sym (over-none old) }
+
+  -- a turn copies number i behind the others
+  pub copying-goes-on : {i x : ℕ} {to after : List ℕ} → Copying count xs old i to → i < count → x ≡ getD xs i 0
+      → after ≡ set to i x → Copying count xs old (i + 1) after
+  copying-goes-on {i} {x} {to} s more e f =
+      record {
+        enough = s .enough;
+        room = s .room;
+        within = omega arith;
+        long = ap length f ∙ length-set to i x ∙ s .long;
+        copied = f ∙ ap₂ (λ (l : List ℕ) (y : ℕ). set l i y) (s .copied) e
+            ∙ over-take-next i xs old 0 (lt-of-lt-of-le more (s .enough)) (lt-of-lt-of-le more (s .room));
+      }
+
+  -- after the last turn all are copied
+  pub copying-ends : {i : ℕ} {to : List ℕ} → Copying count xs old i to → count ≤ i → to ≡ over (take count xs) old
+  copying-ends s all = s .copied ∙ ap (λ (k : ℕ). over (take k xs) old) (le-antisymm (s .within) all)

@@ -15,7 +15,7 @@ use lib.Seq.{drop-cons}
 use Rattle.math.specs.Lists.{_∈_}
 use Rattle.points.specs.Points.{Clause, satisfies, numberedFrom, firstFalsified, numberOf, emptyClause}
 use Rattle.point_slices.specs.Slices.{pointsOf, restOf, ClauseSlices, clauseSlices, wholeClauses, firstClauses}
-use Rattle.point_slices.specs.Slices.{clauseRoom, SlotSlices, slotSlices}
+use Rattle.point_slices.specs.Slices.{SlotSlices, slotSlices}
 use Rattle.point_slices.specs.Slices.{beside}
 
 -- ---- words
@@ -79,11 +79,6 @@ clauses-blank k = λ i. record {
   positiveRest = rest-blank k i;
   negativeRest = rest-blank k i;
 }
-
--- slices of one length have room for equally many clauses
-pub room-kept : {m : ℕ} (p q p′ q′ : List ℕ) → m ≤ clauseRoom (clauseSlices p q) → length p′ ≡ length p
-    → length q′ ≡ length q → m ≤ clauseRoom (clauseSlices p′ q′)
-room-kept p q p′ q′ few a b = rw (same-count p′ p a, same-count q′ q b) few
 
 -- one word is one point, for the functions that copy points out of structs and back
 pub one-word : (s : List ℕ) → pointsOf s ≡ s

@@ -2,7 +2,6 @@
 -- nothing.
 use mathlib.Core.Path.{sym, ap, _∙_}
 use borrow.Author.Needs.{needs}
-use Rattle.point_slices.specs.Laws.SliceLaws.{room-kept}
 use Rattle.dimacs_lines.specs.Reply.{replyOfParse}
 use Rattle.solver.specs.Laws.SolverLaws.{clauses-held}
 use Rattle.program.specs.Laws.ProgramLaws.{read-blank, few-variables, prints-read, prints-refused}
@@ -17,7 +16,7 @@ search-sheet-requires c κs =
     let called = c .before .before .before .before .before .before .before .before .read in
     let said = ap replyOfParse (sym (c .before .before .before .enum-told .given .1)) in
     let read = read-blank _ (called .ensures) in (
-      room-kept _ _ _ _ (clauses-held _ _ (said ∙ called .ensures .reply) _ (called .ensures .formula)) (called .kept .1 .0) (called .kept .1 .1 .0),
+      clauses-held _ _ (said ∙ called .ensures .reply) _ (called .ensures .formula) _ (called .ensures .clauses),
       few-variables _ (said ∙ read .reply) _ (read .formula),
       c .before .before .before .before .before .before .before .before .before .before .before .before .before .pre,
     )

@@ -4,7 +4,6 @@ use mathlib.Core.Path.{sym, ap, _∙_}
 use borrow.Author.Needs.{needs}
 use lib.Dec.{lit≤}
 use Rattle.dimacs_lines.specs.Laws.ParsedAs.{fewClauses}
-use Rattle.point_slices.specs.Laws.SliceLaws.{room-kept}
 use Rattle.dimacs_lines.specs.Reply.{replyOfParse}
 use Rattle.solver.specs.Laws.SolverLaws.{solves-refused, solves-read, clauses-held, solves-few, few-room}
 use Rattle.solver.specs.Laws.SolverLaws.{parsed-not-4, other-not-4}
@@ -17,8 +16,7 @@ read-requires c κs = search needs
 solve-read-requires : tie.Need-solve-read-requires
 solve-read-requires c κs =
     let called = c .before .before .before .before .before .before .before .before .before .before .before .read in
-    room-kept _ _ _ _ (clauses-held _ _ (ap replyOfParse (sym (c .before .before .before .before .before .before .enum-told .given .1)) ∙ called .ensures .reply) _ (called .ensures .formula))
-    (called .kept .1 .0) (called .kept .1 .1 .0)
+    clauses-held _ _ (ap replyOfParse (sym (c .before .before .before .before .before .before .enum-told .given .1)) ∙ called .ensures .reply) _ (called .ensures .formula) _ (called .ensures .clauses)
 
 solve-many-requires : tie.Need-solve-many-requires
 solve-many-requires c κs = search needs

@@ -2,7 +2,6 @@
 -- is. Assumes nothing.
 use mathlib.Core.Path.{sym, ap, _∙_}
 use borrow.Author.Needs.{needs}
-use Rattle.point_slices.specs.Laws.SliceLaws.{room-kept}
 use Rattle.dimacs_lines.specs.Reply.{replyOfParse}
 use Rattle.solver.specs.Laws.SolverLaws.{solves-refused, solves-read, clauses-held, solved-blank}
 use Rattle.solver.proofs.solve_many.Statement.{statement}
@@ -14,8 +13,7 @@ read-requires c κs = search needs
 solve-read-requires : tie.Need-solve-read-requires
 solve-read-requires c κs =
     let called = c .before .before .before .before .before .before .before .before .before .before .before .read in
-    room-kept _ _ _ _ (clauses-held _ _ (ap replyOfParse (sym (c .before .before .before .before .before .before .enum-told .given .1)) ∙ called .ensures .reply) _ (called .ensures .formula))
-    (called .kept .1 .0) (called .kept .1 .1 .0)
+    clauses-held _ _ (ap replyOfParse (sym (c .before .before .before .before .before .before .enum-told .given .1)) ∙ called .ensures .reply) _ (called .ensures .formula) _ (called .ensures .clauses)
 
 refused-requires : tie.Need-refused-requires
 refused-requires c κs = search needs

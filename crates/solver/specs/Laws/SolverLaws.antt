@@ -18,7 +18,7 @@ use Rattle.formula.specs.Reply.{pointIn}
 use Rattle.formula.specs.Laws.ReplyLaws.{written-not-refused}
 use Rattle.point_slices.specs.Laws.SliceLaws.{points-blank, clauses-blank}
 use Rattle.dimacs_format.specs.Laws.ReaderLaws.{parsed-accepts}
-use Rattle.dimacs_format.specs.Laws.RoomLaws.{reads-alike}
+use Rattle.dimacs_format.specs.Laws.RoomLaws.{reads-alike, stored-room}
 use Rattle.dimacs_format.specs.Input.{Input, formulaOf}
 use Rattle.dimacs_format.specs.Reader.{Step, goes, refuses, replyTo, reading, readReply, readFormula, readClauses}
 use Rattle.search.specs.Search.{searchReply, searchSlices}
@@ -433,13 +433,16 @@ unfolding blank
 solved-blank text {slots₀} {slots₁} {out} {out₁} {r} v =
     subst (λ clauses. Solved (from-text text clauses) slots₀ out r slots₁ out₁) (clauses-blank maxClauses) v
 
--- the slices that take a text have room for its clauses
+-- the slices as the reader leaves them have room for the text's clauses
 pub clauses-held : (text : List ℕ) (clauses₀ : ClauseSlices) → parsed ≡ readReply text clauses₀ → (f : Formula)
-    → f ≡ readFormula text clauses₀ → f .clauses ≤ clauseRoom clauses₀
+    → f ≡ readFormula text clauses₀ → (clauses₁ : ClauseSlices) → clauses₁ ≡ readClauses text clauses₀
+    → f .clauses ≤ clauseRoom clauses₁
 unfolding formulaOf
-clauses-held text clauses₀ e f ef =
+clauses-held text clauses₀ e f ef clauses₁ ec =
     let w = parsed-accepts text clauses₀ (sym e) in
-    subst (λ (g : Formula). g .clauses ≤ clauseRoom clauses₀) (sym (ef ∙ w .2 .formula)) (w .1 .enough-room)
+    let cs = w .0 .clauses in
+    subst (λ (g : Formula). g .clauses ≤ clauseRoom clauses₁) (sym (ef ∙ w .2 .formula))
+    (subst (λ (l : ClauseSlices). length cs ≤ clauseRoom l) (sym (ec ∙ w .2 .clauses)) (stored-room clauses₀ cs))
 
 -- a text that smaller slices take is solved as it is with larger ones
 pub solves-few : (text : List ℕ) (few more : ClauseSlices) → clauseRoom few ≤ clauseRoom more

@@ -5,25 +5,25 @@ use lib.ListN.{length}
 use borrow.Author.Needs.{needs}
 use Rattle.point_slices.specs.Slices.{pointsOf, restOf}
 use Rattle.certificate.specs.Bytes.{pointWidth}
-use Rattle.certificate.specs.Laws.BytesLaws.{Copying, copying-begins, copying-whole, copying-goes-on}
-use Rattle.certificate.specs.Laws.BytesLaws.{copying-ends}
+use Rattle.certificate.specs.Laws.BytesLaws.{Decoding, decoding-begins, decoding-whole, decoding-goes-on}
+use Rattle.certificate.specs.Laws.BytesLaws.{decoding-ends}
 use Rattle.certificate.proofs.bodies.points_into.Statement.{statement}
 use Rattle.certificate.proofs.bodies.points_into.Tie as tie
 
 abbrev Inv-loop : tie.InvT-loop
-Inv-loop to₀ body count i₀ to i = (length to ≡ length to₀) × Copying pointWidth count body (pointsOf to₀) i (pointsOf to) × (restOf to ≡ restOf to₀)
+Inv-loop to₀ body count i₀ to i = (length to ≡ length to₀) × Decoding pointWidth count body (pointsOf to₀) i (pointsOf to) × (restOf to ≡ restOf to₀)
 
 abbrev μ-loop : tie.MeasureT-loop
 μ-loop to₀ body count i₀ to i = count - i
 
 entry-requires : tie.Need-entry-requires Inv-loop μ-loop
-entry-requires c κs = search (needs, copying-whole)
+entry-requires c κs = search (needs, decoding-whole)
 
 put-point-requires : tie.Need-put-point-requires Inv-loop μ-loop
 put-point-requires c κs = search needs
 
 loop-again : tie.Need-loop-again Inv-loop μ-loop
-loop-again c = (search needs, search (needs, copying-goes-on), c .before .before .put-point .ensures .1 ∙ c .before .before .before .before .before .before .loop .inv .2)
+loop-again c = (search needs, search (needs, decoding-goes-on), c .before .before .put-point .ensures .1 ∙ c .before .before .before .before .before .before .loop .inv .2)
 
 pub points-into-spec : {M : Type 1} → statement M
 points-into-spec =
@@ -31,11 +31,11 @@ points-into-spec =
     (tie.spec
     Inv-loop
     μ-loop
-    (λ c. search (needs, copying-begins))
+    (λ c. search (needs, decoding-begins))
     entry-requires
     put-point-requires
     (λ c. search needs)
     (λ c. search needs)
     loop-again
     (λ c. search needs)
-    (λ c. search (needs, copying-ends)))
+    (λ c. search (needs, decoding-ends)))
