@@ -73,7 +73,8 @@ def unfilled(record, line):
         if field and steps(record, field) == n:
             return "@@" + field
         records = chain(record)
-        own = [name for name in fields.get(records[n], []) if steps(record, name) == n] if n < len(records) else []
+        names = fields.get(records[n], []) if n < len(records) else []
+        own = [name for name in names if re.fullmatch(r"[a-z0-9-]+", name) and steps(record, name) == n]
         return f"@@/{own[0]}" + (f" .{field}" if field else "") if own else m.group(0)
     return re.sub(r"(?<![\w.])c(?= \.)((?: \.before)*)(?: \.([a-z0-9-]+))?", shorter, line)
 

@@ -1,6 +1,6 @@
 -- Document 01, 'When the desk says no': the rows 10, 11 and 12, which several entry points share. Assumes nothing.
 use mathlib.Core.Bool.{Bool, cond, _&&_}
-use mathlib.Core.List.{List, [], _∷_}
+use mathlib.Core.List.{List}
 use mathlib.Core.Path.{_≡_}
 use Prim.Native.Nat.{ℕ, _^_, _≤_, _<_}
 use lib.Dec.{leb, ltb, eqb}
@@ -13,8 +13,7 @@ use Rattle.formula.specs.declared.Checked.{Checked}
 use Rattle.formula.specs.declared.Checked.the-variants.{Passed, Refused}
 use Rattle.formula.specs.declared.Formula.{Formula}
 use Rattle.formula.specs.Limits.{maxVariables, maxClauses, maxPermutations}
-use Rattle.formula.specs.Problem.{problemOf}
-use Rattle.formula.specs.Reply.{Fault, no-fault, fault, faultAt, first}
+use Rattle.formula.specs.Reply.{Fault, no-fault, fault, faultAt}
 
 -- no number of the list has a bit at n or above
 unfoldable pub allBelow : ℕ → List ℕ → Bool

@@ -1,7 +1,7 @@
 -- Document 01, 'Sheets to try': the text that the program `nearest` prints for a reply. Definitions alone; ReportLaws
 -- has what follows. Assumes nothing.
 use mathlib.Core.Bool.{Bool, true, false}
-use mathlib.Core.List.{List, [], _∷_, _++_}
+use mathlib.Core.List.{List, [], _++_}
 use Prim.Native.Nat.{ℕ, zero, suc, _+_, _*_}
 use Rattle.formula.specs.Limits.{maxVariables}
 use Rattle.math.specs.Bits.{bit}

@@ -2,8 +2,7 @@
 use mathlib.Core.List.{List}
 use mathlib.Core.Path.{_≡_}
 use Prim.Native.Nat.{ℕ, _≤_}
-use lib.ListN.{length, take}
-use lib.Seq.{paste}
+use lib.ListN.{take}
 use Rattle.math.specs.Lists.{over}
 use Rattle.point_slices.specs.Slices.{ClauseSlices, pointsOf, restOf, clauseRoom}
 use Rattle.formula.specs.Limits.{maxVariables, maxClauses}

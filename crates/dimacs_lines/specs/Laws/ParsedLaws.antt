@@ -2,17 +2,16 @@
 use mathlib.Core.Bool.{cond}
 use mathlib.Core.List.{List, [], _∷_, _++_}
 use mathlib.Core.Option.{Option·getD}
-use mathlib.Core.Path.{_≡_, refl, sym, ap, ap₂, _∙_, subst}
+use mathlib.Core.Path.{_≡_, refl, sym, ap, _∙_, subst}
 use Prim.Native.Nat.{ℕ, zero, suc, _+_, _-_, _*_, _≤_, _<_, min, zero-le}
-use native.Mathlib.Nat.{zero-add, zero-mul, mul-le-mul-right, le-trans, le-of-suc-le-suc, not-suc-le-zero}
-use native.Mathlib.Numerals.{add-one}
+use native.Mathlib.Nat.{zero-mul, mul-le-mul-right, le-trans, le-of-suc-le-suc, not-suc-le-zero}
 use native.Mathlib.Omega.{arith}
-use lib.ListN.{length, getD, take, drop, set, replicate, take-append-drop, length-replicate}
-use lib.Seq.{paste, paste-zero, paste-suc, length-take-le}
+use lib.ListN.{length, take, drop, replicate, take-append-drop, length-replicate}
+use lib.Seq.{length-take-le}
 use borrow.Author.Tests.{eq-eqb, ne-eqb}
 use Rattle.math.specs.Lists.{over}
 use Rattle.point_slices.specs.Laws.SliceLaws.{points-blank}
-use Rattle.point_slices.specs.Slices.{ClauseSlices, pointsOf, restOf, clauseSlices, beside, clauseRoom}
+use Rattle.point_slices.specs.Slices.{ClauseSlices, pointsOf, clauseSlices, beside, clauseRoom}
 use Rattle.permutation_images.specs.Laws.LoopLaws.{length-permutations}
 use Rattle.permutation_theory.specs.Permutations.{permutationsIn}
 use Rattle.formula.specs.Limits.{maxVariables, maxPermutations, maxImages}

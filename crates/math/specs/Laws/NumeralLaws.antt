@@ -8,7 +8,7 @@ use native.Mathlib.Nat.{mod-add-div}
 use native.Mathlib.Nat.{div-eq-of-lt, lt-of-lt-of-le, mul-le-mul-left, div-lt-iff-lt-mul, mul-zero, mul-suc, zero-mod}
 use native.Mathlib.Nat.{one-le-pow, zero-lt-suc}
 use lib.Arith.{lt-one}
-use lib.ListN.{length, getD, getElem?, take, drop, length-append}
+use lib.ListN.{length, getD, getElem?, take, drop}
 use lib.Pow.{pow-mono, shr-shr}
 use lib.Seq.{take-at, drop-at, drop-drop, drop-cons}
 use Rattle.math.specs.Lists.{_∈_}
