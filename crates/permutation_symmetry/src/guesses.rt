@@ -25,8 +25,8 @@ const TRIED: usize = 16;
 // At how many places such a row can begin.
 const PLACES: usize = ENTRIES - TRIED + 1;
 
-// Where the guesses for a clause begin: `TRIED` entries and more are left. The factors differ, so that clauses over the same
-// variables begin apart, and are large, since the hashes of points of few digits are small.
+// Where the guesses for a clause begin: `TRIED` entries and more are left. The factors differ, so that clauses over the
+// same variables begin apart, and are large, since the hashes of points of few digits are small.
 fn place_of(c: Clause) -> usize
     ensures { λ r. ⌜ r < 8177 ⌝ }
 {
