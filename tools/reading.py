@@ -16,9 +16,10 @@ import tree
 CLAIM = ("claims", "Claim")
 # sentences that promised theorems are about, and that no contract cites
 BESIDE = {
+    ("claims", "StableSets"): "which files the checker accepts, in the sense of document 002; CheckerExact shows it",
     ("claims", "Cases"): "document 01's worked cases, which CasesHold shows",
     ("dimacs_format", "Accepted"): "which texts are accepted, without a fold; just these are (ReaderLaws)",
-    ("check_theory", "Published"): "stable sets as published, which those of document 01 are (StableLaws)",
+    ("check_theory", "Published"): "stable sets as published, which StableSets speaks of",
 }
 
 

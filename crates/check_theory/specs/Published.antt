@@ -1,16 +1,12 @@
 -- Source document 002: neighbourhoods, transport functions and stable sets as published, over any number n of
 -- variables. A set of points is a predicate, and the formula is a list of clauses. Assumes nothing.
-use mathlib.Core.Bool.{cond}
-use mathlib.Core.List.{List, [], _∷_}
+use mathlib.Core.List.{List}
 use mathlib.Core.Logic.{_⊎_}
-use mathlib.Core.Option.{Option, some, none}
 use mathlib.Core.Path.{_≡_}
 use Prim.Native.Nat.{ℕ, _<_, _^_}
-use lib.Dec.{eqb}
 use Rattle.math.specs.Lists.{_∈_}
-use Rattle.points.specs.Points.{Clause, Satisfies, Numbered, distance, emptyClause}
+use Rattle.points.specs.Points.{Clause, Satisfies, Numbered, distance}
 use Rattle.permutation_theory.specs.Permutations.{Permutation, IsPermutation, imageOfPoint, clausesIn, Keeps}
-use Rattle.certificate.specs.Rows.{clauseNumbered}
 
 -- 002, definition 3: "the set of points that are at Hamming distance 1 from p and that satisfy C"
 pub record Nbhd (n : ℕ) (p : ℕ) (c : Clause) (q : ℕ) : Type 0 where
@@ -24,13 +20,19 @@ pub record Transport (clauses : List Numbered) (P : ℕ → Type 0) (g : ℕ →
   pub member : (p : ℕ) → P p → g p ∈ clausesIn clauses
   pub falsified : (p : ℕ) → P p → Satisfies (g p) p → ⊥
 
--- 002, definition 5: "Let P be a nonempty subset of Z(F)", and for each p of P "$Nbhd(p,g(p)) \subseteq P$"
-pub record StableSet (n : ℕ) (clauses : List Numbered) (P : ℕ → Type 0) (g : ℕ → Clause) : Type 0 where
-  pub witness : ℕ
-  pub nonempty : P witness
-  pub within : (p : ℕ) → P p → p < 2 ^ n
-  pub transport : Transport clauses P g
-  pub closed : (p : ℕ) → P p → (q : ℕ) → Nbhd n p (g p) q → P q
+-- 002, definitions 5 and 11, which differ in where the neighbourhoods lie: "Let P be a nonempty subset of Z(F)" with the
+-- transport function g; for each p of P every point of Nbhd(p,g(p)) is one of Q
+pub record StableUpTo (n : ℕ) (clauses : List Numbered) (P : ℕ → Type 0) (g : ℕ → Clause) (Q : ℕ → Type 0) : Type 0
+  where
+    pub witness : ℕ
+    pub nonempty : P witness
+    pub within : (p : ℕ) → P p → p < 2 ^ n
+    pub transport : Transport clauses P g
+    pub closed : (p : ℕ) → P p → (q : ℕ) → Nbhd n p (g p) q → Q q
+
+-- 002, definition 5: "$Nbhd(p,g(p)) \subseteq P$"
+abbrev pub StableSet : ℕ → List Numbered → (ℕ → Type 0) → (ℕ → Clause) → Type 0
+StableSet n clauses P g = StableUpTo n clauses P g P
 
 -- 002, definitions 8 and 9: "The set of the permutations, with respect to which a CNF formula is symmetric, forms a
 -- group", there named G
@@ -45,31 +47,20 @@ pub record Symmetric (n : ℕ) (clauses : List Numbered) (p q : ℕ) : Type 0 wh
   pub maps : (q ≡ imageOfPoint symmetry p) ⊎ (p ≡ imageOfPoint symmetry q)
 
 -- 002, definition 11: "every point $p' \in Nbhd(p,g(p))$ is either in P or there is a point p of P that is symmetric to
--- p'"; nonempty as in definition 5
-pub record StableModulo (n : ℕ) (clauses : List Numbered) (P : ℕ → Type 0) (g : ℕ → Clause) : Type 0 where
-  pub witness : ℕ
-  pub nonempty : P witness
-  pub within : (p : ℕ) → P p → p < 2 ^ n
-  pub transport : Transport clauses P g
-  pub closed : (p : ℕ) → P p → (q : ℕ) → Nbhd n p (g p) q → P q ⊎ ((r : ℕ) × P r × Symmetric n clauses q r)
+-- p'"
+abbrev pub SymmetricToOne : ℕ → List Numbered → (ℕ → Type 0) → ℕ → Type 0
+SymmetricToOne n clauses P q = P q ⊎ ((r : ℕ) × P r × Symmetric n clauses q r)
 
--- ---- the transport function of a certificate
+abbrev pub StableModulo : ℕ → List Numbered → (ℕ → Type 0) → (ℕ → Clause) → Type 0
+StableModulo n clauses P g = StableUpTo n clauses P g (SymmetricToOne n clauses P)
 
--- the number beside the first point x of a list; 0 where there is none
-unfoldable pub numberBeside : List ℕ → List ℕ → ℕ → ℕ
-numberBeside [] ks x = 0
-numberBeside (y ∷ ys) [] x = 0
-numberBeside (y ∷ ys) (k ∷ ks) x = cond (eqb y x) k (numberBeside ys ks x)
+-- the same in document 01's form: "Document 002 allows the whole group; here one listed exchange, applied one time,
+-- counts."
+abbrev pub SentToOne : List Permutation → (ℕ → Type 0) → ℕ → Type 0
+SentToOne permutations P q = P q ⊎ ((e : Permutation) × (e ∈ permutations) × P (imageOfPoint e q))
 
--- the clause that is there, or one without variables
-unfoldable pub orEmpty : Option Clause → Clause
-orEmpty none = emptyClause
-orEmpty (some c) = c
-
--- to each point the clause of its number
-unfoldable pub transportOf : List Numbered → List ℕ → List ℕ → ℕ → Clause
-unfolding orEmpty clauseNumbered numberBeside
-transportOf clauses points falsified x = orEmpty (clauseNumbered clauses (numberBeside points falsified x))
+abbrev pub StableListed : List Permutation → ℕ → List Numbered → (ℕ → Type 0) → (ℕ → Clause) → Type 0
+StableListed permutations n clauses P g = StableUpTo n clauses P g (SentToOne permutations P)
 
 -- k is the number of a clause of the formula that a transport function gives to x
 pub record Names (clauses : List Numbered) (g : ℕ → Clause) (x k : ℕ) : Type 0 where

@@ -1,29 +1,46 @@
--- Laws of stable sets: a certificate's set is stable as published, modulo symmetry with permutations, and exactly so
--- without. Assumes nothing.
+-- Laws of stable sets: a certificate's set is stable as published, up to the points that it covers, and back. Assumes
+-- nothing.
 use mathlib.Core.Bool.{cond}
 use mathlib.Core.List.{List, [], _∷_, List·Memᴰ·head, List·Memᴰ·tail, List·Memᴰ·not-nil}
-use mathlib.Core.Logic.{_⊎_, inl, inr}
+use mathlib.Core.Logic.{inl, inr}
+use mathlib.Core.Option.{Option, some, none}
 use mathlib.Core.Path.{_≡_, refl, sym, ap, _∙_, subst}
 use Prim.Native.Nat.{ℕ, zero, suc, _≤_, _<_}
 use native.Mathlib.Nat.{not-suc-le-zero, le-of-suc-le-suc}
 use native.Mathlib.Omega.{arith}
-use lib.Dec.{lit≤}
+use lib.Dec.{eqb}
 use lib.ListN.{length, getD}
 use borrow.Author.Tests.{eq-eqb, ne-eqb}
 use Rattle.math.specs.Bits.{flip}
 use Rattle.math.specs.Laws.ListLaws.{map-in, getD-in, in-getD}
 use Rattle.math.specs.Lists.{_∈_, Distinct, distinct-cons}
-use Rattle.points.specs.Points.{Clause, Satisfies, Numbered}
+use Rattle.points.specs.Points.{Clause, Satisfies, Numbered, emptyClause}
 use Rattle.permutation_theory.specs.Permutations.{Permutation, imageOfPoint, clausesIn, Covered, itself, by-image}
-use Rattle.formula.specs.Limits.{maxSlots}
+use Rattle.formula.specs.Limits.{maxSlots, maxPermutations}
 use Rattle.certificate.specs.Laws.RowLaws.{OwnNumbers, clause-of}
 use Rattle.certificate.specs.Rows.{clauseNumbered}
-use Rattle.check_theory.specs.Published.{Nbhd, Transport, StableSet, Symmetric, StableModulo, numberBeside}
-use Rattle.check_theory.specs.Published.{orEmpty, transportOf, Names}
+use Rattle.check_theory.specs.Published.{Nbhd, Transport, StableUpTo, Symmetry, SymmetricToOne, SentToOne}
+use Rattle.check_theory.specs.Published.{Names}
 use Rattle.check_theory.specs.Laws.PublishedLaws.{flips-neighbours, neighbours-flips}
 use Rattle.check_theory.specs.Stable.{Transported, Stable}
 
--- ---- the number beside a point
+-- ---- the transport function of a certificate
+
+-- the number beside the first point x of a list; 0 where there is none
+unfoldable pub numberBeside : List ℕ → List ℕ → ℕ → ℕ
+numberBeside [] ks x = 0
+numberBeside (y ∷ ys) [] x = 0
+numberBeside (y ∷ ys) (k ∷ ks) x = cond (eqb y x) k (numberBeside ys ks x)
+
+-- the clause that is there, or one without variables
+unfoldable pub orEmpty : Option Clause → Clause
+orEmpty none = emptyClause
+orEmpty (some c) = c
+
+-- to each point the clause of its number
+unfoldable pub transportOf : List Numbered → List ℕ → List ℕ → ℕ → Clause
+unfolding orEmpty clauseNumbered numberBeside
+transportOf clauses points falsified x = orEmpty (clauseNumbered clauses (numberBeside points falsified x))
 
 pub number-beside : (ps ks : List ℕ) → Distinct ps → length ks ≡ length ps → (i : ℕ) → i < length ps
     → numberBeside ps ks (getD ps i 0) ≡ getD ks i 0
@@ -72,83 +89,101 @@ module _ (n : ℕ) (cs : List Numbered) (es : List Permutation) (ps ks : List �
       let w = neighbours-flips n x (t .own .clause) (s .within x (getD-in ps i 0 lt)) (t .falsified) q
       (subst (λ c. Nbhd n x c q) (transport-at i lt) near) in
       subst (Covered es ps) (sym (w .2)) (t .flips (w .0) (w .1)))
+      -- the numbers name the clauses of the transport function
 
-  -- D2.3: "the stable sets of the published definition in 01's form": definition 11
-  pub stable-modulo : StableModulo n cs (λ x. x ∈ ps) (transportOf cs ps ks)
-  stable-modulo =
+  pub stable-names : (i : ℕ) → i < length ps → Names cs (transportOf cs ps ks) (getD ps i 0) (getD ks i 0)
+  stable-names i lt =
+      let t = s .transported i lt in
+      record { one = t .own; member = t .member; numbered = t .named; same = sym (transport-at i lt) }
+
+  -- a certificate's set is stable as published, up to the points that it covers
+  pub stable-published : StableUpTo n cs (λ x. x ∈ ps) (transportOf cs ps ks) (Covered es ps)
+  stable-published =
       record {
         witness = getD ps 0 0;
         nonempty = getD-in ps 0 0 (s .somePoint);
         within = s .within;
         transport = set-transport;
-        closed = λ p m q near. either q (neighbour-covered p m q near);
+        closed = neighbour-covered;
       }
-    where
-      either : (q : ℕ) → Covered es ps q → (q ∈ ps) ⊎ ((r : ℕ) × (r ∈ ps) × Symmetric n cs q r)
-      either q (itself m) = inl m
-      either q (by-image e m k) =
-          inr (
-            imageOfPoint e q,
-            k,
-            record {
-              symmetry = e;
-              inGroup =
-                  record { bijective = s .arePermutations e m; keeps = s .keepClauses e m };
-              maps = inl refl;
-            },
-          )
 
--- D2.3: "the stable sets of the published definition in 01's form": definition 5, where no permutation is listed
-pub stable-set : (n : ℕ) (cs : List Numbered) (ps ks : List ℕ) → OwnNumbers cs → Stable n cs [] ps ks
-    → StableSet n cs (λ x. x ∈ ps) (transportOf cs ps ks)
-stable-set n cs ps ks unique s =
+-- ---- and back: a set that is stable as published, up to the points that it covers, listed without repetition within
+-- the limits, with numbers that name its transport function's clauses
+
+module _ (n : ℕ) (cs : List Numbered) (es : List Permutation) (ps ks : List ℕ) (g : ℕ → Clause)
+    (s : StableUpTo n cs (λ x. x ∈ ps) g (Covered es ps))
+    (names : (i : ℕ) → i < length ps → Names cs g (getD ps i 0) (getD ks i 0)) where
+  not-empty : {x : ℕ} {l : List ℕ} → x ∈ l → 1 ≤ length l
+  not-empty (List·Memᴰ·head e) = omega arith
+  not-empty (List·Memᴰ·tail m) = omega arith
+
+  published-at : (i : ℕ) → i < length ps → Transported n cs es ps (getD ps i 0) (getD ks i 0)
+  published-at i lt =
+      let x = getD ps i 0 in
+      let m : x ∈ ps = getD-in ps i 0 lt in
+      let c = names i lt in
+      let fails : Satisfies (c .one .clause) x
+      → ⊥ = λ h. s .transport .falsified x m (subst (λ l. Satisfies l x) (c .same) h) in
+      record {
+        own = c .one;
+        member = c .member;
+        named = c .numbered;
+        falsified = fails;
+        flips = λ v k. s .closed x m (flip x v)
+            (subst (λ l. Nbhd n x l (flip x v)) (c .same)
+            (flips-neighbours n x (c .one .clause) (s .within x m) fails v k));
+      }
+
+  pub published-stable : length es ≤ maxPermutations → ((e : Permutation) → e ∈ es → Symmetry n cs e) → Distinct ps
+      → length ps ≤ maxSlots → length ks ≡ length ps → Stable n cs es ps ks
+  published-stable listed symmetries d few pairs =
+      record {
+        fewPermutations = listed;
+        arePermutations = λ e m. symmetries e m .bijective;
+        keepClauses = λ e m. symmetries e m .keeps;
+        somePoint = not-empty (s .nonempty);
+        fewPoints = few;
+        within = s .within;
+        distinct = d;
+        paired = pairs;
+        transported = published-at;
+      }
+
+-- ---- which points count as being in the set
+
+-- more points may count
+pub stable-more : {n : ℕ} {cs : List Numbered} {P : ℕ → Type 0} {g : ℕ → Clause} {Q R : ℕ → Type 0}
+    → ((q : ℕ) → Q q → R q) → StableUpTo n cs P g Q → StableUpTo n cs P g R
+stable-more more s =
     record {
-      witness = getD ps 0 0;
-      nonempty = getD-in ps 0 0 (s .somePoint);
+      witness = s .witness;
+      nonempty = s .nonempty;
       within = s .within;
-      transport = set-transport n cs [] ps ks unique s;
-      closed = λ p m q near. inside q (neighbour-covered n cs [] ps ks unique s p m q near);
+      transport = s .transport;
+      closed = λ p m q near. more q (s .closed p m q near);
     }
-  where
-    inside : (q : ℕ) → Covered [] ps q → q ∈ ps
-    inside q (itself m) = m
-    inside q (by-image e m k) = absurd (List·Memᴰ·not-nil m)
 
--- and back: a set stable as published, listed without repetition within the limit, with numbers that name its transport
--- function's clauses
-pub set-stable : (n : ℕ) (cs : List Numbered) (ps ks : List ℕ) (g : ℕ → Clause) → StableSet n cs (λ x. x ∈ ps) g
-    → Distinct ps → length ps ≤ maxSlots → length ks ≡ length ps
-    → ((i : ℕ) → i < length ps → Names cs g (getD ps i 0) (getD ks i 0)) → Stable n cs [] ps ks
-set-stable n cs ps ks g s d few pairs names =
-    record {
-      fewPermutations = lit≤ tt;
-      arePermutations = λ e m. absurd (List·Memᴰ·not-nil m);
-      keepClauses = λ e m. absurd (List·Memᴰ·not-nil m);
-      somePoint = not-empty (s .nonempty);
-      fewPoints = few;
-      within = s .within;
-      distinct = d;
-      paired = pairs;
-      transported = at;
-    }
-  where
-    not-empty : {x : ℕ} {l : List ℕ} → x ∈ l → 1 ≤ length l
-    not-empty (List·Memᴰ·head e) = omega arith
-    not-empty (List·Memᴰ·tail m) = omega arith
+-- covered: the point itself or its image under a listed permutation is in the set, and back
+pub covered-sent : {es : List Permutation} {ps : List ℕ} (q : ℕ) → Covered es ps q → SentToOne es (λ x. x ∈ ps) q
+covered-sent q (itself m) = inl m
+covered-sent q (by-image e m k) = inr (e, m, k)
 
-    at : (i : ℕ) → i < length ps → Transported n cs [] ps (getD ps i 0) (getD ks i 0)
-    at i lt =
-        let x = getD ps i 0 in
-        let m : x ∈ ps = getD-in ps i 0 lt in
-        let c = names i lt in
-        let fails : Satisfies (c .one .clause) x
-        → ⊥ = λ h. s .transport .falsified x m (subst (λ l. Satisfies l x) (c .same) h) in
-        record {
-          own = c .one;
-          member = c .member;
-          named = c .numbered;
-          falsified = fails;
-          flips = λ v k. itself (s .closed x m (flip x v)
-              (subst (λ l. Nbhd n x l (flip x v)) (c .same)
-              (flips-neighbours n x (c .one .clause) (s .within x m) fails v k)));
-        }
+pub sent-covered : {es : List Permutation} {ps : List ℕ} (q : ℕ) → SentToOne es (λ x. x ∈ ps) q → Covered es ps q
+sent-covered q (inl m) = itself m
+sent-covered q (inr w) = by-image (w .0) (w .1) (w .2)
+
+-- where no permutation is listed, only the points of the set count: definition 5
+pub unlisted : (P : ℕ → Type 0) {es : List Permutation} → es ≡ [] → (q : ℕ) → SentToOne es P q → P q
+unlisted P empty q (inl m) = m
+unlisted P empty q (inr w) = absurd (List·Memᴰ·not-nil (subst (λ l. w .0 ∈ l) empty (w .1)))
+
+-- where the listed permutations are symmetries, a point that counts is symmetric to one of the set: definition 11
+pub listed-symmetric : (P : ℕ → Type 0) {n : ℕ} {cs : List Numbered} {es : List Permutation}
+    → ((e : Permutation) → e ∈ es → Symmetry n cs e) → (q : ℕ) → SentToOne es P q → SymmetricToOne n cs P q
+listed-symmetric P symmetries q (inl m) = inl m
+listed-symmetric P symmetries q (inr w) =
+    inr (
+      imageOfPoint (w .0) q,
+      w .2,
+      record { symmetry = w .0; inGroup = symmetries (w .0) (w .1); maps = inl refl },
+    )

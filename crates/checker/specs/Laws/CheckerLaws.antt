@@ -49,11 +49,16 @@ module _ (n : ℕ) (cs : List Numbered) (es : List Permutation) (ps ns : List �
 -- ---- all rows of the checker
 
 -- as many numbers as points, in a file whose counts agree
-same-lengths : (file : List ℕ) → WellFormed file → length (fileNumbers file) ≡ length (filePoints file)
+pub same-lengths : (file : List ℕ) → WellFormed file → length (fileNumbers file) ≡ length (filePoints file)
 unfolding fileNumbers filePoints
 same-lengths file w =
     length-entries numberFrom numberWidth (contentsOf file .numbers) (numbersBody file) ∙ sym (w .countsAgree)
     ∙ sym (length-entries numberFrom pointWidth (contentsOf file .points) (pointsBody file))
+
+-- no two clauses of a formula have the same number
+pub own-numbers : (f : Formula) (clauses : ClauseSlices) → OwnNumbers (problemOf f clauses .clauses)
+unfolding problemOf
+own-numbers f clauses = numbered-own 1 (clausesOf clauses)
 
 module _ (f : Formula) (clauses : ClauseSlices) (file : List ℕ) where
   abbrev pb : Problem
@@ -104,10 +109,6 @@ module _ (f : Formula) (clauses : ClauseSlices) (file : List ℕ) where
       ∙ first-join _ _ (p .row10) (first-join _ _ (p .row14)
       (first-join _ _ (p .row15) (first-join _ _ (r .row11) (first-join _ _ (r .row12)
       (first-join _ _ (r .row16) (first-join _ _ (r .row17) (first-join _ _ (r .row18) first-none)))))))
-
-  own-numbers : OwnNumbers (pb .clauses)
-  unfolding problemOf
-  own-numbers = numbered-own 1 (clausesOf clauses)
 
 -- ---- the rows that look at lists alone say that the set is stable, and back
 
@@ -197,7 +198,7 @@ module _ (f : Formula) (clauses : ClauseSlices) (file : List ℕ) where
   abbrev problem : Problem
   problem = problemOf f clauses
 
-  -- D2.3: "The checker accepts exactly the stable sets of the published definition in 01's form"
+  -- K1: "It accepts a certificate for a sheet's rules exactly if all of these hold"
   pub accepts-sound : checkReply f clauses file ≡ accepted → Accepts f clauses file
   unfolding checkReply fileFault sizesFault sameSizes
   accepts-sound h =
@@ -226,5 +227,5 @@ module _ (f : Formula) (clauses : ClauseSlices) (file : List ℕ) where
         row15 = test-passed (sameSizes (problem .variables) (problem .total) file) no-fault 15 0
             (and-join _ _ (eq-eqb _ _ (a .sameVariables)) (eq-eqb _ _ (a .sameTotal))) refl;
         rows = rows-of-stable (problem .variables) (problem .clauses) (filePermutations file) (filePoints file)
-            (fileNumbers file) (own-numbers f clauses file) (a .stable);
+            (fileNumbers file) (own-numbers f clauses) (a .stable);
       })) accepted
