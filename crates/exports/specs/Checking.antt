@@ -15,7 +15,7 @@ use Rattle.checker.specs.Checker.{checkReply}
 use Rattle.export_words.specs.Words.{wordsOf, hasRoom}
 use Rattle.export_words.specs.Replies.{entryWords, contentsWords}
 
--- D2.4 for a caller in another language: with room for the answer, it is the checker's; without, nothing changes
+-- D2.3 for a caller in another language: with room for the answer, it is the checker's; without, nothing changes
 pub record CheckReturns (f : Formula) (clauses : ClauseSlices) (file reply₀ : List ℕ) (r : ℕ) (reply₁ : List ℕ) : Type 0
   where
     pub returned : r ≡ cond (hasRoom reply₀) 1 0

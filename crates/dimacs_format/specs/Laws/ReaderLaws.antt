@@ -19,7 +19,7 @@ use Rattle.formula.specs.Problem.{emptyFormula}
 use Rattle.formula.specs.Reply.{parsed, refused}
 use Rattle.dimacs_format.specs.Text.{maxText, isBlank, Line, lines, wordsOf, spelled, sameBytes, begins}
 use Rattle.dimacs_format.specs.Text.{isComment, allBlank, problemWord, formatWord, isTargetLine}
-use Rattle.dimacs_format.specs.Text.{isPermutationLine, numberIn, tokenIn, malformed}
+use Rattle.dimacs_format.specs.Text.{isPermutationLine, numberIn, decimal, unsigned, tokenIn, malformed}
 use Rattle.dimacs_format.specs.Input.{Input, formulaOf}
 use Rattle.dimacs_format.specs.Reader.{Step, andThen, walk, Sizes, sizesIn, problemWords, problemIn, withinLimits}
 use Rattle.dimacs_format.specs.Reader.{Kind, Progress, begin, partOf, partStep, linesSay, isSkipped, fromProblem}
@@ -124,10 +124,14 @@ from-of (k ∷ before) l after h e =
     ap (λ t. cond t (fromProblem (before ++ l ∷ after)) (k ∷ before ++ l ∷ after)) (skipped-is k (h k (here k before)))
     ∙ from-of before l after (λ j m. h j (List·Memᴰ·tail m)) e
 
--- S16: "A second `p` line is a malformed word."
-pub second-problem : tokenIn problemWord ≡ malformed
+-- S16: "A second `p` line is a malformed word.": as every word is that begins so
+pub second-problem : (w : List ℕ) → tokenIn (problemWord ++ w) ≡ malformed
 unfolding tokenIn
-second-problem = refl
+second-problem w = by (leb 1 (length (problemWord ++ w)) && leb (length (problemWord ++ w)) 4)
+  where
+    by : (b : Bool) → unsigned (cond (b && false) (some (decimal 0 (problemWord ++ w))) none) ≡ malformed
+    by true = refl
+    by false = refl
 
 -- ---- what the reader takes is accepted
 
