@@ -3,8 +3,7 @@ use crate::Checked;
 use crate::Formula;
 use permutation_images::is_permutation;
 use permutation_images::permutation_at;
-use permutation_symmetry::guesses::ENTRIES;
-use permutation_symmetry::guesses::make_guesses;
+use permutation_symmetry::first_non_symmetry;
 use point_slices::point_at;
 use point_slices::point_count;
 ghost use mathlib.Core.Path.{_≡_};
@@ -16,7 +15,7 @@ ghost use Rattle.point_slices.specs.Laws.Contracts.{lentClauses};
 ghost use Rattle.points.specs.Points.{numbered};
 ghost use Rattle.point_slices.specs.Slices.{pointsOf, clauseSlices};
 ghost use Rattle.permutation_images.specs.Laws.Contracts.{Listed};
-ghost use Rattle.permutation_theory.specs.Permutations.{isPermutation, keeps, permutationsIn};
+ghost use Rattle.permutation_theory.specs.Permutations.{isPermutation, permutationsIn};
 ghost use Rattle.formula.specs.Limits.{maxVariables, maxPermutations};
 ghost use Rattle.formula.specs.Refusals.{allBelow, fits, clausesFault, formulaFault, permutationFault};
 ghost use Rattle.formula.specs.Refusals.{symmetryFault, faultOf};
@@ -126,51 +125,6 @@ pub fn permutations_refusal(n: u32, permutations: u32, images: &[u8]) -> Checked
     }
 }
 
-// The number, from 1, of the first of the listed permutations that does not keep the clauses; 0 if all do, whatever the
-// guesses are.
-fn first_non_symmetry(
-    n: u32,
-    permutations: u32,
-    images: &[u8],
-    positive: &[u64],
-    negative: &[u64],
-    guesses: &[u32],
-) -> usize
-    requires { ⌜ Listed n permutations (now images) ⌝ }
-    ensures { λ r. ⌜ r ≡ firstFailing (keeps (numbered (lentClauses (now (positive .entry)) (now (negative .entry)))))
-        (permutationsIn n permutations (now (images .entry))) ⌝ }
-{
-    let size = n as usize;
-    let end = permutations as usize;
-    let mut at = 0;
-    while at < end {
-        let e = permutation_at(size, images, at);
-        let kept = permutation_symmetry::keeps(e, positive, negative, guesses);
-        if !kept {
-            return at + 1;
-        }
-        at += 1;
-    }
-    0
-}
-
-// The same with guesses made once for all permutations: 32 KiB of the stack.
-fn guessed_non_symmetry(
-    n: u32,
-    permutations: u32,
-    images: &[u8],
-    positive: &[u64],
-    negative: &[u64],
-) -> usize
-    requires { ⌜ Listed n permutations (now images) ⌝ }
-    ensures { λ r. ⌜ r ≡ firstFailing (keeps (numbered (lentClauses (now (positive .entry)) (now (negative .entry)))))
-        (permutationsIn n permutations (now (images .entry))) ⌝ }
-{
-    let mut guesses = [0u32; ENTRIES];
-    make_guesses(positive, negative, &mut guesses);
-    first_non_symmetry(n, permutations, images, positive, negative, &guesses)
-}
-
 // Refusal 12. For each permutation the image of each clause takes about one comparison where the guesses have it, and
 // never more than 16 and one with each clause: with 16 permutations and 4,096 clauses at most 16 · 4,096 · 4,112. No
 // permutation costs nothing. Refusals 10 and 11 see to what it requires.
@@ -188,7 +142,7 @@ pub fn symmetry_refusal(
     if permutations < 1 {
         return Checked::Passed;
     }
-    let k = guessed_non_symmetry(n, permutations, images, positive, negative);
+    let k = first_non_symmetry(n, permutations, images, positive, negative);
     if k == 0 {
         Checked::Passed
     } else {

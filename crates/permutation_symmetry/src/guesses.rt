@@ -1,6 +1,7 @@
 // Guesses where a clause stands, in a lent slice: each entry is 0, or 1 more than the index of a clause. Nothing is
-// promised of it, whatever it holds: who takes a guess compares. The guesses for a clause are 16 entries in a row, up
-// to the first that is 0.
+// promised of what it holds, so the functions that store guesses say nothing of it: who takes a guess compares, and a
+// wrong one costs a scan and never an answer. The guesses for a clause are 16 entries in a row, up to the first that is
+// 0.
 use point_index::head_of;
 use point_slices::clause_at;
 use point_slices::clause_count;
@@ -17,7 +18,7 @@ ghost use Rattle.points.specs.Laws.Contracts.{clauseOf};
 ghost use Rattle.permutation_theory.specs.Permutations.{sameClause};
 
 // How many entries the slice should have; with fewer there are fewer guesses. At most half of them hold one.
-pub const ENTRIES: usize = 8192;
+pub(crate) const ENTRIES: usize = 8192;
 
 // How many entries in a row are for one clause.
 const TRIED: usize = 16;
@@ -50,7 +51,7 @@ fn stands_at(positive: &[u64], negative: &[u64], i: usize, c: Clause) -> bool
 
 // Whether a guess for the clause is right: then it is among those of the slices. At most 16 comparisons, one where the
 // first is right.
-pub fn guessed(positive: &[u64], negative: &[u64], guesses: &[u32], c: Clause) -> bool
+pub(crate) fn guessed(positive: &[u64], negative: &[u64], guesses: &[u32], c: Clause) -> bool
     ensures { λ r. ⌜ (r ≡ true → any (sameClause (clauseOf c))
         (lentClauses (now (positive .entry)) (now (negative .entry))) ≡ true) ⌝ }
 {
@@ -88,7 +89,7 @@ fn put_guess(guesses: &mut [u32], c: Clause, number: u32) {
 const GUESSED: usize = ENTRIES / 2;
 
 // Stores a guess for each of the first clauses: at most 16 steps a clause.
-pub fn make_guesses(positive: &[u64], negative: &[u64], guesses: &mut [u32]) {
+pub(crate) fn make_guesses(positive: &[u64], negative: &[u64], guesses: &mut [u32]) {
     let held = clause_count(positive, negative);
     let end = least(held, GUESSED);
     let mut i = 0;

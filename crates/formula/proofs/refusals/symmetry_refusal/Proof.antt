@@ -21,16 +21,16 @@ none-faulty cs n (suc permutations) bytes lt = absurd (not-suc-le-zero (le-of-su
 returns : tie.Need-returns
 returns c = none-faulty _ _ _ _ (c .if1 .taken)
 
-guessed-non-symmetry-requires : tie.Need-guessed-non-symmetry-requires
-guessed-non-symmetry-requires c κs = search needs
+first-non-symmetry-requires : tie.Need-first-non-symmetry-requires
+first-non-symmetry-requires c κs = search needs
 
 returns-2 : tie.Need-returns-2
 unfolding symmetryFault
-returns-2 c = fault-zero 12 _ (sym (c .before .guessed-non-symmetry .ensures) ∙ c .if2 .taken)
+returns-2 c = fault-zero 12 _ (sym (c .before .first-non-symmetry .ensures) ∙ c .if2 .taken)
 
 returns-3 : tie.Need-returns-3
 unfolding symmetryFault
-returns-3 c = fault-pos 12 _ _ (c .before .guessed-non-symmetry .ensures) (c .if2 .left)
+returns-3 c = fault-pos 12 _ _ (c .before .first-non-symmetry .ensures) (c .if2 .left)
 
 pub symmetry-refusal-spec : {M : Type 1} → statement M
-symmetry-refusal-spec = tie.close (tie.spec returns guessed-non-symmetry-requires returns-2 returns-3)
+symmetry-refusal-spec = tie.close (tie.spec returns first-non-symmetry-requires returns-2 returns-3)
