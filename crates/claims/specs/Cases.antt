@@ -1,13 +1,15 @@
 -- Document 01, 'Sheets to try': the cases marked *, one list under one proposition (G.d: "Cases marked * are theorems,
 -- gathered as a list under one proposition"). Points are written as numbers: name 1 is bit 0. Assumes nothing.
+use mathlib.Core.Bool.{Bool, true, _&&_}
 use mathlib.Core.List.{List, [], _∷_}
 use mathlib.Core.Option.{Option, some, none}
 use mathlib.Core.Path.{_≡_}
-use Prim.Native.Nat.{ℕ, _-_}
+use Prim.Native.Nat.{ℕ, _-_, _^_}
+use lib.Dec.{leb, ltb}
 use lib.ListN.{length, replicate}
 use Rattle.point_slices.specs.Slices.{ClauseSlices, wholeClauses, wholeSlots}
 use Rattle.formula.specs.declared.Formula.{Formula}
-use Rattle.formula.specs.Limits.{maxImages, maxSlots}
+use Rattle.formula.specs.Limits.{maxVariables, maxImages}
 use Rattle.formula.specs.Problem.{problemOf}
 use Rattle.formula.specs.Reply.{Reply, parsed, satisfiable, unsatisfiable, unknown}
 use Rattle.search_theory.specs.Filled.{filledWith}
@@ -36,6 +38,15 @@ pub record Case : Type 0 where
   pub slots : Option (List Slot)
   pub certificate : Option Sizes
 
+-- the sizes of a file
+abbrev pub sizesOf : List ℕ → Sizes
+sizesOf file = let c = contentsOf file in record {
+  size = length file;
+  permutationsAt = c .permutationsAt;
+  pointsAt = c .pointsAt;
+  numbersAt = c .numbersAt;
+}
+
 -- the certificate of a case: what the writer puts out from the slots that the search leaves
 abbrev pub certificateIn : Case → List ℕ
 certificateIn c =
@@ -51,36 +62,66 @@ Given (some y) x = x ≡ y
 pub record Holds (c : Case) : Type 0 where
   pub answered : searchReply (c .formula) (c .clauses) (c .lent) ≡ c .reply
   pub filled : Given (c .slots) (searchSlots (c .formula) (c .clauses) (c .lent))
-  pub certified : Given (c .certificate)
-      (record {
-        size = length (certificateIn c);
-        permutationsAt = contentsOf (certificateIn c) .permutationsAt;
-        pointsAt = contentsOf (certificateIn c) .pointsAt;
-        numbersAt = contentsOf (certificateIn c) .numbersAt;
-      })
+  pub certified : Given (c .certificate) (sizesOf (certificateIn c))
 
--- each case of a list holds
-abbrev pub AllHold : List Case → Type 0
+-- cases that differ in n, the target and the number of slots: those for which the test passes
+pub record Family : Type 0 where
+  pub test : ℕ → ℕ → ℕ → Bool
+  pub case : ℕ → ℕ → ℕ → Case
+
+-- one case
+abbrev pub one : Case → Family
+one c = record { test = λ n target lent. true; case = λ n target lent. c }
+
+-- a case with the slots that it says, or more
+abbrev pub withSlots : Case → ℕ → Case
+withSlots c lent = record {
+  formula = c .formula;
+  clauses = c .clauses;
+  lent = lent;
+  reply = c .reply;
+  slots = c .slots;
+  certificate = c .certificate;
+}
+
+abbrev pub orMore : Case → Family
+orMore c = record { test = λ n target lent. leb (c .lent) lent; case = λ n target lent. withSlots c lent }
+
+-- each case of each family of a list holds
+abbrev pub AllHold : List Family → Type 0
 AllHold [] = Unit {0}
-AllHold (c ∷ cs) = Holds c × AllHold cs
+AllHold (c ∷ cs) = ((n target lent : ℕ) → c .test n target lent ≡ true → Holds (c .case n target lent)) × AllHold cs
 
 -- ---- the cases
 
--- a formula of n variables and m clauses with the target 0 and no permutation
+-- a formula of n variables and m clauses, with a target and no permutation
+abbrev pub bare : ℕ → ℕ → ℕ → Formula
+bare n m target = record {
+  variables = n;
+  clauses = m;
+  target = target;
+  permutations = 0;
+  images = replicate maxImages 0;
+}
+
 abbrev plain : ℕ → ℕ → Formula
-plain n m = record { variables = n; clauses = m; target = 0; permutations = 0; images = replicate maxImages 0 }
+plain n m = bare n m 0
+
+-- every n, every target of n variables, every number of slots but 0
+abbrev pub anySheet : ℕ → ℕ → ℕ → Bool
+anySheet n target lent = leb 1 n && leb n maxVariables && ltb target (2 ^ n) && leb 1 lent
 
 -- "A: n 2, rules (1 2) (−1 2) (1 −2) (−1 −2), wish 00": clauses of A
 abbrev pub clausesA : ClauseSlices
 clausesA = wholeClauses (3 ∷ 2 ∷ 1 ∷ 0 ∷ []) (0 ∷ 1 ∷ 2 ∷ 3 ∷ [])
 
--- V1: "cannot be met; 00 10 01 11, rules 1 2 3 4, depths 0 1 1 2"
+-- V1: "cannot be met; 00 10 01 11, rules 1 2 3 4, depths 0 1 1 2"; V3: "P = 4: cannot be met."
 abbrev pub caseA : Case
 caseA =
     record {
       formula = plain 2 4;
       clauses = clausesA;
-      lent = maxSlots;
+      lent = 4;
       reply = unsatisfiable 4;
       slots = some (slot 0 1 0 ∷ slot 1 2 1 ∷ slot 2 3 1 ∷ slot 3 4 2 ∷ []);
       certificate = none;
@@ -99,7 +140,7 @@ caseA-swap =
             (maxImages - 2) 0;
       };
       clauses = clausesA;
-      lent = maxSlots;
+      lent = 3;
       reply = unsatisfiable 3;
       slots = some (slot 0 1 0 ∷ slot 1 2 1 ∷ slot 3 4 2 ∷ []);
       certificate = some (record { size = 70; permutationsAt = 32; pointsAt = 34; numbersAt = 58 });
@@ -116,23 +157,12 @@ caseA-3 = record {
   certificate = none;
 }
 
--- V3: "P = 4: cannot be met."
-abbrev pub caseA-4 : Case
-caseA-4 = record {
-  formula = plain 2 4;
-  clauses = clausesA;
-  lent = 4;
-  reply = unsatisfiable 4;
-  slots = none;
-  certificate = none;
-}
-
 -- V4: "B: n 3, rules (1 2) (−1 3), wish 000: met by 010, changes 1, slots 4."
 abbrev pub caseB : Case
 caseB = record {
   formula = plain 3 2;
   clauses = wholeClauses (3 ∷ 4 ∷ []) (0 ∷ 1 ∷ []);
-  lent = maxSlots;
+  lent = 4;
   reply = satisfiable 2 1 4;
   slots = none;
   certificate = none;
@@ -149,42 +179,51 @@ caseB-3 = record {
   certificate = none;
 }
 
--- V5: "C = 0: met by the wish, changes 0."
-abbrev pub case-none : Case
-case-none =
-    record {
-      formula = record { variables = 3; clauses = 0; target = 5; permutations = 0; images = replicate maxImages 0 };
-      clauses = wholeClauses [] [];
-      lent = 1;
-      reply = satisfiable 5 0 1;
-      slots = none;
-      certificate = none;
-    }
+-- V5: "C = 0: met by the wish, changes 0.": for every n and wish
+abbrev pub case-none : Family
+case-none = record {
+  test = anySheet;
+  case = λ n target lent. record {
+    formula = bare n 0 target;
+    clauses = wholeClauses [] [];
+    lent = lent;
+    reply = satisfiable target 0 1;
+    slots = none;
+    certificate = none;
+  };
+}
 
--- V5: "One empty rule: cannot be met, one slot."
-abbrev pub case-empty : Case
+-- V5: "One empty rule: cannot be met, one slot.": for every n and wish
+abbrev pub case-empty : Family
 case-empty = record {
-  formula = plain 1 1;
-  clauses = wholeClauses (0 ∷ []) (0 ∷ []);
-  lent = maxSlots;
-  reply = unsatisfiable 1;
-  slots = none;
-  certificate = none;
+  test = anySheet;
+  case = λ n target lent. record {
+    formula = bare n 1 target;
+    clauses = wholeClauses (0 ∷ []) (0 ∷ []);
+    lent = lent;
+    reply = unsatisfiable 1;
+    slots = none;
+    certificate = none;
+  };
 }
 
--- V6: "Rule (1 −1), n 1: met by the wish."
-abbrev pub case-both : Case
+-- V6: "Rule (1 −1), n 1: met by the wish.": for both wishes
+abbrev pub case-both : Family
 case-both = record {
-  formula = plain 1 1;
-  clauses = wholeClauses (1 ∷ []) (1 ∷ []);
-  lent = 1;
-  reply = satisfiable 0 0 1;
-  slots = none;
-  certificate = none;
+  test = λ n target lent. ltb target 2 && leb 1 lent;
+  case = λ n target lent. record {
+    formula = bare 1 1 target;
+    clauses = wholeClauses (1 ∷ []) (1 ∷ []);
+    lent = lent;
+    reply = satisfiable target 0 1;
+    slots = none;
+    certificate = none;
+  };
 }
 
-abbrev pub cases : List Case
-cases = caseA ∷ caseA-swap ∷ caseA-3 ∷ caseA-4 ∷ caseB ∷ caseB-3 ∷ case-none ∷ case-empty ∷ case-both ∷ []
+abbrev pub cases : List Family
+cases = orMore caseA ∷ orMore caseA-swap ∷ one caseA-3 ∷ orMore caseB ∷ one caseB-3 ∷ case-none ∷ case-empty ∷ case-both
+    ∷ []
 
 -- ---- a text that says a case
 

@@ -9,6 +9,7 @@ pub mod Bound
 pub mod Nearest
 pub mod Complete
 pub mod Room
+pub mod MoreRoom
 pub mod Closed
 pub mod WalkLaws
 pub mod Examples

@@ -15,7 +15,7 @@ use Rattle.dimacs_format.specs.Laws.Example.{satisfiable-text}
 use Rattle.dimacs_format.specs.Reader.{readReply, readFormula, readClauses}
 use Rattle.search.specs.Search.{searchReply}
 use Rattle.certificate.specs.Writer.{lengthNeeded}
-use Rattle.claims.specs.Cases.{Case, caseA-swap, caseA-3, caseA-4, caseB, certificateIn}
+use Rattle.claims.specs.Cases.{Case, caseA-swap, caseA, caseA-3, caseB, certificateIn}
 use Rattle.claims.specs.Laws.CasesHold.{swap-accepted}
 use Rattle.claims.specs.Claim.{Sheet, from-text, by-value, problemIn, SearchAnswers, Meets, AtLeast}
 use Rattle.claims.specs.Claim.{Certified}
@@ -89,7 +89,7 @@ pub bound-A : AtLeast (problemIn (sheetOf caseA-3)) 1
 bound-A = claim .bound (sheetOf caseA-3) (places 3) 1 3 answered-A-3
 
 -- 6: with 2 ^ 2 slots it is not left open
-pub enough-room-A : (b filled : ℕ) → SearchAnswers (sheetOf caseA-4) (places 4) (unknown b filled) → ⊥
+pub enough-room-A : (b filled : ℕ) → SearchAnswers (sheetOf caseA) (places 4) (unknown b filled) → ⊥
 unfolding problemOf
-enough-room-A b filled = claim .enough-room (sheetOf caseA-4) (places 4) b filled (lit≤ tt) (lit≤ tt) (lit≤ tt)
+enough-room-A b filled = claim .enough-room (sheetOf caseA) (places 4) b filled (lit≤ tt) (lit≤ tt) (lit≤ tt)
     (lit≤ tt)

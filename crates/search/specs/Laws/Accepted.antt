@@ -1,8 +1,9 @@
 -- A formula that refusals 10 to 13 let pass is ready to be searched, and the builder's reply is then that of the
 -- search. Assumes nothing.
 use mathlib.Core.List.{List, [], _∷_}
-use mathlib.Core.Path.{_≡_, sym, _∙_, subst}
+use mathlib.Core.Path.{_≡_, refl, sym, _∙_, subst}
 use Prim.Native.Nat.{ℕ, zero, suc, _≤_, zero-le, suc-le-suc}
+use native.Mathlib.Nat.{le-trans, not-suc-le-zero}
 use native.Mathlib.Omega.{arith}
 use lib.ListN.{length}
 use Rattle.points.specs.Points.{numbered}
@@ -14,18 +15,25 @@ use Rattle.formula.specs.Limits.{maxSlots, capacity}
 use Rattle.formula.specs.Problem.{problemOf}
 use Rattle.formula.specs.Laws.RefusalLaws.{fits-below, formula-passes, permutation-passes, symmetry-passes}
 use Rattle.formula.specs.Refusals.{formulaFault, permutationFault, symmetryFault}
-use Rattle.formula.specs.Reply.{Reply, refused, Fault, no-fault}
-use Rattle.formula.specs.Laws.ReplyLaws.{first-split, first-last, fault-not-none, not-refused, unless-none}
+use Rattle.formula.specs.Reply.{Reply, refused, unknown, Fault, no-fault}
+use Rattle.formula.specs.Laws.ReplyLaws.{first-none, first-split, first-join, first-last, fault-not-none, not-refused}
+use Rattle.formula.specs.Laws.ReplyLaws.{unless-none}
 use Rattle.search.specs.Laws.WalkAnswers.{WalkAnswers}
 use Rattle.search.specs.Search.{slotFault, searchFault, searchReply, searchSlots}
 use Rattle.search_theory.specs.Laws.Invariants.{Ready}
 use Rattle.search_theory.specs.Walk.{start, Walks, walked}
-use Rattle.search_theory.specs.Laws.WalkLaws.{walked-walks}
+use Rattle.search_theory.specs.Laws.WalkLaws.{walked-walks, walks-walked}
+use Rattle.search_theory.specs.Laws.MoreRoom.{walks-more}
 
 lent-slot : (k : ℕ) → slotFault k ≡ no-fault → 1 ≤ k
 unfolding slotFault
 lent-slot zero e = absurd (fault-not-none 13 0 e)
 lent-slot (suc k) e = suc-le-suc zero-le
+
+slot-lent : (k : ℕ) → 1 ≤ k → slotFault k ≡ no-fault
+unfolding slotFault
+slot-lent zero h = absurd (not-suc-le-zero h)
+slot-lent (suc k) h = refl
 
 -- ---- "The number of slots P is the shortest length lent, at most 65,536 used."
 
@@ -78,6 +86,17 @@ module _ (f : Formula) (clauses : ClauseSlices) (lent : ℕ) where
   pub lent-of-faults : searchFault f clauses lent ≡ no-fault → 1 ≤ lent
   lent-of-faults h = lent-slot lent (rows h .3)
 
+  -- with more slots lent nothing is refused either
+  more-passes : (more : ℕ) → lent ≤ more → searchFault f clauses lent ≡ no-fault
+      → searchFault f clauses more ≡ no-fault
+  unfolding searchFault
+  more-passes more le h =
+      let r = rows h in
+      first-join (formulaFault f clauses) (row11 ∷ row12 ∷ slotFault more ∷ []) (r .0)
+      (first-join row11 (row12 ∷ slotFault more ∷ []) (r .1)
+      (first-join row12 (slotFault more ∷ []) (r .2)
+      (first-join (slotFault more) [] (slot-lent more (le-trans (lent-slot lent (r .3)) le)) first-none)))
+
   -- a reply that is no refusal is the search's
   pub answered : (r : Reply) → searchReply f clauses lent ≡ r
       → ((code place : ℕ) → r ≡ refused code place → ⊥) → WalkAnswers f clauses lent r
@@ -93,3 +112,17 @@ module _ (f : Formula) (clauses : ClauseSlices) (lent : ℕ) where
             (sym (unless-none (searchFault f clauses lent) s (walked pb lent .reply)) ∙ e)
             (walked-walks pb lent room);
       }
+
+  -- an answer other than 'no room' stays with more slots lent, and so do the slots filled
+  pub more-answers : (more : ℕ) → lent ≤ more → (r : Reply) → searchReply f clauses lent ≡ r
+      → ((code place : ℕ) → r ≡ refused code place → ⊥) → ((b filled : ℕ) → r ≡ unknown b filled → ⊥)
+      → (searchReply f clauses more ≡ r) × (searchSlots f clauses more ≡ searchSlots f clauses lent)
+  unfolding searchReply searchSlots
+  more-answers more le r e ok known =
+      let pb = problemOf f clauses in
+      let passed = not-refused (searchFault f clauses lent) (walked pb lent .reply) r e ok in
+      let w = walks-walked pb more (le-trans (lent-of-faults passed) le)
+      (walks-more le known (answered r e ok .walks)) in (
+        unless-none (searchFault f clauses more) (more-passes more le passed) (walked pb more .reply) ∙ w .0,
+        w .1,
+      )
