@@ -7,7 +7,7 @@ use libc::STDERR_FILENO;
 use libc::STDIN_FILENO;
 use libc::STDOUT_FILENO;
 use program::MAX_INPUT;
-use program::answer;
+use program::printed_for;
 use program_text::LONGEST;
 ghost use Prim.Native.Nat.{_≤_};
 ghost use lib.ListN.{length};
@@ -65,8 +65,8 @@ fn respond(input: &mut [u8], out: &mut [u8])
         return;
     }
     let count = got.count;
-    let size = answer(&input[0..count], out);
-    let written = io::write_all(STDOUT_FILENO, &out[0..size]);
+    let text = printed_for(input, count, out);
+    let written = io::write_all(STDOUT_FILENO, text);
     if !written {
         io::write_all(STDERR_FILENO, b"nearest: cannot write standard output\n");
     }

@@ -5,8 +5,9 @@ use point_slices::first_points;
 use points::Depth;
 use program_text::put_refused;
 use program_text::put_report;
+ghost use mathlib.Core.Path.{_≡_};
 ghost use Prim.Native.Nat.{_≤_};
-ghost use lib.ListN.{length};
+ghost use lib.ListN.{length, take};
 ghost use Rattle.point_slices.specs.Slices.{clauseSlices, slotSlices, clauseRoom, firstClauses};
 ghost use Rattle.formula.specs.Limits.{maxVariables, capacity};
 ghost use Rattle.search.specs.Search.{searchReply};
@@ -97,4 +98,15 @@ pub fn answer(text: &[u8], out: &mut [u8]) -> usize
         return put_refused(out, 1, MAX_INPUT);
     }
     read_sheet(text, out)
+}
+
+// P1: the program's own step: of an input that was read to the front of a buffer, `count` bytes of it, the bytes that
+// are to be printed. They stand at the front of the output.
+pub fn printed_for<'a>(input: &[u8], count: usize, out: &'a mut [u8]) -> &'a [u8]
+    requires { ⌜ (count ≤ length (now input)) × (longestText ≤ length (now out)) ⌝ }
+    ensures { λ r. ⌜ now r ≡ printed (take count (now (input .entry))) ⌝ }
+{
+    let size = answer(&input[0..count], out);
+    let text = &out[..];
+    &text[0..size]
 }

@@ -1,11 +1,12 @@
 -- Laws of the printed text: its names one by one, and how long it is at most. Assumes nothing.
 use mathlib.Core.Bool.{Bool, true, false}
 use mathlib.Core.List.{List, _++_}
-use mathlib.Core.Path.{_≡_, ap, _∙_}
+use mathlib.Core.Path.{_≡_, ap, ap₂, _∙_}
 use Prim.Native.Nat.{ℕ, zero, suc, _+_, _*_, _^_, _≤_, _<_}
 use native.Mathlib.Numerals.{add-one}
 use native.Mathlib.Omega.{arith}
-use lib.ListN.{length, drop, length-append}
+use lib.ListN.{length, take, drop, length-append}
+use lib.Seq.{take-append-seam}
 use Rattle.formula.specs.Limits.{maxVariables}
 use Rattle.math.specs.Bits.{bit}
 use Rattle.math.specs.Lists.{over}
@@ -36,6 +37,12 @@ put-within text out₀ r out₁ p = omega (
   length-append text
       (drop (length text) out₀),
 )
+
+-- and stands at its front
+pub put-stands : (text out₀ : List ℕ) (r : ℕ) (out₁ : List ℕ) → Printed text out₀ r out₁ → take r out₁ ≡ text
+unfolding over
+put-stands text out₀ r out₁ p = ap₂ (λ (k : ℕ) (l : List ℕ). take k l) (p .counted) (p .output)
+    ∙ take-append-seam text (drop (length text) out₀)
 
 -- ---- names
 
