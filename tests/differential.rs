@@ -295,14 +295,14 @@ impl Case {
                     numbers.to_vec(),
                     vec![u64::from(s.names), u64::from(s.rules), s.wish, u64::from(s.exchanges), 3],
                 );
-                self.same("images", images[..1024].to_vec(), s.bytes.clone());
+                self.same("images", images.to_vec(), [&s.bytes[..], &[3]].concat());
                 self.same("positive", positive, [&s.yes[..], &before.0[s.yes.len()..]].concat());
                 self.same("negative", negative, [&s.no[..], &before.1[s.no.len()..]].concat());
             }
             Err(r) => {
                 self.same("reply", reply.to_vec(), [&refused(r)[..], &[3]].concat());
-                self.holds("no formula after a refusal", numbers == [0, 0, 0, 0, 3] && images[..1024] == [0; 1024]);
-                self.same("slices after a refusal", (positive, negative), before);
+                self.same("clauses after a refusal", (positive, negative), before);
+                self.same("formula after a refusal", (numbers, images), ([3; 5], [3; 1025]));
             }
         }
     }

@@ -12,7 +12,7 @@ enum Said {
     Read { variables: u64, clauses: u64, target: u64, permutations: u64 },
 }
 
-// Reads with clause slices of a length, and sees to it that a refusal leaves them alone.
+// Reads with clause slices of a length, and sees to it that a refusal leaves them and what takes the formula alone.
 fn said(text: &[u8], lent: usize) -> Said {
     let (mut positive, mut negative) = (vec![9; lent], vec![9; lent]);
     let (mut numbers, mut images, mut reply) = ([9; 4], [9; 1024], [9; 4]);
@@ -21,7 +21,7 @@ fn said(text: &[u8], lent: usize) -> Said {
         return Said::Read { variables: numbers[0], clauses: numbers[1], target: numbers[2], permutations: numbers[3] };
     }
     assert!(positive.iter().chain(&negative).all(|&x| x == 9), "a refusal changed a clause slice");
-    assert!(numbers == [0; 4] && images == [0; 1024], "a refusal came with a formula");
+    assert!(numbers == [9; 4] && images == [9; 1024], "a refusal changed what takes the formula");
     Said::Refused(reply[1], reply[2])
 }
 

@@ -74,7 +74,8 @@ macro_rules! exported {
     };
 }
 
-// Reads a text into two lent clause slices; `numbers`, `images` and `reply` take the formula and the answer.
+// Reads a text into two lent clause slices; `reply` takes the answer, and unless the text is refused `numbers` and
+// `images` take the formula.
 exported!(read = jugbowo_read(text: &[u8], positive: &mut [u64], negative: &mut [u64], numbers: &mut [u64],
     images: &mut [u8], reply: &mut [u64],) -> u32);
 

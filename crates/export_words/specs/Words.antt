@@ -1,5 +1,5 @@
 -- An answer as words of a lent slice, and a formula from numbers and lent bytes. Assumes nothing.
-use mathlib.Core.Bool.{Bool}
+use mathlib.Core.Bool.{Bool, true, false, cond}
 use mathlib.Core.List.{List, [], _∷_}
 use Prim.Native.Nat.{ℕ}
 use lib.Dec.{leb}
@@ -44,3 +44,19 @@ hasRoom reply = leb 4 (length reply)
 -- the four numbers of a formula, beside its images
 abbrev pub numbersOf : Formula → List ℕ
 numbersOf f = f .variables ∷ f .clauses ∷ f .target ∷ f .permutations ∷ []
+
+-- whether an answer is that a text is read
+unfoldable pub isParsed : Reply → Bool
+isParsed parsed = true
+isParsed (refused code place) = false
+isParsed (satisfiable x d filled) = false
+isParsed (unsatisfiable filled) = false
+isParsed (unknown b filled) = false
+isParsed (written size) = false
+isParsed opened = false
+isParsed accepted = false
+
+-- D1.2: "after a refusal each lent slice holds what it held before": a part of the formula goes to the front of a slice
+-- only where the text is read
+abbrev pub putIfParsed : Reply → List ℕ → List ℕ → List ℕ
+putIfParsed answer part old = cond (isParsed answer) (over part old) old

@@ -5,6 +5,7 @@ use certificate::Opened;
 use certificate_writer::Written;
 use checker::Verdict;
 use dimacs_lines::Parse;
+use dimacs_lines::Parsed;
 use formula::Formula;
 use point_slices::least;
 use search::Found;
@@ -17,7 +18,7 @@ ghost use Prim.Native.Nat.{_≤_};
 ghost use lib.ListN.{length, take};
 ghost use Rattle.math.specs.Lists.{over};
 ghost use Rattle.formula.specs.Limits.{maxImages};
-ghost use Rattle.export_words.specs.Words.{imagesFrom, formulaFrom, numbersOf, wordsOf};
+ghost use Rattle.export_words.specs.Words.{imagesFrom, formulaFrom, numbersOf, wordsOf, isParsed, putIfParsed};
 ghost use mathlib.Core.Option.{some};
 ghost use Rattle.dimacs_lines.specs.Reply.{replyOfParse};
 ghost use Rattle.search.specs.Contract.{replyOfFound};
@@ -81,8 +82,8 @@ pub fn put_words(to: &mut [u64], a: u64, b: u64, c: u64, d: u64)
     to[3] = d;
 }
 
-// Writes a formula's four numbers and its images; the callers see to the room for them. One step a byte of the images.
-pub fn put_formula(numbers: &mut [u64], images: &mut [u8], f: Formula)
+// Writes a formula's four numbers and its images; `put_parsed` sees to the room. One step a byte of the images.
+fn put_formula(numbers: &mut [u64], images: &mut [u8], f: Formula)
     requires { ⌜ (4 ≤ length (now numbers)) × (maxImages ≤ length (now images)) ⌝ }
     ensures { λ _. ⌜ (now (numbers .exit) ≡ over (numbersOf f) (now (numbers .entry)))
         × (now (images .exit) ≡ over (f .images) (now (images .entry))) ⌝ }
@@ -103,14 +104,38 @@ pub const ENTRY: usize = 2;
 
 pub const CONTENTS: usize = 8;
 
-// Writes the words of the reader's answer; the callers see to the room for them.
-pub fn put_parse(reply: &mut [u64], r: Parse)
+// Writes the words of the reader's answer, and answers whether the text is read; `put_parsed` sees to the room.
+fn put_parse(reply: &mut [u64], r: Parse) -> bool
     requires { ⌜ 4 ≤ length (now reply) ⌝ }
-    ensures { λ _. ⌜ now (reply .exit) ≡ over (wordsOf (replyOfParse r)) (now (reply .entry)) ⌝ }
+    ensures { λ read. ⌜ (now (reply .exit) ≡ over (wordsOf (replyOfParse r)) (now (reply .entry)))
+        × (read ≡ isParsed (replyOfParse r)) ⌝ }
 {
     match r {
-        Parse::Refused { code, place } => put_words(reply, 0, code as u64, place as u64, 0),
-        Parse::Accepted => put_words(reply, 4, 0, 0, 0),
+        Parse::Refused { code, place } => {
+            put_words(reply, 0, code as u64, place as u64, 0);
+            false
+        }
+        Parse::Accepted => {
+            put_words(reply, 4, 0, 0, 0);
+            true
+        }
+    }
+}
+
+// Writes the words of the reader's answer and, where the text is read, the formula. D1.2: "after a refusal each lent
+// slice holds what it held before". The callers see to the room for all of it.
+pub fn put_parsed(numbers: &mut [u64], images: &mut [u8], reply: &mut [u64], r: Parsed)
+    requires { ⌜ (4 ≤ length (now numbers)) × (maxImages ≤ length (now images)) × (4 ≤ length (now reply)) ⌝ }
+    ensures { λ _. ⌜ (now (numbers .exit) ≡ putIfParsed (replyOfParse (r .answer)) (numbersOf (r .formula))
+        (now (numbers .entry))) × (now (images .exit) ≡ putIfParsed (replyOfParse (r .answer)) (r .formula .images)
+        (now (images .entry))) × (now (reply .exit) ≡ over (wordsOf (replyOfParse (r .answer))) (now (reply .entry)))
+        ⌝ }
+{
+    let f = r.formula;
+    let answer = r.answer;
+    let accepted = put_parse(reply, answer);
+    if accepted {
+        put_formula(numbers, images, f);
     }
 }
 

@@ -1,14 +1,14 @@
 // The reader as an exported function.
 use dimacs::read;
 use export_words::WORDS;
-use export_words::put_formula;
-use export_words::put_parse;
+use export_words::put_parsed;
 use formula::Formula;
 ghost use Rattle.point_slices.specs.Slices.{clauseSlices};
 ghost use Rattle.exports.specs.Reading.{ReadReturns};
 
-// The reader, its answer put into the first four words of `reply`, beside the formula: its four numbers in `numbers`,
-// its images in `images`, 0 throughout after a refusal. It returns 1; where one of the three has no room it returns 0
+// The reader, its answer put into the first four words of `reply`; where the text is read the formula stands beside it,
+// its four numbers at the front of `numbers`, its images at the front of `images`. D1.2: "after a refusal each lent
+// slice holds what it held before", these two among them. It returns 1; where one of the three has no room it returns 0
 // and changes nothing.
 #[no_mangle]
 pub extern "C" fn jugbowo_read(
@@ -34,9 +34,6 @@ pub extern "C" fn jugbowo_read(
         return 0;
     }
     let r = read(text, positive, negative);
-    let f = r.formula;
-    put_formula(numbers, images, f);
-    let answer = r.answer;
-    put_parse(reply, answer);
+    put_parsed(numbers, images, reply, r);
     1
 }

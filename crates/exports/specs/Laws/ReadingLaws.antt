@@ -2,7 +2,7 @@
 -- nothing.
 use mathlib.Core.Bool.{Bool, false, _&&_}
 use mathlib.Core.List.{List}
-use mathlib.Core.Path.{_≡_, refl, ap, _∙_}
+use mathlib.Core.Path.{_≡_, refl, ap, ap₂, _∙_}
 use Prim.Native.Nat.{ℕ, _≤_, _<_}
 use lib.Dec.{leb}
 use lib.ListN.{length}
@@ -17,7 +17,7 @@ use Rattle.dimacs_lines.specs.Reply.{replyOfParse}
 use Rattle.dimacs.specs.Contract.{Read}
 use Rattle.exports.specs.Reading.{hasFormulaRoom, ReadReturns}
 use Rattle.export_words.specs.Laws.RoomLaws.{with-room, without-room}
-use Rattle.export_words.specs.Words.{wordsOf, hasRoom, numbersOf}
+use Rattle.export_words.specs.Words.{wordsOf, hasRoom, numbersOf, putIfParsed}
 
 module _ (text : List ℕ) (clauses : ClauseSlices) (numbers images reply : List ℕ) where
   rooms : {a b c : Bool} → hasRoom reply ≡ a → hasRoom numbers ≡ b → leb maxImages (length images) ≡ c
@@ -51,8 +51,8 @@ module _ (text : List ℕ) (clauses : ClauseSlices) (numbers images reply : List
   pub tells-reading : (r : Parsed) (clauses₁ : ClauseSlices) (numbers₁ images₁ reply₁ : List ℕ) → 4 ≤ length reply
       → 4 ≤ length numbers → maxImages ≤ length images
       → Read text clauses r clauses₁
-      → numbers₁ ≡ over (numbersOf (r .formula)) numbers
-      → images₁ ≡ over (r .formula .images) images
+      → numbers₁ ≡ putIfParsed (replyOfParse (r .answer)) (numbersOf (r .formula)) numbers
+      → images₁ ≡ putIfParsed (replyOfParse (r .answer)) (r .formula .images) images
       → reply₁ ≡ over (wordsOf (replyOfParse (r .answer))) reply
       → ReadReturns text clauses numbers images reply 1 clauses₁ numbers₁ images₁ reply₁
   tells-reading r clauses₁ numbers₁ images₁ reply₁ le le′ le″ s put-numbers put-images put-reply =
@@ -61,7 +61,11 @@ module _ (text : List ℕ) (clauses : ClauseSlices) (numbers images reply : List
       record {
         returned = with-room e 1 0;
         reply = put-reply ∙ ap (λ (a : Reply). over (wordsOf a) reply) (s .reply) ∙ with-room e _ reply;
-        numbers = put-numbers ∙ ap (λ (f : Formula). over (numbersOf f) numbers) (s .formula) ∙ with-room e _ numbers;
-        images = put-images ∙ ap (λ (f : Formula). over (f .images) images) (s .formula) ∙ with-room e _ images;
+        numbers = put-numbers
+            ∙ ap₂ (λ (a : Reply) (f : Formula). putIfParsed a (numbersOf f) numbers) (s .reply) (s .formula)
+            ∙ with-room e _ numbers;
+        images = put-images
+            ∙ ap₂ (λ (a : Reply) (f : Formula). putIfParsed a (f .images) images) (s .reply) (s .formula)
+            ∙ with-room e _ images;
         clauses = s .clauses ∙ with-room e _ clauses;
       }

@@ -23,38 +23,30 @@ returns-3 c =
 read-requires : tie.Need-read-requires
 read-requires c κs = tt
 
-put-formula-requires : tie.Need-put-formula-requires
-put-formula-requires c κs =
-    let with-room = c .before .before .before .before .before .before .before .before .before .before in
-    (with-room .before .if2 .left, with-room .if3 .left)
-
-put-parse-requires : tie.Need-put-parse-requires
-put-parse-requires c κs = c .before .before .before .before .before .before .before .before .before .before .before .before .before .before .before .before .before .before .if1 .left
+put-parsed-requires : tie.Need-put-parsed-requires
+put-parsed-requires c κs = (c .before .before .before .before .before .before .before .before .before .before .before .if2 .left, c .before .before .before .before .before .before .before .before .before .before .if3 .left, c .before .before .before .before .before .before .before .before .before .before .before .before .if1 .left)
 
 same-length : tie.Need-same-length
-same-length c = c .before .before .before .before .before .before .before .before .before .before .before .before .before .before .before .before .read .kept .1 .0
+same-length c = c .before .before .before .before .before .before .before .before .before .before .before .before .before .before .read .kept .1 .0
 
 same-length-2 : tie.Need-same-length-2
-same-length-2 c = c .before .before .before .before .before .before .before .before .before .before .before .before .before .before .before .before .read .kept .1 .1 .0
+same-length-2 c = c .before .before .before .before .before .before .before .before .before .before .before .before .before .before .read .kept .1 .1 .0
 
 same-length-3 : tie.Need-same-length-3
-same-length-3 c = c .before .before .before .before .before .before .before .before .put-formula .kept .0
+same-length-3 c = c .before .before .before .before .before .before .put-parsed .kept .0
 
 same-length-4 : tie.Need-same-length-4
-same-length-4 c = c .before .before .before .before .before .before .before .before .put-formula .kept .1 .0
+same-length-4 c = c .before .before .before .before .before .before .put-parsed .kept .1 .0
 
 same-length-5 : tie.Need-same-length-5
-same-length-5 c = c .before .before .put-parse .kept .0
+same-length-5 c = c .before .before .before .before .before .before .put-parsed .kept .1 .1 .0
 
 returns-4 : tie.Need-returns-4
 returns-4 c =
-    let returned = c .before .before .before .before .before .before .before .before in
-    let answered = returned .before .before .before .before .before .before .before .before in
-    let with-room = answered .before .before .before in
-    let a = with-room .before .before .before .before .before .before .before .before .before .args in
-    tells-reading (a .text .now) (clauseSlices (a .positive .now) (a .negative .now)) (a .numbers .now) (a .images .now) (a .reply .now) (answered .read .result) _ _ _ _
-    (with-room .before .before .if1 .left) (with-room .before .if2 .left) (with-room .if3 .left) (answered .read .ensures)
-    (returned .put-formula .ensures .0) (returned .put-formula .ensures .1) (c .before .before .put-parse .ensures)
+    let a = c .before .before .before .before .before .before .before .before .before .before .before .before .before .before .before .before .before .before .before .before .before .before .before .before .before .before .args in
+    let put = c .before .before .before .before .before .before .put-parsed .ensures in
+    tells-reading (a .text .now) (clauseSlices (a .positive .now) (a .negative .now)) (a .numbers .now) (a .images .now) (a .reply .now) (c .before .before .before .before .before .before .before .before .before .before .before .before .before .before .read .result) _ _ _ _
+    (c .before .before .before .before .before .before .before .before .before .before .before .before .before .before .before .before .before .before .before .if1 .left) (c .before .before .before .before .before .before .before .before .before .before .before .before .before .before .before .before .before .before .if2 .left) (c .before .before .before .before .before .before .before .before .before .before .before .before .before .before .before .before .before .if3 .left) (c .before .before .before .before .before .before .before .before .before .before .before .before .before .before .read .ensures) (put .0) (put .1) (put .2)
 
 pub jugbowo-read-spec : {M : Type 1} → statement M
 jugbowo-read-spec =
@@ -64,8 +56,7 @@ jugbowo-read-spec =
     returns-2
     returns-3
     read-requires
-    put-formula-requires
-    put-parse-requires
+    put-parsed-requires
     same-length
     same-length-2
     same-length-3
