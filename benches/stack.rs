@@ -106,6 +106,7 @@ fn main() {
         }),
     );
     assert_eq!(reply[..3], [8, 3, 70]);
-    let mut printed = vec![0; 312];
-    report("nearest", used(&mut || assert_ne!(library::nearest(clash, &mut printed), 0)));
+    // s UNSATISFIABLE, c slots 3: 16 and 10 bytes
+    let mut printed = vec![0; 26];
+    report("nearest", used(&mut || assert_eq!(library::nearest(clash, &mut printed), 26)));
 }

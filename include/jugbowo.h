@@ -153,7 +153,8 @@ uint32_t jugbowo_solve(const uint8_t *text, size_t text_len,
                        uint64_t *reply, size_t reply_len);
 
 /* What the program `nearest` prints for a text, to the front of `out`; the bytes behind it are left alone. Returns
- * how many bytes, at most 312; where `out` has fewer than 312 it returns 0 and changes nothing. Stack: 1,280 KiB. */
+ * how many bytes that is. A result greater than `out_len` says that they did not fit: `out` is as it was, and a call
+ * with so many bytes will do. Stack: 1,280 KiB. */
 size_t jugbowo_nearest(const uint8_t *text, size_t text_len, uint8_t *out, size_t out_len);
 
 #ifdef __cplusplus

@@ -543,9 +543,6 @@ impl Case {
             (Ok(_), Ok((reply, _))) => (words(reply), before.clone()),
             (Err(r), _) | (_, Err(r)) => (refused(*r), before.clone()),
         };
-        let mut printed = vec![3; 320];
-        let count = library::nearest(&bytes, &mut printed);
-        self.same("printed", String::from_utf8_lossy(&printed[..count]).into_owned(), reference::printed(&bytes));
         self.same("solved", reply.to_vec(), [&wanted[..], &[3]].concat());
         self.same("output", out, output);
         let left = walked.map_or(Vec::new(), |w| w.1);
@@ -553,6 +550,19 @@ impl Case {
         self.same("points", points, left.iter().map(|t| t.point).chain(vec![5; behind]).collect::<Vec<_>>());
         self.same("rule numbers", numbers, left.iter().map(|t| t.rule).chain(vec![5; behind]).collect::<Vec<_>>());
         self.same("depths", depths, left.iter().map(|t| t.depth).chain(vec![5; behind]).collect::<Vec<_>>());
+        self.printed(&bytes);
+    }
+
+    // What the program prints: put where it fits, and its length in any case.
+    fn printed(&mut self, bytes: &[u8]) {
+        let wanted = reference::printed(bytes).into_bytes();
+        let size = wanted.len();
+        let room = *self.random.pick(&[0, size - 1, size, size + 9]);
+        let before: Vec<u8> = self.random.filled(room).iter().map(|&x| x as u8).collect();
+        let mut out = before.clone();
+        self.same("bytes printed", library::nearest(bytes, &mut out), size);
+        let left = if size <= room { [&wanted[..], &before[size..]].concat() } else { before };
+        self.same("printed", String::from_utf8_lossy(&out), String::from_utf8_lossy(&left));
     }
 }
 

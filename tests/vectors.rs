@@ -250,16 +250,18 @@ fn read_images(body: &[u8], n: usize, wanted: &[u8], d: &mut Differences) {
     d.compare("image of a variable above n", (returned, reply), (1, [0, 0, 7]));
 }
 
+// What the program prints: with room behind it, exactly fitting, one byte short and with no room at all.
 fn nearest(v: &Vector, d: &mut Differences) {
     let text = v.bytes("bytes");
     let wanted = v.bytes("after-bytes");
-    let mut out = vec![7u8; 313];
-    let count = library::nearest(&text, &mut out);
-    d.compare("count", count, wanted.len());
-    d.compare("output", out, over(wanted.clone(), &[7; 313]));
-    let mut short = vec![7u8; 311];
-    d.compare("count without room", library::nearest(&text, &mut short), 0);
-    d.compare("output without room", short, vec![7u8; 311]);
+    let size = wanted.len();
+    for room in [size + 5, size, size - 1, 0] {
+        let before = vec![7u8; room];
+        let mut out = before.clone();
+        d.compare(&format!("count, room for {room}"), library::nearest(&text, &mut out), size);
+        let left = if size <= room { over(wanted.clone(), &before) } else { before };
+        d.compare(&format!("output, room for {room}"), out, left);
+    }
     let program = std::env::args().nth(2).expect("the program");
     d.compare("standard output", run_program(&program, &text), wanted);
 }

@@ -1,6 +1,6 @@
-/* Document 01's worked cases through the C header: texts solved in one call, and the certificate of case A with its
- * exchange byte for byte. Prints a line for each that is not answered as expected and a count; exit status 1 if there
- * is one. */
+/* Document 01's worked cases through the C header: texts solved in one call, the certificate of case A with its
+ * exchange byte for byte, texts read, and what the program prints. Prints a line for each that is not answered as
+ * expected and a count; exit status 1 if there is one. */
 #include "../include/jugbowo.h"
 #include <stdio.h>
 #include <string.h>
@@ -104,10 +104,54 @@ static void structs(void) {
            jugbowo_search_slots(3, 2, 0, 0, images, 0, yes, 2, no, 2, slots, 5, reply, 3) == 0);
 }
 
+/* Texts read: case B, and one that is refused, which changes `reply` alone. */
+static void texts(void) {
+    const uint64_t read[] = {JUGBOWO_PARSED, 0, 0, 0}, refused[] = {JUGBOWO_REFUSED, 6, 10, 0};
+    const uint64_t nines[] = {9, 9, 9, 9}, b[] = {3, 2, 0, 0};
+    const char *wrong = "p cnf 2 1\n-3 0\n";
+    uint64_t positive[4], negative[4], numbers[4], reply[4];
+    uint8_t images[1024];
+    memcpy(positive, nines, sizeof nines);
+    memcpy(negative, nines, sizeof nines);
+    memcpy(numbers, nines, sizeof nines);
+    memset(images, 9, sizeof images);
+    expect("a refused text", jugbowo_read((const uint8_t *)wrong, strlen(wrong), positive, 4, negative, 4, numbers, 4,
+                                          images, 1024, reply, 4) == 1 &&
+                                 memcmp(reply, refused, sizeof reply) == 0);
+    expect("slices after a refusal", memcmp(positive, nines, sizeof nines) == 0 &&
+                                         memcmp(negative, nines, sizeof nines) == 0 &&
+                                         memcmp(numbers, nines, sizeof nines) == 0 && images[0] == 9 &&
+                                         memcmp(images, images + 1, sizeof images - 1) == 0);
+    expect("B read", jugbowo_read((const uint8_t *)TEXT_B, strlen(TEXT_B), positive, 4, negative, 4, numbers, 4, images,
+                                  1024, reply, 4) == 1 &&
+                         memcmp(reply, read, sizeof reply) == 0);
+    expect("B's clauses", positive[0] == 3 && positive[1] == 4 && positive[2] == 9 && negative[0] == 0 &&
+                              negative[1] == 1 && negative[2] == 9);
+    expect("B's formula",
+           memcmp(numbers, b, sizeof b) == 0 && images[0] == 0 && memcmp(images, images + 1, sizeof images - 1) == 0);
+}
+
+/* What the program prints for case B: with no room, one byte short, and exactly fitting. */
+static void printed(void) {
+    const char *wanted = "s SATISFIABLE\nv -1 2 -3 0\nc changes 1 slots 4\n";
+    const uint8_t *text = (const uint8_t *)TEXT_B;
+    const size_t size = strlen(wanted), length = strlen(TEXT_B);
+    uint8_t out[64], before[64];
+    memset(out, 9, sizeof out);
+    memset(before, 9, sizeof before);
+    expect("printed, no room", jugbowo_nearest(text, length, out, 0) == size && memcmp(out, before, sizeof out) == 0);
+    expect("printed, one byte short",
+           jugbowo_nearest(text, length, out, size - 1) == size && memcmp(out, before, sizeof out) == 0);
+    expect("printed", jugbowo_nearest(text, length, out, size) == size && memcmp(out, wanted, size) == 0 &&
+                          memcmp(out + size, before, sizeof out - size) == 0);
+}
+
 int main(void) {
     answers();
     steps();
     structs();
+    texts();
+    printed();
     printf("worked cases in C: %d passed, %d failed\n", passed, failed);
     return failed > 0;
 }

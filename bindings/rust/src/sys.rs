@@ -1,5 +1,5 @@
 // The exported functions as include/jugbowo.h declares them, and a safe function over each: a slice is a pointer and
-// a length. Each returns 1, or 0 where a slice for the answer was too short and nothing was changed.
+// a length. Each but the last returns 1, or 0 where a slice for the answer was too short and nothing was changed.
 #![allow(dead_code)] // a program uses some of them
 
 // The first word of an answer.
@@ -113,6 +113,6 @@ exported!(number_at = jugbowo_number_at(body: &[u8], i: usize, reply: &mut [u64]
 exported!(solve = jugbowo_solve(text: &[u8], points: &mut [u64], falsified: &mut [u32], depths: &mut [u32],
     out: &mut [u8], reply: &mut [u64],) -> u32);
 
-// Puts what the program `nearest` prints for a text to the front of `out`; how many bytes, or 0 where `out` has fewer
-// than 312.
+// Puts what the program `nearest` prints for a text to the front of `out`, and returns how many bytes that is. Where
+// `out` has fewer it is unchanged.
 exported!(nearest = jugbowo_nearest(text: &[u8], out: &mut [u8],) -> usize);

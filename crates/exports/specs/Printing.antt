@@ -5,16 +5,15 @@ use mathlib.Core.Path.{_≡_}
 use Prim.Native.Nat.{ℕ}
 use lib.Dec.{leb}
 use lib.ListN.{length}
-use Rattle.program_text.specs.Report.{longestText}
 use Rattle.math.specs.Lists.{over}
 use Rattle.program.specs.Program.{printed}
 
--- whether there is room for every text
-abbrev pub hasTextRoom : List ℕ → Bool
-hasTextRoom out = leb longestText (length out)
+-- whether a text fits into an output
+abbrev pub fitsInto : List ℕ → List ℕ → Bool
+fitsInto text out = leb (length text) (length out)
 
--- "The program `nearest`" for a caller in another language: with room, what it prints and how many bytes that is;
--- without, nothing changes
+-- "The program `nearest`" for a caller in another language: how many bytes it prints, and these where they fit; where
+-- they do not, nothing changes
 pub record NearestReturns (text out₀ : List ℕ) (r : ℕ) (out₁ : List ℕ) : Type 0 where
-  pub returned : r ≡ cond (hasTextRoom out₀) (length (printed text)) 0
-  pub output : out₁ ≡ cond (hasTextRoom out₀) (over (printed text) out₀) out₀
+  pub returned : r ≡ length (printed text)
+  pub output : out₁ ≡ cond (fitsInto (printed text) out₀) (over (printed text) out₀) out₀

@@ -1,28 +1,37 @@
--- With room for the longest text the exported function tells what the program prints; without, it tells nothing.
--- Assumes nothing.
+-- The exported function returns how long the program's text is, and puts it where it fits. Assumes nothing.
 use mathlib.Core.List.{List}
-use mathlib.Core.Path.{_∙_}
+use mathlib.Core.Path.{_≡_, sym, ap, _∙_, subst}
 use Prim.Native.Nat.{ℕ, _≤_, _<_}
-use lib.ListN.{length}
+use lib.ListN.{length, take, drop}
+use lib.Seq.{take-at}
 use borrow.Author.Tests.{le-leb, lt-leb}
-use Rattle.program_text.specs.Report.{longestText}
+use Rattle.math.specs.Lists.{over}
 use Rattle.program_text.specs.Laws.Putting.{Printed}
 use Rattle.program.specs.Program.{printed}
 use Rattle.exports.specs.Printing.{NearestReturns}
 use Rattle.export_words.specs.Laws.RoomLaws.{with-room, without-room}
 
-module _ (text out : List ℕ) where
-  pub prints-nothing : length out < longestText → NearestReturns text out 0 out
-  prints-nothing lt = record {
-    returned = without-room (lt-leb longestText (length out) lt) _ 0;
-    output = without-room
-        (lt-leb longestText (length out) lt) _ out;
-  }
+-- what was printed is the front of the array that it was printed to
+printed-front : (text array₀ : List ℕ) (r : ℕ) (array₁ : List ℕ) → Printed text array₀ r array₁ → take r array₁ ≡ text
+unfolding over
+printed-front text array₀ r array₁ p =
+    ap (λ (l : List ℕ). take r l) (p .output) ∙ take-at text (drop (length text) array₀) r (sym (p .counted))
 
-  pub prints-text : (r : ℕ) (out₁ : List ℕ) → longestText ≤ length out → Printed (printed text) out r out₁
-      → NearestReturns text out r out₁
-  prints-text r out₁ le p = record {
-    returned = p .counted
-        ∙ with-room (le-leb longestText (length out) le) _ 0;
-    output = p .output ∙ with-room (le-leb longestText (length out) le) _ out;
-  }
+module _ (text out array₀ : List ℕ) (r : ℕ) (array₁ : List ℕ) (p : Printed (printed text) array₀ r array₁) where
+  -- a text that does not fit is not put
+  pub keeps-output : length out < r → NearestReturns text out r out
+  keeps-output lt =
+      record {
+        returned = p .counted;
+        output = without-room
+            (lt-leb (length (printed text)) (length out) (subst (λ (k : ℕ). length out < k) (p .counted) lt)) _ out;
+      }
+
+  -- a text that fits is
+  pub puts-text : r ≤ length out → (out₁ : List ℕ) → out₁ ≡ over (take r array₁) out → NearestReturns text out r out₁
+  puts-text le out₁ put =
+      record {
+        returned = p .counted;
+        output = put ∙ ap (λ (l : List ℕ). over l out) (printed-front (printed text) array₀ r array₁ p) ∙ with-room
+            (le-leb (length (printed text)) (length out) (subst (λ (k : ℕ). k ≤ length out) (p .counted) le)) _ out;
+      }
