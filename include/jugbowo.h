@@ -7,10 +7,13 @@
  * bytes, any lengths.
  *
  * An answer stands in words at the front of `reply`, and the function returns 1. Where one of the slices for the
- * answer is too short it returns 0 and changes nothing: it had no place to reply. Words of `reply` behind the answer
- * are left alone. The first word says which answer it is, the others what it carries, then 0:
+ * answer (`reply`, `numbers`, `images` of jugbowo_read, `contents`) is too short it returns 0 and changes nothing: it
+ * had no place to reply, and gives neither an answer nor a refusal. jugbowo_nearest has no `reply` and returns a
+ * length. Words of `reply` behind the answer are left alone. The first word says which answer it is, the others what
+ * it carries, then 0:
  *
- *   JUGBOWO_REFUSED        number, place      a numbered refusal (docs/REFUSALS.md); all lent slices are as they were
+ *   JUGBOWO_REFUSED        number, place      a numbered refusal (docs/REFUSALS.md); all lent slices but `reply` are
+ *                                             as they were
  *   JUGBOWO_SATISFIABLE    point, distance, filled     the nearest satisfying point, in how many variables it differs
  *                                                      from the target
  *   JUGBOWO_UNSATISFIABLE  filled             no point satisfies the clauses; the filled slots are a stable set
@@ -30,7 +33,7 @@
  * yes.
  *
  * No function keeps anything between calls or uses memory but the stack. A call takes less of it than stands at its
- * function, all that it calls included, so never 4 MiB; benches/run measures how much. */
+ * function, all that it calls included, so never 2 MiB; benches/run measures how much. */
 #ifndef JUGBOWO_H
 #define JUGBOWO_H
 

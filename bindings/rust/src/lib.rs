@@ -15,6 +15,12 @@ mod sys;
 use std::fmt;
 
 /// A numbered refusal and its place; docs/REFUSALS.md says what each number means and what to do.
+///
+/// ```
+/// let refusal = jugbowo::read(b"p cnf 0 0\n").unwrap_err();
+/// let cause = "the number of variables is not 1 to 64, or that of clauses above 4,096";
+/// assert_eq!(refusal.to_string(), format!("refusal 3 at 0: {cause}"));
+/// ```
 #[derive(Clone, Copy, PartialEq, Eq, Debug)]
 pub struct Refusal {
     pub number: u32,
@@ -26,20 +32,20 @@ impl fmt::Display for Refusal {
         let cause = match self.number {
             1 => "the text is too long",
             2 => "the problem line is missing or malformed",
-            3 => "too many variables or clauses",
+            3 => "the number of variables is not 1 to 64, or that of clauses above 4,096",
             4 => "a clause slice is too short",
             5 => "a malformed word",
             6 => "a variable above the number of variables",
             7 => "words behind the last clause, or too few clauses",
             8 => "a malformed or second target line",
             9 => "a malformed or seventeenth permutation line",
-            10 => "sizes or bits of the formula out of range",
-            11 => "too many permutations, or one that is none",
+            10 => "sizes outside their limits, clause slices of another length, or a bit above the last variable",
+            11 => "more than 16 permutations, or one that does not have each of 1 to n once",
             12 => "a permutation that does not keep the clauses",
-            13 => "no slot",
+            13 => "no slot is lent",
             14 => "contents or length of the certificate are wrong",
-            15 => "a certificate for another formula",
-            16 => "no point, too many, one out of range, or one repeated",
+            15 => "a certificate for another number of variables or clauses",
+            16 => "no point, too many, one with a bit above the last variable, or one repeated",
             17 => "a clause number out of range, or of a clause that its point satisfies",
             18 => "a flip that is not covered",
             19 => "the output is too short",
