@@ -562,7 +562,7 @@ impl Case {
         let mut out = before.clone();
         self.same("bytes printed", library::nearest(bytes, &mut out), size);
         let left = if size <= room { [&wanted[..], &before[size..]].concat() } else { before };
-        self.same("printed", String::from_utf8_lossy(&out), String::from_utf8_lossy(&left));
+        self.same("printed", out.escape_ascii().to_string(), left.escape_ascii().to_string());
     }
 }
 
