@@ -70,14 +70,14 @@ pub fn copy_back(slots: &mut [Slot], k: usize, points: &[u64], falsified: &[u32]
     ensures { λ _. ⌜ now (slots .exit) ≡ front k (joined (now (points .entry)) (now (falsified .entry))
         (now (depths .entry))) (now (slots .entry)) ⌝ }
 {
-    let mut i = 0;
-    while i < k {
+    let mut j = 0;
+    while j < k {
         let made = Slot {
-            point: points[i],
-            falsified: falsified[i],
-            depth: depths[i],
+            point: points[j],
+            falsified: falsified[j],
+            depth: depths[j],
         };
-        slots[i] = made;
-        i = i + 1;
+        slots[j] = made;
+        j = j + 1;
     }
 }
