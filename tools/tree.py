@@ -122,15 +122,17 @@ FUNCTION = re.compile(r"^(?: *)(?:pub(?:\(crate\))? )?(?:extern \"C\" )?fn (\w+)
 def functions(text):
     """(name, signature, contract, place of the body) of each function of a file; the contract is what stands
     between its signature and its body."""
-    for found in FUNCTION.finditer(text):
-        opened = re.compile(r"^ *\{$", re.M).search(text, found.end())
-        inline = text.find(" {\n", found.end())
-        contract = re.compile(r"^ *(?:requires|ensures)\b", re.M).search(text, found.end())
-        if contract and opened and contract.start() < min(opened.start(), len(text) if inline < 0 else inline):
+    heads = list(FUNCTION.finditer(text))
+    for found, after in zip(heads, heads[1:] + [None]):
+        own = text[:after.start()] if after else text
+        opened = re.compile(r"^ *\{$", re.M).search(own, found.end())
+        inline = own.find(" {", found.end())
+        contract = re.compile(r"^ *(?:requires|ensures)\b", re.M).search(own, found.end())
+        if contract and opened and contract.start() < min(opened.start(), len(own) if inline < 0 else inline):
             at, end = contract.start(), opened.start()
-            yield found.group(1), text[found.start():at], text[at:end], end
+            yield found.group(1), own[found.start():at], own[at:end], end
         else:
-            yield found.group(1), text[found.start():inline], "", inline
+            yield found.group(1), own[found.start():inline], "", inline
 
 
 def types(text):

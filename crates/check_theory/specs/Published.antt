@@ -1,5 +1,6 @@
 -- Source document 002: neighbourhoods, transport functions and stable sets as published, over any number n of
--- variables. A set of points is a predicate, and the formula is a list of clauses. Assumes nothing.
+-- variables, and the numbers that stand for a transport function in a certificate. A set of points is a predicate, and
+-- the formula is a list of clauses. Assumes nothing.
 use mathlib.Core.List.{List}
 use mathlib.Core.Logic.{_⊎_}
 use mathlib.Core.Path.{_≡_}
@@ -20,8 +21,8 @@ pub record Transport (clauses : List Numbered) (P : ℕ → Type 0) (g : ℕ →
   pub member : (p : ℕ) → P p → g p ∈ clausesIn clauses
   pub falsified : (p : ℕ) → P p → Satisfies (g p) p → ⊥
 
--- 002, definitions 5 and 11, which differ in where the neighbourhoods lie: "Let P be a nonempty subset of Z(F)" with the
--- transport function g; for each p of P every point of Nbhd(p,g(p)) is one of Q
+-- 002, definitions 5 and 11, which differ in where neighbourhoods may lie: "Let P be a nonempty subset of Z(F)" with
+-- the transport function g; for each p of P every point of Nbhd(p,g(p)) is one of Q
 pub record StableUpTo (n : ℕ) (clauses : List Numbered) (P : ℕ → Type 0) (g : ℕ → Clause) (Q : ℕ → Type 0) : Type 0
   where
     pub witness : ℕ
@@ -46,23 +47,17 @@ pub record Symmetric (n : ℕ) (clauses : List Numbered) (p q : ℕ) : Type 0 wh
   pub inGroup : Symmetry n clauses symmetry
   pub maps : (q ≡ imageOfPoint symmetry p) ⊎ (p ≡ imageOfPoint symmetry q)
 
--- 002, definition 11: "every point $p' \in Nbhd(p,g(p))$ is either in P or there is a point p of P that is symmetric to
--- p'"
+-- 002, definition 11: a point is "either in P or there is a point p of P that is symmetric to p'"
 abbrev pub SymmetricToOne : ℕ → List Numbered → (ℕ → Type 0) → ℕ → Type 0
 SymmetricToOne n clauses P q = P q ⊎ ((r : ℕ) × P r × Symmetric n clauses q r)
 
+-- 002, definition 11: that holds of "every point $p' \in Nbhd(p,g(p))$"
 abbrev pub StableModulo : ℕ → List Numbered → (ℕ → Type 0) → (ℕ → Clause) → Type 0
 StableModulo n clauses P g = StableUpTo n clauses P g (SymmetricToOne n clauses P)
 
--- the same in document 01's form: "Document 002 allows the whole group; here one listed exchange, applied one time,
--- counts."
-abbrev pub SentToOne : List Permutation → (ℕ → Type 0) → ℕ → Type 0
-SentToOne permutations P q = P q ⊎ ((e : Permutation) × (e ∈ permutations) × P (imageOfPoint e q))
+-- ---- numbers in the place of a transport function
 
-abbrev pub StableListed : List Permutation → ℕ → List Numbered → (ℕ → Type 0) → (ℕ → Clause) → Type 0
-StableListed permutations n clauses P g = StableUpTo n clauses P g (SentToOne permutations P)
-
--- k is the number of a clause of the formula that a transport function gives to x
+-- k is the number of the clause that a transport function gives to x
 pub record Names (clauses : List Numbered) (g : ℕ → Clause) (x k : ℕ) : Type 0 where
   pub one : Numbered
   pub member : one ∈ clauses

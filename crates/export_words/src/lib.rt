@@ -133,8 +133,8 @@ pub fn put_parsed(numbers: &mut [u64], images: &mut [u8], reply: &mut [u64], r: 
 {
     let f = r.formula;
     let answer = r.answer;
-    let accepted = put_parse(reply, answer);
-    if accepted {
+    let read = put_parse(reply, answer);
+    if read {
         put_formula(numbers, images, f);
     }
 }

@@ -68,8 +68,7 @@ fn keeps(e: &[u8], positive: &[u64], negative: &[u64], guesses: &[u32]) -> bool
     true
 }
 
-// The number, from 1, of the first of the listed permutations that does not keep the clauses; 0 if all do, whatever the
-// guesses are.
+// What `first_non_symmetry` answers, with guesses that were made before, whatever they are.
 fn first_not_kept(
     n: u32,
     permutations: u32,
@@ -96,7 +95,8 @@ fn first_not_kept(
     0
 }
 
-// The same with guesses made once for all permutations: 32 KiB of the stack.
+// E3: the number, from 1, of the first of the listed permutations that does not keep the clauses; 0 if all do. Guesses
+// are made once for all, 32 KiB of the stack. Refusal 11 sees to what it requires.
 pub fn first_non_symmetry(
     n: u32,
     permutations: u32,

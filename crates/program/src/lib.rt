@@ -100,8 +100,8 @@ pub fn answer(text: &[u8], out: &mut [u8]) -> usize
     read_sheet(text, out)
 }
 
-// P1: the program's own step: of an input that was read to the front of a buffer, `count` bytes of it, the bytes that
-// are to be printed. They stand at the front of the output.
+// P1: the program's own step: what is to be printed for the first `count` bytes of a buffer. It stands at the front of
+// the output. `nearest::respond` sees to what it requires.
 pub fn printed_for<'a>(input: &[u8], count: usize, out: &'a mut [u8]) -> &'a [u8]
     requires { ⌜ (count ≤ length (now input)) × (longestText ≤ length (now out)) ⌝ }
     ensures { λ r. ⌜ now r ≡ printed (take count (now (input .entry))) ⌝ }

@@ -1,7 +1,7 @@
 -- Laws of stable sets: a certificate's set is stable as published, up to the points that it covers, and back. Assumes
 -- nothing.
 use mathlib.Core.Bool.{cond}
-use mathlib.Core.List.{List, [], _∷_, List·Memᴰ·head, List·Memᴰ·tail, List·Memᴰ·not-nil}
+use mathlib.Core.List.{List, [], _∷_, List·Memᴰ·not-nil}
 use mathlib.Core.Logic.{inl, inr}
 use mathlib.Core.Option.{Option, some, none}
 use mathlib.Core.Path.{_≡_, refl, sym, ap, _∙_, subst}
@@ -12,15 +12,14 @@ use lib.Dec.{eqb}
 use lib.ListN.{length, getD}
 use borrow.Author.Tests.{eq-eqb, ne-eqb}
 use Rattle.math.specs.Bits.{flip}
-use Rattle.math.specs.Laws.ListLaws.{map-in, getD-in, in-getD}
+use Rattle.math.specs.Laws.ListLaws.{some-length, map-in, getD-in, in-getD}
 use Rattle.math.specs.Lists.{_∈_, Distinct, distinct-cons}
 use Rattle.points.specs.Points.{Clause, Satisfies, Numbered, emptyClause}
 use Rattle.permutation_theory.specs.Permutations.{Permutation, imageOfPoint, clausesIn, Covered, itself, by-image}
 use Rattle.formula.specs.Limits.{maxSlots, maxPermutations}
 use Rattle.certificate.specs.Laws.RowLaws.{OwnNumbers, clause-of}
 use Rattle.certificate.specs.Rows.{clauseNumbered}
-use Rattle.check_theory.specs.Published.{Nbhd, Transport, StableUpTo, Symmetry, SymmetricToOne, SentToOne}
-use Rattle.check_theory.specs.Published.{Names}
+use Rattle.check_theory.specs.Published.{Nbhd, Transport, StableUpTo, Symmetry, SymmetricToOne, Names}
 use Rattle.check_theory.specs.Laws.PublishedLaws.{flips-neighbours, neighbours-flips}
 use Rattle.check_theory.specs.Stable.{Transported, Stable}
 
@@ -89,8 +88,8 @@ module _ (n : ℕ) (cs : List Numbered) (es : List Permutation) (ps ks : List �
       let w = neighbours-flips n x (t .own .clause) (s .within x (getD-in ps i 0 lt)) (t .falsified) q
       (subst (λ c. Nbhd n x c q) (transport-at i lt) near) in
       subst (Covered es ps) (sym (w .2)) (t .flips (w .0) (w .1)))
-      -- the numbers name the clauses of the transport function
 
+  -- the numbers name the clauses of the transport function
   pub stable-names : (i : ℕ) → i < length ps → Names cs (transportOf cs ps ks) (getD ps i 0) (getD ks i 0)
   stable-names i lt =
       let t = s .transported i lt in
@@ -113,10 +112,6 @@ module _ (n : ℕ) (cs : List Numbered) (es : List Permutation) (ps ks : List �
 module _ (n : ℕ) (cs : List Numbered) (es : List Permutation) (ps ks : List ℕ) (g : ℕ → Clause)
     (s : StableUpTo n cs (λ x. x ∈ ps) g (Covered es ps))
     (names : (i : ℕ) → i < length ps → Names cs g (getD ps i 0) (getD ks i 0)) where
-  not-empty : {x : ℕ} {l : List ℕ} → x ∈ l → 1 ≤ length l
-  not-empty (List·Memᴰ·head e) = omega arith
-  not-empty (List·Memᴰ·tail m) = omega arith
-
   published-at : (i : ℕ) → i < length ps → Transported n cs es ps (getD ps i 0) (getD ks i 0)
   published-at i lt =
       let x = getD ps i 0 in
@@ -141,7 +136,7 @@ module _ (n : ℕ) (cs : List Numbered) (es : List Permutation) (ps ks : List �
         fewPermutations = listed;
         arePermutations = λ e m. symmetries e m .bijective;
         keepClauses = λ e m. symmetries e m .keeps;
-        somePoint = not-empty (s .nonempty);
+        somePoint = some-length (s .nonempty);
         fewPoints = few;
         within = s .within;
         distinct = d;
@@ -163,27 +158,19 @@ stable-more more s =
       closed = λ p m q near. more q (s .closed p m q near);
     }
 
--- covered: the point itself or its image under a listed permutation is in the set, and back
-pub covered-sent : {es : List Permutation} {ps : List ℕ} (q : ℕ) → Covered es ps q → SentToOne es (λ x. x ∈ ps) q
-covered-sent q (itself m) = inl m
-covered-sent q (by-image e m k) = inr (e, m, k)
-
-pub sent-covered : {es : List Permutation} {ps : List ℕ} (q : ℕ) → SentToOne es (λ x. x ∈ ps) q → Covered es ps q
-sent-covered q (inl m) = itself m
-sent-covered q (inr w) = by-image (w .0) (w .1) (w .2)
-
 -- where no permutation is listed, only the points of the set count: definition 5
-pub unlisted : (P : ℕ → Type 0) {es : List Permutation} → es ≡ [] → (q : ℕ) → SentToOne es P q → P q
-unlisted P empty q (inl m) = m
-unlisted P empty q (inr w) = absurd (List·Memᴰ·not-nil (subst (λ l. w .0 ∈ l) empty (w .1)))
+pub covered-plainly : {es : List Permutation} {ps : List ℕ} → es ≡ [] → (q : ℕ) → Covered es ps q → q ∈ ps
+covered-plainly empty q (itself m) = m
+covered-plainly empty q (by-image e m k) = absurd (List·Memᴰ·not-nil (subst (λ l. e ∈ l) empty m))
 
 -- where the listed permutations are symmetries, a point that counts is symmetric to one of the set: definition 11
-pub listed-symmetric : (P : ℕ → Type 0) {n : ℕ} {cs : List Numbered} {es : List Permutation}
-    → ((e : Permutation) → e ∈ es → Symmetry n cs e) → (q : ℕ) → SentToOne es P q → SymmetricToOne n cs P q
-listed-symmetric P symmetries q (inl m) = inl m
-listed-symmetric P symmetries q (inr w) =
+pub covered-symmetric : {n : ℕ} {cs : List Numbered} {es : List Permutation} {ps : List ℕ}
+    → ((e : Permutation) → e ∈ es → Symmetry n cs e) → (q : ℕ) → Covered es ps q
+    → SymmetricToOne n cs (λ x. x ∈ ps) q
+covered-symmetric symmetries q (itself m) = inl m
+covered-symmetric symmetries q (by-image e m k) =
     inr (
-      imageOfPoint (w .0) q,
-      w .2,
-      record { symmetry = w .0; inGroup = symmetries (w .0) (w .1); maps = inl refl },
+      imageOfPoint e q,
+      k,
+      record { symmetry = e; inGroup = symmetries e m; maps = inl refl },
     )

@@ -14,7 +14,7 @@ use Rattle.checker.specs.Checker.{checkFault, checkReply}
 -- reads them": formulas that agree in n and C get the same reply
 module _ (f g : Formula) (clauses : ClauseSlices) (file : List ℕ) (n : f .variables ≡ g .variables)
     (m : f .clauses ≡ g .clauses) where
-  -- a formula on the way from f to g: n and C are those of both, and nothing else is looked at
+  -- the path: n and C go from those of f to those of g, and no other field is looked at
   check-same-fault : checkFault f clauses file ≡ checkFault g clauses file
   unfolding checkFault problemOf clausesFault
   check-same-fault i =

@@ -5,7 +5,6 @@ use mathlib.Core.List.{List, [], _∷_, List·Memᴰ·head, List·Memᴰ·tail, 
 use mathlib.Core.Path.{_≡_, refl, sym, ap, _∙_, subst}
 use Prim.Native.Nat.{ℕ, zero, suc, _^_, _≤_, _<_, zero-le, suc-le-suc}
 use native.Mathlib.Nat.{le-trans, not-suc-le-zero}
-use native.Mathlib.Omega.{arith}
 use lib.Dec.{leb, ltb, lit≤}
 use lib.ListN.{length}
 use borrow.Author.Tests.{leb-true, ltb-true, lt-ltb}
@@ -18,7 +17,8 @@ use Rattle.points.specs.Points.{Satisfies, Numbered, FirstFalsified, emptyClaus
 use Rattle.point_slices.specs.Slices.{ClauseSlices, wholeClauses, wholeSlots}
 use Rattle.point_theory.specs.Laws.Distance.{distance-self}
 use Rattle.formula.specs.Laws.RefusalLaws.{fits-complete}
-use Rattle.formula.specs.Laws.ReplyLaws.{first-join, test-passed, unless-none}
+use Rattle.formula.specs.Laws.ReplyLaws.{first-join, test-passed, unless-none, satisfiable-not-refused}
+use Rattle.formula.specs.Laws.ReplyLaws.{unsatisfiable-not-refused, satisfiable-not-unknown, unsatisfiable-not-unknown}
 use Rattle.formula.specs.Limits.{maxVariables}
 use Rattle.formula.specs.Problem.{problemOf}
 use Rattle.formula.specs.Refusals.{Fits, fits, formulaFault, permutationFault, symmetryFault}
@@ -199,25 +199,15 @@ more-holds c ok known h n target lent le =
           (sym (m .1)) (h .certified);
     }
 
-unsatisfiable-holds : {filled : ℕ} (c : Case) → c .reply ≡ unsatisfiable filled → Holds c
-    → (n target lent : ℕ) → leb (c .lent) lent ≡ true → Holds (withSlots c lent)
-unsatisfiable-holds c e = more-holds c (λ code place p. let z : _≡_ {A = ℕ} 0 1 = cc in omega arith)
-    (λ b filled p. let z : _≡_ {A = ℕ} 0 1 = cc in omega arith)
-
-satisfiable-holds : {x d filled : ℕ} (c : Case) → c .reply ≡ satisfiable x d filled → Holds c
-    → (n target lent : ℕ) → leb (c .lent) lent ≡ true → Holds (withSlots c lent)
-satisfiable-holds c e = more-holds c (λ code place p. let z : _≡_ {A = ℕ} 0 1 = cc in omega arith)
-    (λ b filled p. let z : _≡_ {A = ℕ} 0 1 = cc in omega arith)
-
 -- G.d: all of them
 pub cases-hold : AllHold cases
 cases-hold = (
-  unsatisfiable-holds caseA refl hold-A,
+  more-holds caseA unsatisfiable-not-refused unsatisfiable-not-unknown hold-A,
   (
-    unsatisfiable-holds caseA-swap refl hold-A-swap,
+    more-holds caseA-swap unsatisfiable-not-refused unsatisfiable-not-unknown hold-A-swap,
     (
       only hold-A-3,
-      (satisfiable-holds caseB refl hold-B, (only hold-B-3, (hold-none, (hold-empty, (hold-both, tt))))),
+      (more-holds caseB satisfiable-not-refused satisfiable-not-unknown hold-B, (only hold-B-3, (hold-none, (hold-empty, (hold-both, tt))))),
     ),
   ),
 )

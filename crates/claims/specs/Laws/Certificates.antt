@@ -26,6 +26,7 @@ use Rattle.formula.specs.Refusals.{clausesFault, formulaFault, permutationFault
 use Rattle.formula.specs.Reply.{Reply, refused, unsatisfiable, written, accepted, no-fault, fault, first, faultAt}
 use Rattle.formula.specs.Reply.{unless, unlessKept, Fault}
 use Rattle.formula.specs.Laws.ReplyLaws.{first-skips, first-stops, test-passed, passes-below, not-refused}
+use Rattle.formula.specs.Laws.ReplyLaws.{unsatisfiable-not-refused}
 use Rattle.search.specs.Laws.Accepted.{rows, answered}
 use Rattle.search_theory.specs.Laws.Promised.{ClosedSlots}
 use Rattle.search.specs.Laws.WalkAnswers.{WalkAnswers}
@@ -56,9 +57,6 @@ part-at part e l i = ap (getD (map part l) i) (sym e) ∙ List·getD-map part l 
 -- a clause that is the first falsified one is among the clauses
 first-member : (cs : List Numbered) (x : ℕ) (c : Numbered) → FirstFalsified cs x c → c ∈ cs
 first-member cs x c f = subst (λ l. c ∈ l) (sym (f .place)) (Memᴰ·append-right (f .before) (here c (f .after)))
-
-unsatisfiable-not-refused : {filled : ℕ} (code place : ℕ) → unsatisfiable filled ≡ refused code place → ⊥
-unsatisfiable-not-refused code place e = let z : _≡_ {A = ℕ} 0 1 = cc in omega arith
 
 module _ (f : Formula) (clauses : ClauseSlices) (slots : SlotSlices) where
   abbrev pb : Problem

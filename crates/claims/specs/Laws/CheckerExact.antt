@@ -1,12 +1,12 @@
 -- D2.3: the checker accepts just the files that hold a stable set of the published definition. Assumes nothing.
-use mathlib.Core.Logic.{_↔_, inl}
+use mathlib.Core.Logic.{_↔_}
 use mathlib.Core.List.{List, []}
 use mathlib.Core.Path.{_≡_, refl, subst}
 use Prim.Native.Nat.{ℕ}
 use Rattle.math.specs.Lists.{_∈_}
 use Rattle.points.specs.Points.{Clause, Numbered}
 use Rattle.point_slices.specs.Slices.{ClauseSlices}
-use Rattle.permutation_theory.specs.Permutations.{permutationsIn}
+use Rattle.permutation_theory.specs.Permutations.{permutationsIn, itself}
 use Rattle.formula.specs.declared.Formula.{Formula}
 use Rattle.formula.specs.Laws.RefusalLaws.{fits-sound, fits-complete}
 use Rattle.formula.specs.Laws.ReplyLaws.{tested, test-passed}
@@ -15,12 +15,11 @@ use Rattle.formula.specs.Refusals.{fits, clausesFault}
 use Rattle.formula.specs.Reply.{accepted, no-fault}
 use Rattle.certificate.specs.Certificate.{contentsOf, filePermutations, filePoints, fileNumbers}
 use Rattle.check_theory.specs.Laws.StableLaws.{transportOf, stable-names, stable-published, published-stable}
-use Rattle.check_theory.specs.Laws.StableLaws.{stable-more, covered-sent, sent-covered, listed-symmetric}
-use Rattle.check_theory.specs.Laws.StableLaws.{unlisted as sent-plainly}
-use Rattle.check_theory.specs.Published.{StableSet, StableModulo, StableListed}
+use Rattle.check_theory.specs.Laws.StableLaws.{stable-more, covered-plainly, covered-symmetric}
+use Rattle.check_theory.specs.Published.{StableSet, StableModulo}
 use Rattle.checker.specs.Checker.{checkReply, Accepts}
 use Rattle.checker.specs.Laws.CheckerLaws.{accepts-sound, accepts-complete, own-numbers, same-lengths}
-use Rattle.claims.specs.StableSets.{HasStableSet, Exact}
+use Rattle.claims.specs.StableSets.{StableListed, HasStableSet, Exact}
 
 module _ (f : Formula) (clauses : ClauseSlices) (file : List ℕ) where
   abbrev pb : Problem
@@ -46,7 +45,7 @@ module _ (f : Formula) (clauses : ClauseSlices) (file : List ℕ) where
       }
 
   abbrev Listed : Type 0
-  Listed = HasStableSet f clauses file (StableListed (filePermutations file))
+  Listed = HasStableSet f clauses file (StableListed file)
 
   accepted-stable : checkReply f clauses file ≡ accepted → Listed
   unfolding clausesFault problemOf
@@ -70,7 +69,7 @@ module _ (f : Formula) (clauses : ClauseSlices) (file : List ℕ) where
         distinct = s .distinct;
         transport = transportOf cs ps ks;
         named = stable-names (pb .variables) cs es ps ks own s;
-        stable = stable-more covered-sent (stable-published (pb .variables) cs es ps ks own s);
+        stable = stable-published (pb .variables) cs es ps ks own s;
       }
 
   stable-accepted : Listed → checkReply f clauses file ≡ accepted
@@ -84,7 +83,7 @@ module _ (f : Formula) (clauses : ClauseSlices) (file : List ℕ) where
         sameVariables = h .sameVariables;
         sameTotal = h .sameTotal;
         stable = published-stable (pb .variables) (pb .clauses) (filePermutations file) (filePoints file)
-            (fileNumbers file) (h .transport) (stable-more sent-covered (h .stable)) (h .named)
+            (fileNumbers file) (h .transport) (h .stable) (h .named)
             (h .fewPermutations) (h .symmetries) (h .distinct) (h .fewPoints) (same-lengths file (h .inOrder));
       })
 
@@ -99,11 +98,11 @@ exact =
       listed = λ f clauses file. (accepted-stable f clauses file, stable-accepted f clauses file);
       unlisted = λ f clauses file none. let es = none-listed f clauses file none in (
         λ h. let s = accepted-stable f clauses file h in
-            in-sense f clauses file StableSet s (stable-more (sent-plainly (λ x. x ∈ filePoints file) es) (s .stable)),
+            in-sense f clauses file StableSet s (stable-more (covered-plainly es) (s .stable)),
         λ s. stable-accepted f clauses file
-            (in-sense f clauses file (StableListed (filePermutations file)) s
-            (stable-more (λ q m. inl m) (s .stable))),
+            (in-sense f clauses file (StableListed file) s
+            (stable-more (λ q m. itself m) (s .stable))),
       );
       modulo = λ f clauses file h. let s = accepted-stable f clauses file h in
-          in-sense f clauses file StableModulo s (stable-more (listed-symmetric (λ x. x ∈ filePoints file) (s .symmetries)) (s .stable));
+          in-sense f clauses file StableModulo s (stable-more (covered-symmetric (s .symmetries)) (s .stable));
     }

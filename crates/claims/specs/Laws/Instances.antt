@@ -1,25 +1,33 @@
--- Nothing in the claim is vacuous: for each of its fields a worked case is an instance, and what the field then says of
--- it. Assumes nothing.
+-- Nothing in the claim is vacuous, nor in what is said of the checker and of the cases for every n and wish: for each
+-- sentence a worked case is an instance, and what the sentence then says of it. Assumes nothing.
+use mathlib.Core.Bool.{true}
 use mathlib.Core.List.{[], _∷_}
 use mathlib.Core.Path.{_≡_, refl}
 use Prim.Native.Nat.{ℕ}
-use native.Mathlib.Omega.{arith}
 use lib.Dec.{lit≤}
 use lib.ListN.{replicate}
 use Rattle.math.specs.Bits.{bit, flip}
+use Rattle.math.specs.Lists.{over}
 use Rattle.point_slices.specs.Slices.{SlotSlices, wholeClauses, wholeSlots}
 use Rattle.formula.specs.Limits.{capacity}
+use Rattle.formula.specs.Laws.ReplyLaws.{satisfiable-not-refused, unsatisfiable-not-refused, unknown-not-refused}
+use Rattle.formula.specs.Laws.ReplyLaws.{unsatisfiable-not-unknown}
 use Rattle.formula.specs.Problem.{problemOf, Unsatisfiable}
-use Rattle.formula.specs.Reply.{refused, satisfiable, unsatisfiable, unknown}
+use Rattle.formula.specs.Reply.{satisfiable, unsatisfiable, unknown}
 use Rattle.dimacs_format.specs.Laws.Example.{satisfiable-text}
 use Rattle.dimacs_format.specs.Reader.{readReply, readFormula, readClauses}
-use Rattle.search.specs.Search.{searchReply}
-use Rattle.certificate.specs.Writer.{lengthNeeded}
-use Rattle.claims.specs.Cases.{Case, caseA-swap, caseA, caseA-3, caseB, certificateIn}
+use Rattle.search.specs.Search.{searchReply, searchSlots}
+use Rattle.certificate.specs.Certificate.{contentsOf}
+use Rattle.certificate.specs.Writer.{lengthNeeded, certificateOf}
+use Rattle.check_theory.specs.Published.{StableSet}
+use Rattle.checker.specs.Checker.{checkReply}
+use Rattle.claims.specs.Cases.{Case, caseA, caseA-swap, caseA-3, caseB, certificateIn, anySheet}
 use Rattle.claims.specs.Laws.CasesHold.{swap-accepted}
 use Rattle.claims.specs.Claim.{Sheet, from-text, by-value, problemIn, SearchAnswers, Meets, AtLeast}
 use Rattle.claims.specs.Claim.{Certified}
+use Rattle.claims.specs.Laws.CheckerExact.{exact}
 use Rattle.claims.specs.Laws.Theorem.{claim}
+use Rattle.claims.specs.StableSets.{StableListed, HasStableSet}
 
 -- the sheet of a case, by value, and three slices of p places
 abbrev sheetOf : Case → Sheet
@@ -28,20 +36,11 @@ sheetOf c = by-value (c .formula) (c .clauses)
 abbrev places : ℕ → SlotSlices
 places p = wholeSlots (replicate p 7) (replicate p 7) (replicate p 7)
 
-satisfiable-kept : {x d filled : ℕ} (code place : ℕ) → satisfiable x d filled ≡ refused code place → ⊥
-satisfiable-kept code place e = let z : _≡_ {A = ℕ} 0 1 = cc in omega arith
-
-unsatisfiable-kept : {filled : ℕ} (code place : ℕ) → unsatisfiable filled ≡ refused code place → ⊥
-unsatisfiable-kept code place e = let z : _≡_ {A = ℕ} 0 1 = cc in omega arith
-
-unknown-kept : {b filled : ℕ} (code place : ℕ) → unknown b filled ≡ refused code place → ⊥
-unknown-kept code place e = let z : _≡_ {A = ℕ} 0 1 = cc in omega arith
-
 -- ---- accepted sheets with each answer
 
 pub answered-B : SearchAnswers (sheetOf caseB) (places 5) (satisfiable 2 1 4)
 unfolding searchReply capacity bit flip
-answered-B = record { readable = tt; reply = refl; accepted = satisfiable-kept }
+answered-B = record { readable = tt; reply = refl; accepted = satisfiable-not-refused }
 
 -- the program's example, read into slices of three and of two places
 abbrev sheetText : Sheet
@@ -49,15 +48,15 @@ sheetText = from-text satisfiable-text (wholeClauses (0 ∷ 0 ∷ 9 ∷ []) (0 �
 
 pub answered-text : SearchAnswers sheetText (places 5) (satisfiable 2 1 4)
 unfolding searchReply capacity readReply readFormula readClauses bit flip
-answered-text = record { readable = refl; reply = refl; accepted = satisfiable-kept }
+answered-text = record { readable = refl; reply = refl; accepted = satisfiable-not-refused }
 
 pub answered-A : SearchAnswers (sheetOf caseA-swap) (places 4) (unsatisfiable 3)
 unfolding searchReply capacity bit flip
-answered-A = record { readable = tt; reply = refl; accepted = unsatisfiable-kept }
+answered-A = record { readable = tt; reply = refl; accepted = unsatisfiable-not-refused }
 
 pub answered-A-3 : SearchAnswers (sheetOf caseA-3) (places 3) (unknown 1 3)
 unfolding searchReply capacity bit flip
-answered-A-3 = record { readable = tt; reply = refl; accepted = unknown-kept }
+answered-A-3 = record { readable = tt; reply = refl; accepted = unknown-not-refused }
 
 -- ---- what the claim says of them
 
@@ -71,7 +70,7 @@ nearest-text = claim .nearest sheetText (places 5) 2 1 4 answered-text .2
 -- 2: A cannot be met, with exchange 2 1
 pub refuted-A : Unsatisfiable (problemIn (sheetOf caseA-swap))
 refuted-A = claim .exactly (sheetOf caseA-swap) (places 4) (unsatisfiable 3) answered-A
-    (λ b filled e. let z : _≡_ {A = ℕ} 0 1 = cc in omega arith) .0 (3, refl)
+    unsatisfiable-not-unknown .0 (3, refl)
 
 -- 3: its certificate is 70 bytes long; an output of 71 takes it, and the checker accepts it; one of 69 is refused
 pub certified-A : Certified (sheetOf caseA-swap) (places 4) 3 70 (replicate 71 9)
@@ -93,3 +92,22 @@ pub enough-room-A : (b filled : ℕ) → SearchAnswers (sheetOf caseA) (places 4
 unfolding problemOf
 enough-room-A b filled = claim .enough-room (sheetOf caseA) (places 4) b filled (lit≤ tt) (lit≤ tt) (lit≤ tt)
     (lit≤ tt)
+
+-- ---- the checker accepts exactly the stable sets: each of its sentences has an instance
+
+-- with a listed permutation: the certificate of A with exchange 2 1
+pub stable-swap : HasStableSet (caseA-swap .formula) (caseA-swap .clauses) (certificateIn caseA-swap)
+    (StableListed (certificateIn caseA-swap))
+stable-swap = exact .listed (caseA-swap .formula) (caseA-swap .clauses) (certificateIn caseA-swap) .0 swap-accepted
+
+-- without: the certificate of A
+pub stable-A : HasStableSet (caseA .formula) (caseA .clauses) (certificateIn caseA) StableSet
+unfolding certificateOf searchSlots contentsOf bit flip over checkReply
+stable-A = exact .unlisted (caseA .formula) (caseA .clauses) (certificateIn caseA) refl .0 refl
+
+-- the cases for every n and wish are about some: the fewest variables and the most
+pub any-least : anySheet 1 1 1 ≡ true
+any-least = refl
+
+pub any-most : anySheet 64 1 65536 ≡ true
+any-most = refl

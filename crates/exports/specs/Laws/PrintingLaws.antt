@@ -1,21 +1,15 @@
 -- The exported function returns how long the program's text is, and puts it where it fits. Assumes nothing.
 use mathlib.Core.List.{List}
-use mathlib.Core.Path.{_≡_, sym, ap, _∙_, subst}
+use mathlib.Core.Path.{_≡_, ap, _∙_, subst}
 use Prim.Native.Nat.{ℕ, _≤_, _<_}
-use lib.ListN.{length, take, drop}
-use lib.Seq.{take-at}
+use lib.ListN.{length, take}
 use borrow.Author.Tests.{le-leb, lt-leb}
 use Rattle.math.specs.Lists.{over}
 use Rattle.program_text.specs.Laws.Putting.{Printed}
+use Rattle.program_text.specs.Laws.ReportLaws.{put-stands}
 use Rattle.program.specs.Program.{printed}
 use Rattle.exports.specs.Printing.{NearestReturns}
 use Rattle.export_words.specs.Laws.RoomLaws.{with-room, without-room}
-
--- what was printed is the front of the array that it was printed to
-printed-front : (text array₀ : List ℕ) (r : ℕ) (array₁ : List ℕ) → Printed text array₀ r array₁ → take r array₁ ≡ text
-unfolding over
-printed-front text array₀ r array₁ p =
-    ap (λ (l : List ℕ). take r l) (p .output) ∙ take-at text (drop (length text) array₀) r (sym (p .counted))
 
 module _ (text out array₀ : List ℕ) (r : ℕ) (array₁ : List ℕ) (p : Printed (printed text) array₀ r array₁) where
   -- a text that does not fit is not put
@@ -32,6 +26,6 @@ module _ (text out array₀ : List ℕ) (r : ℕ) (array₁ : List ℕ) (p : Pri
   puts-text le out₁ put =
       record {
         returned = p .counted;
-        output = put ∙ ap (λ (l : List ℕ). over l out) (printed-front (printed text) array₀ r array₁ p) ∙ with-room
+        output = put ∙ ap (λ (l : List ℕ). over l out) (put-stands (printed text) array₀ r array₁ p) ∙ with-room
             (le-leb (length (printed text)) (length out) (subst (λ (k : ℕ). k ≤ length out) (p .counted) le)) _ out;
       }

@@ -8,7 +8,7 @@ use native.Mathlib.Omega.{arith}
 use Rattle.math.specs.Lists.{_∈_, firstFailing, below}
 use Rattle.math.specs.Laws.PartLaws.{none-failing, none-failing-below, all-passing, all-passing-below}
 use Rattle.formula.specs.Reply.{Fault, no-fault, fault, faultAt, first, Reply, refused, accepted, written, opened}
-use Rattle.formula.specs.Reply.{unless}
+use Rattle.formula.specs.Reply.{satisfiable, unsatisfiable, unknown, unless}
 
 -- whether the test found nothing
 abbrev isNoFault : Fault → Bool
@@ -148,6 +148,22 @@ written-not-refused size code place e = let z : _≡_ {A = ℕ} 0 1 = cc in omeg
 
 pub opened-not-refused : (code place : ℕ) → opened ≡ refused code place → ⊥
 opened-not-refused code place e = let z : _≡_ {A = ℕ} 0 1 = cc in omega arith
+
+pub satisfiable-not-refused : {x d filled : ℕ} (code place : ℕ) → satisfiable x d filled ≡ refused code place → ⊥
+satisfiable-not-refused code place e = let z : _≡_ {A = ℕ} 0 1 = cc in omega arith
+
+pub unsatisfiable-not-refused : {filled : ℕ} (code place : ℕ) → unsatisfiable filled ≡ refused code place → ⊥
+unsatisfiable-not-refused code place e = let z : _≡_ {A = ℕ} 0 1 = cc in omega arith
+
+pub unknown-not-refused : {b filled : ℕ} (code place : ℕ) → unknown b filled ≡ refused code place → ⊥
+unknown-not-refused code place e = let z : _≡_ {A = ℕ} 0 1 = cc in omega arith
+
+-- nor 'no room'
+pub satisfiable-not-unknown : {x d filled : ℕ} (b k : ℕ) → satisfiable x d filled ≡ unknown b k → ⊥
+satisfiable-not-unknown b k e = let z : _≡_ {A = ℕ} 0 1 = cc in omega arith
+
+pub unsatisfiable-not-unknown : {filled : ℕ} (b k : ℕ) → unsatisfiable filled ≡ unknown b k → ⊥
+unsatisfiable-not-unknown b k e = let z : _≡_ {A = ℕ} 0 1 = cc in omega arith
 
 -- a refusal is the fault that was found
 pub refused-fault : (t : Fault) (r : Reply) → ((code place : ℕ) → r ≡ refused code place → ⊥) → (code place : ℕ)

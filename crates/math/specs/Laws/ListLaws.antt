@@ -56,6 +56,11 @@ module _ {A : Type 0} where
   pub here : (x : A) (xs : List A) → x ∈ (x ∷ xs)
   here x xs = List·Memᴰ·head refl
 
+  -- a list with an element has a length
+  pub some-length : {x : A} {xs : List A} → x ∈ xs → 1 ≤ length xs
+  some-length (List·Memᴰ·head e) = omega arith
+  some-length (List·Memᴰ·tail m) = omega arith
+
   -- ---- any, all
 
   pub any-found : (t : A → Bool) (xs : List A) → any t xs ≡ true → (x : A) × (x ∈ xs) × (t x ≡ true)

@@ -25,15 +25,15 @@ use Rattle.search_theory.specs.Walk.{start, Walks, walked}
 use Rattle.search_theory.specs.Laws.WalkLaws.{walked-walks, walks-walked}
 use Rattle.search_theory.specs.Laws.MoreRoom.{walks-more}
 
-lent-slot : (k : ℕ) → slotFault k ≡ no-fault → 1 ≤ k
+slot-sound : (k : ℕ) → slotFault k ≡ no-fault → 1 ≤ k
 unfolding slotFault
-lent-slot zero e = absurd (fault-not-none 13 0 e)
-lent-slot (suc k) e = suc-le-suc zero-le
+slot-sound zero e = absurd (fault-not-none 13 0 e)
+slot-sound (suc k) e = suc-le-suc zero-le
 
-slot-lent : (k : ℕ) → 1 ≤ k → slotFault k ≡ no-fault
+slot-complete : (k : ℕ) → 1 ≤ k → slotFault k ≡ no-fault
 unfolding slotFault
-slot-lent zero h = absurd (not-suc-le-zero h)
-slot-lent (suc k) h = refl
+slot-complete zero h = absurd (not-suc-le-zero h)
+slot-complete (suc k) h = refl
 
 -- ---- "The number of slots P is the shortest length lent, at most 65,536 used."
 
@@ -84,7 +84,7 @@ module _ (f : Formula) (clauses : ClauseSlices) (lent : ℕ) where
       }
 
   pub lent-of-faults : searchFault f clauses lent ≡ no-fault → 1 ≤ lent
-  lent-of-faults h = lent-slot lent (rows h .3)
+  lent-of-faults h = slot-sound lent (rows h .3)
 
   -- with more slots lent nothing is refused either
   more-passes : (more : ℕ) → lent ≤ more → searchFault f clauses lent ≡ no-fault
@@ -95,7 +95,7 @@ module _ (f : Formula) (clauses : ClauseSlices) (lent : ℕ) where
       first-join (formulaFault f clauses) (row11 ∷ row12 ∷ slotFault more ∷ []) (r .0)
       (first-join row11 (row12 ∷ slotFault more ∷ []) (r .1)
       (first-join row12 (slotFault more ∷ []) (r .2)
-      (first-join (slotFault more) [] (slot-lent more (le-trans (lent-slot lent (r .3)) le)) first-none)))
+      (first-join (slotFault more) [] (slot-complete more (le-trans (slot-sound lent (r .3)) le)) first-none)))
 
   -- a reply that is no refusal is the search's
   pub answered : (r : Reply) → searchReply f clauses lent ≡ r

@@ -4,12 +4,12 @@ use mathlib.Core.List.{List}
 use mathlib.Core.Path.{_≡_, refl}
 use Prim.Native.Nat.{ℕ, _≤_, _<_, _^_}
 use native.Mathlib.Nat.{le-trans, lt-of-le-of-lt, lt-of-lt-of-le}
-use native.Mathlib.Omega.{arith}
 use lib.ListN.{length}
 use Rattle.math.specs.Lists.{_∈_, Distinct}
 use Rattle.points.specs.Points.{distance}
 use Rattle.point_slices.specs.Slices.{ClauseSlices, SlotSlices}
 use Rattle.formula.specs.declared.Formula.{Formula}
+use Rattle.formula.specs.Laws.ReplyLaws.{satisfiable-not-refused, unsatisfiable-not-refused, unknown-not-refused}
 use Rattle.formula.specs.Limits.{maxSlots, capacity}
 use Rattle.formula.specs.Laws.AlikeLaws.{same-problem}
 use Rattle.formula.specs.Problem.{Problem, problemOf, Unsatisfiable}
@@ -88,17 +88,17 @@ module _ (f : Formula) (clauses : ClauseSlices) (lent : ℕ) where
   satisfiable-answered : (x d filled : ℕ) → searchReply f clauses lent ≡ satisfiable x d filled
       → WalkAnswers f clauses lent (satisfiable x d filled)
   satisfiable-answered x d filled e = answered f clauses lent (satisfiable x d filled) e
-      (λ code place p. let z : _≡_ {A = ℕ} 0 1 = cc in omega arith)
+      satisfiable-not-refused
 
   unsatisfiable-answered : (filled : ℕ) → searchReply f clauses lent ≡ unsatisfiable filled
       → WalkAnswers f clauses lent (unsatisfiable filled)
   unsatisfiable-answered filled e = answered f clauses lent (unsatisfiable filled) e
-      (λ code place p. let z : _≡_ {A = ℕ} 0 1 = cc in omega arith)
+      unsatisfiable-not-refused
 
   unknown-answered : (b filled : ℕ) → searchReply f clauses lent ≡ unknown b filled
       → WalkAnswers f clauses lent (unknown b filled)
   unknown-answered b filled e = answered f clauses lent (unknown b filled) e
-      (λ code place p. let z : _≡_ {A = ℕ} 0 1 = cc in omega arith)
+      unknown-not-refused
 
   -- D3.1: "A choice handed back meets the rules, and every other choice that meets them differs from the client's wish
   -- in at least as many names."

@@ -15,7 +15,8 @@ use Rattle.formula.specs.declared.Formula.{Formula}
 use Rattle.formula.specs.Limits.{maxClauses, capacity}
 use Rattle.formula.specs.Reply.{Reply, refused, satisfiable, unsatisfiable, unknown, parsed, written, opened, accepted}
 use Rattle.formula.specs.Reply.{pointIn}
-use Rattle.formula.specs.Laws.ReplyLaws.{written-not-refused}
+use Rattle.formula.specs.Laws.ReplyLaws.{written-not-refused, satisfiable-not-refused, unsatisfiable-not-refused}
+use Rattle.formula.specs.Laws.ReplyLaws.{unknown-not-refused}
 use Rattle.point_slices.specs.Laws.SliceLaws.{points-blank, clauses-blank}
 use Rattle.dimacs_format.specs.Laws.ReaderLaws.{parsed-accepts}
 use Rattle.dimacs_format.specs.Laws.RoomLaws.{reads-alike, stored-room}
@@ -43,15 +44,6 @@ use Rattle.solver.specs.Laws.Steps.{unsatisfiableWith, refusedWith, Refu
 
 abbrev pub NoRefusal : Reply → Type 0
 NoRefusal a = (code place : ℕ) → a ≡ refused code place → ⊥
-
-satisfiable-stands : {x d filled : ℕ} → NoRefusal (satisfiable x d filled)
-satisfiable-stands code place e = let z : _≡_ {A = ℕ} 0 1 = cc in omega arith
-
-unsatisfiable-stands : {filled : ℕ} → NoRefusal (unsatisfiable filled)
-unsatisfiable-stands code place e = let z : _≡_ {A = ℕ} 0 1 = cc in omega arith
-
-unknown-stands : {b filled : ℕ} → NoRefusal (unknown b filled)
-unknown-stands code place e = let z : _≡_ {A = ℕ} 0 1 = cc in omega arith
 
 -- ---- and those that are no refutation
 
@@ -159,7 +151,7 @@ module _ (s : Sheet) (slots : SlotSlices) (t : SolverReply) (out₀ out₁ : Lis
       let w = refuted-of (sheetReply s (capacity slots)) (λ filled. writerReply s slots filled out₀) c (sym certificate
       ∙ e) in (
         w .0,
-        answered s slots (unsatisfiable (w .0)) (w .1) unsatisfiable-stands,
+        answered s slots (unsatisfiable (w .0)) (w .1) unsatisfiable-not-refused,
         w .2,
         output ∙ ap (λ (a : Reply). onRefutation a out₀ (λ filled. writerOutput s slots filled out₀)) (w .1),
       )
@@ -168,7 +160,7 @@ module _ (s : Sheet) (slots : SlotSlices) (t : SolverReply) (out₀ out₁ : Lis
   promised =
       record {
         nearest = λ x d filled e. claim .nearest s slots x d filled (answers (satisfiable x d filled)
-            e satisfiable-stands);
+            e satisfiable-not-refused);
         exactly = λ ok known. claim .exactly s slots (t .reply) (answers (t .reply) refl ok) known;
         certified =
             λ size e.
@@ -184,9 +176,9 @@ module _ (s : Sheet) (slots : SlotSlices) (t : SolverReply) (out₀ out₁ : Lis
             let c = refused-short s slots (w .0) (w .1) out₀ code place (w .2) in
             (c .0, c .1, w .3 ∙ c .2);
         refutes = claim .refutes (formulaIn s) (slicesIn s);
-        bound = λ b filled e. claim .bound s slots b filled (answers (unknown b filled) e unknown-stands);
+        bound = λ b filled e. claim .bound s slots b filled (answers (unknown b filled) e unknown-not-refused);
         enough-room = λ b filled few p q r e. claim .enough-room s slots b filled few p q r
-            (answers (unknown b filled) e unknown-stands);
+            (answers (unknown b filled) e unknown-not-refused);
       }
 
 -- ---- the certificate of the slots that a search left
@@ -197,7 +189,7 @@ module _ (f : Formula) (clauses : ClauseSlices) (slots : SlotSlices) (filled : �
   sheet = by-value f clauses
 
   answer : SearchAnswers sheet (ok .lent) (unsatisfiable filled)
-  answer = record { readable = tt; reply = ok .reply; accepted = unsatisfiable-stands }
+  answer = record { readable = tt; reply = ok .reply; accepted = unsatisfiable-not-refused }
 
   same-reply : writeReply f clauses slots filled out
       ≡ writerReply sheet (ok .lent) filled out

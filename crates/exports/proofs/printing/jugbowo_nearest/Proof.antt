@@ -1,5 +1,5 @@
--- `exports::printing::jugbowo_nearest` meets its contract: it tells how long the program's text is, and puts it where it
--- fits. Assumes nothing.
+-- `exports::printing::jugbowo_nearest` meets its contract: it tells how long the program's text is, and puts it where
+-- it fits. Assumes nothing.
 use native.Mathlib.Nat.{le-refl}
 use borrow.Author.Needs.{needs}
 use Rattle.program_text.specs.Report.{longestText}
