@@ -7,10 +7,10 @@
  * bytes, any lengths.
  *
  * An answer stands in words at the front of `reply`, and the function returns 1. Where one of the slices for the
- * answer (`reply`, `numbers`, `images` of jugbowo_read, `contents`) is too short it returns 0 and changes nothing: it
- * had no place to reply, and gives neither an answer nor a refusal. jugbowo_nearest has no `reply` and returns a
- * length. Words of `reply` behind the answer are left alone. The first word says which answer it is, the others what
- * it carries, then 0:
+ * answer (`reply`; `numbers` and `images` of jugbowo_read; `contents` of jugbowo_open) is too short it returns 0 and
+ * changes nothing: it had no place to reply, and gives neither an answer nor a refusal. jugbowo_nearest has no `reply`
+ * and returns a length. Words of `reply` behind the answer are left alone. The first word says which answer it is, the
+ * others what it carries, then 0 (but for the three functions that read one entry of a certificate):
  *
  *   JUGBOWO_REFUSED        number, place      a numbered refusal (docs/REFUSALS.md); all lent slices but `reply` are
  *                                             as they were

@@ -18,7 +18,7 @@ use std::fmt;
 ///
 /// ```
 /// let refusal = jugbowo::read(b"p cnf 0 0\n").unwrap_err();
-/// let cause = "the number of variables is not 1 to 64, or that of clauses above 4,096";
+/// let cause = "the number of variables is not 1 to 64, or that of clauses is over 4,096";
 /// assert_eq!(refusal.to_string(), format!("refusal 3 at 0: {cause}"));
 /// ```
 #[derive(Clone, Copy, PartialEq, Eq, Debug)]
@@ -32,7 +32,7 @@ impl fmt::Display for Refusal {
         let cause = match self.number {
             1 => "the text is too long",
             2 => "the problem line is missing or malformed",
-            3 => "the number of variables is not 1 to 64, or that of clauses above 4,096",
+            3 => "the number of variables is not 1 to 64, or that of clauses is over 4,096",
             4 => "a clause slice is too short",
             5 => "a malformed word",
             6 => "a variable above the number of variables",
