@@ -73,7 +73,7 @@ pub record Family : Type 0 where
 abbrev pub one : Case → Family
 one c = record { test = λ n target lent. true; case = λ n target lent. c }
 
--- a case with the slots that it says, or more
+-- a case with another number of slots
 abbrev pub withSlots : Case → ℕ → Case
 withSlots c lent = record {
   formula = c .formula;
@@ -84,6 +84,7 @@ withSlots c lent = record {
   certificate = c .certificate;
 }
 
+-- a case with as many slots as it says, or more
 abbrev pub orMore : Case → Family
 orMore c = record { test = λ n target lent. leb (c .lent) lent; case = λ n target lent. withSlots c lent }
 
@@ -104,9 +105,6 @@ bare n m target = record {
   images = replicate maxImages 0;
 }
 
-abbrev plain : ℕ → ℕ → Formula
-plain n m = bare n m 0
-
 -- every n, every target of n variables, every number of slots but 0
 abbrev pub anySheet : ℕ → ℕ → ℕ → Bool
 anySheet n target lent = leb 1 n && leb n maxVariables && ltb target (2 ^ n) && leb 1 lent
@@ -119,7 +117,7 @@ clausesA = wholeClauses (3 ∷ 2 ∷ 1 ∷ 0 ∷ []) (0 ∷ 1 ∷ 2 ∷ 3 ∷ []
 abbrev pub caseA : Case
 caseA =
     record {
-      formula = plain 2 4;
+      formula = bare 2 4 0;
       clauses = clausesA;
       lent = 4;
       reply = unsatisfiable 4;
@@ -149,7 +147,7 @@ caseA-swap =
 -- V3: "A, P = 3, no exchange: no room, d 1."
 abbrev pub caseA-3 : Case
 caseA-3 = record {
-  formula = plain 2 4;
+  formula = bare 2 4 0;
   clauses = clausesA;
   lent = 3;
   reply = unknown 1 3;
@@ -160,7 +158,7 @@ caseA-3 = record {
 -- V4: "B: n 3, rules (1 2) (−1 3), wish 000: met by 010, changes 1, slots 4."
 abbrev pub caseB : Case
 caseB = record {
-  formula = plain 3 2;
+  formula = bare 3 2 0;
   clauses = wholeClauses (3 ∷ 4 ∷ []) (0 ∷ 1 ∷ []);
   lent = 4;
   reply = satisfiable 2 1 4;
@@ -171,7 +169,7 @@ caseB = record {
 -- V4: "P = 3: no room, d 1."
 abbrev pub caseB-3 : Case
 caseB-3 = record {
-  formula = plain 3 2;
+  formula = bare 3 2 0;
   clauses = wholeClauses (3 ∷ 4 ∷ []) (0 ∷ 1 ∷ []);
   lent = 3;
   reply = unknown 1 3;

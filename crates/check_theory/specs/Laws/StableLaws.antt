@@ -26,13 +26,13 @@ use Rattle.check_theory.specs.Stable.{Transported, Stable}
 -- ---- the transport function of a certificate
 
 -- the number beside the first point x of a list; 0 where there is none
-unfoldable pub numberBeside : List ℕ → List ℕ → ℕ → ℕ
+unfoldable numberBeside : List ℕ → List ℕ → ℕ → ℕ
 numberBeside [] ks x = 0
 numberBeside (y ∷ ys) [] x = 0
 numberBeside (y ∷ ys) (k ∷ ks) x = cond (eqb y x) k (numberBeside ys ks x)
 
 -- the clause that is there, or one without variables
-unfoldable pub orEmpty : Option Clause → Clause
+unfoldable orEmpty : Option Clause → Clause
 orEmpty none = emptyClause
 orEmpty (some c) = c
 
@@ -41,7 +41,7 @@ unfoldable pub transportOf : List Numbered → List ℕ → List ℕ → ℕ →
 unfolding orEmpty clauseNumbered numberBeside
 transportOf clauses points falsified x = orEmpty (clauseNumbered clauses (numberBeside points falsified x))
 
-pub number-beside : (ps ks : List ℕ) → Distinct ps → length ks ≡ length ps → (i : ℕ) → i < length ps
+number-beside : (ps ks : List ℕ) → Distinct ps → length ks ≡ length ps → (i : ℕ) → i < length ps
     → numberBeside ps ks (getD ps i 0) ≡ getD ks i 0
 unfolding numberBeside
 number-beside [] ks d e i lt = absurd (not-suc-le-zero lt)

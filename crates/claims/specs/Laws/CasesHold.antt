@@ -22,7 +22,7 @@ use Rattle.formula.specs.Laws.ReplyLaws.{unsatisfiable-not-refused, satisfiable
 use Rattle.formula.specs.Limits.{maxVariables}
 use Rattle.formula.specs.Problem.{problemOf}
 use Rattle.formula.specs.Refusals.{Fits, fits, formulaFault, permutationFault, symmetryFault}
-use Rattle.formula.specs.Reply.{Reply, refused, satisfiable, unsatisfiable, unknown, accepted, no-fault, first}
+use Rattle.formula.specs.Reply.{Reply, refused, satisfiable, unknown, accepted, no-fault, first}
 use Rattle.search_theory.specs.Filled.{filledWith}
 use Rattle.search_theory.specs.Laws.WalkLaws.{walks-walked}
 use Rattle.search_theory.specs.Walk.{Slot, slot, start, Fills, no-more, complete, Walks, met, goes-on, none-left, walked}
@@ -201,16 +201,11 @@ more-holds c ok known h n target lent le =
 
 -- G.d: all of them
 pub cases-hold : AllHold cases
-cases-hold = (
-  more-holds caseA unsatisfiable-not-refused unsatisfiable-not-unknown hold-A,
-  (
-    more-holds caseA-swap unsatisfiable-not-refused unsatisfiable-not-unknown hold-A-swap,
-    (
-      only hold-A-3,
-      (more-holds caseB satisfiable-not-refused satisfiable-not-unknown hold-B, (only hold-B-3, (hold-none, (hold-empty, (hold-both, tt))))),
-    ),
-  ),
-)
+cases-hold =
+    let a = more-holds caseA unsatisfiable-not-refused unsatisfiable-not-unknown hold-A in
+    let swap = more-holds caseA-swap unsatisfiable-not-refused unsatisfiable-not-unknown hold-A-swap in
+    let b = more-holds caseB satisfiable-not-refused satisfiable-not-unknown hold-B in
+    (a, (swap, (only hold-A-3, (b, (only hold-B-3, (hold-none, (hold-empty, (hold-both, tt))))))))
   where
     only : {c : Case} → Holds c → (n target lent : ℕ) → true ≡ true → Holds c
     only h n target lent e = h

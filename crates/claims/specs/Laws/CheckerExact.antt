@@ -1,7 +1,6 @@
 -- D2.3: the checker accepts just the files that hold a stable set of the published definition. Assumes nothing.
-use mathlib.Core.Logic.{_↔_}
 use mathlib.Core.List.{List, []}
-use mathlib.Core.Path.{_≡_, refl, subst}
+use mathlib.Core.Path.{_≡_, refl}
 use Prim.Native.Nat.{ℕ}
 use Rattle.math.specs.Lists.{_∈_}
 use Rattle.points.specs.Points.{Clause, Numbered}
@@ -17,7 +16,7 @@ use Rattle.certificate.specs.Certificate.{contentsOf, filePermutations, filePoi
 use Rattle.check_theory.specs.Laws.StableLaws.{transportOf, stable-names, stable-published, published-stable}
 use Rattle.check_theory.specs.Laws.StableLaws.{stable-more, covered-plainly, covered-symmetric}
 use Rattle.check_theory.specs.Published.{StableSet, StableModulo}
-use Rattle.checker.specs.Checker.{checkReply, Accepts}
+use Rattle.checker.specs.Checker.{checkReply}
 use Rattle.checker.specs.Laws.CheckerLaws.{accepts-sound, accepts-complete, own-numbers, same-lengths}
 use Rattle.claims.specs.StableSets.{StableListed, HasStableSet, Exact}
 
@@ -87,16 +86,16 @@ module _ (f : Formula) (clauses : ClauseSlices) (file : List ℕ) where
             (h .fewPermutations) (h .symmetries) (h .distinct) (h .fewPoints) (same-lengths file (h .inOrder));
       })
 
-  -- no permutation in the contents, none in the list
-  none-listed : contentsOf file .permutations ≡ 0 → filePermutations file ≡ []
-  unfolding filePermutations permutationsIn
-  none-listed e = rw e
+-- no permutation in the contents, none in the list
+none-listed : (file : List ℕ) → contentsOf file .permutations ≡ 0 → filePermutations file ≡ []
+unfolding filePermutations permutationsIn
+none-listed file e = rw e
 
 pub exact : Exact
 exact =
     record {
       listed = λ f clauses file. (accepted-stable f clauses file, stable-accepted f clauses file);
-      unlisted = λ f clauses file none. let es = none-listed f clauses file none in (
+      unlisted = λ f clauses file none. let es = none-listed file none in (
         λ h. let s = accepted-stable f clauses file h in
             in-sense f clauses file StableSet s (stable-more (covered-plainly es) (s .stable)),
         λ s. stable-accepted f clauses file

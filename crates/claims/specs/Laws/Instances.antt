@@ -9,7 +9,7 @@ use lib.ListN.{replicate}
 use Rattle.math.specs.Bits.{bit, flip}
 use Rattle.math.specs.Lists.{over}
 use Rattle.point_slices.specs.Slices.{SlotSlices, wholeClauses, wholeSlots}
-use Rattle.formula.specs.Limits.{capacity}
+use Rattle.formula.specs.Limits.{maxVariables, maxSlots, capacity}
 use Rattle.formula.specs.Laws.ReplyLaws.{satisfiable-not-refused, unsatisfiable-not-refused, unknown-not-refused}
 use Rattle.formula.specs.Laws.ReplyLaws.{unsatisfiable-not-unknown}
 use Rattle.formula.specs.Problem.{problemOf, Unsatisfiable}
@@ -19,7 +19,7 @@ use Rattle.dimacs_format.specs.Reader.{readReply, readFormula, readClauses}
 use Rattle.search.specs.Search.{searchReply, searchSlots}
 use Rattle.certificate.specs.Certificate.{contentsOf}
 use Rattle.certificate.specs.Writer.{lengthNeeded, certificateOf}
-use Rattle.check_theory.specs.Published.{StableSet}
+use Rattle.check_theory.specs.Published.{StableSet, StableModulo}
 use Rattle.checker.specs.Checker.{checkReply}
 use Rattle.claims.specs.Cases.{Case, caseA, caseA-swap, caseA-3, caseB, certificateIn, anySheet}
 use Rattle.claims.specs.Laws.CasesHold.{swap-accepted}
@@ -105,9 +105,13 @@ pub stable-A : HasStableSet (caseA .formula) (caseA .clauses) (certificateIn cas
 unfolding certificateOf searchSlots contentsOf bit flip over checkReply
 stable-A = exact .unlisted (caseA .formula) (caseA .clauses) (certificateIn caseA) refl .0 refl
 
--- the cases for every n and wish are about some: the fewest variables and the most
+-- and modulo the whole group
+pub modulo-swap : HasStableSet (caseA-swap .formula) (caseA-swap .clauses) (certificateIn caseA-swap) StableModulo
+modulo-swap = exact .modulo (caseA-swap .formula) (caseA-swap .clauses) (certificateIn caseA-swap) swap-accepted
+
+-- the cases for every n and wish are about some: the fewest variables and slots, and the most
 pub any-least : anySheet 1 1 1 ≡ true
 any-least = refl
 
-pub any-most : anySheet 64 1 65536 ≡ true
+pub any-most : anySheet maxVariables 1 maxSlots ≡ true
 any-most = refl

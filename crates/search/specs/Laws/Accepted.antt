@@ -3,7 +3,7 @@
 use mathlib.Core.List.{List, [], _∷_}
 use mathlib.Core.Path.{_≡_, refl, sym, _∙_, subst}
 use Prim.Native.Nat.{ℕ, zero, suc, _≤_, zero-le, suc-le-suc}
-use native.Mathlib.Nat.{le-trans, not-suc-le-zero}
+use native.Mathlib.Nat.{le-trans}
 use native.Mathlib.Omega.{arith}
 use lib.ListN.{length}
 use Rattle.points.specs.Points.{numbered}
@@ -30,10 +30,10 @@ unfolding slotFault
 slot-sound zero e = absurd (fault-not-none 13 0 e)
 slot-sound (suc k) e = suc-le-suc zero-le
 
-slot-complete : (k : ℕ) → 1 ≤ k → slotFault k ≡ no-fault
+pub slot-complete : (k : ℕ) → (k ≡ 0 → ⊥) → slotFault k ≡ no-fault
 unfolding slotFault
-slot-complete zero h = absurd (not-suc-le-zero h)
-slot-complete (suc k) h = refl
+slot-complete zero ne = absurd (ne refl)
+slot-complete (suc k) ne = refl
 
 -- ---- "The number of slots P is the shortest length lent, at most 65,536 used."
 
@@ -92,10 +92,11 @@ module _ (f : Formula) (clauses : ClauseSlices) (lent : ℕ) where
   unfolding searchFault
   more-passes more le h =
       let r = rows h in
+      let some : 1 ≤ lent = slot-sound lent (r .3) in
       first-join (formulaFault f clauses) (row11 ∷ row12 ∷ slotFault more ∷ []) (r .0)
       (first-join row11 (row12 ∷ slotFault more ∷ []) (r .1)
       (first-join row12 (slotFault more ∷ []) (r .2)
-      (first-join (slotFault more) [] (slot-complete more (le-trans (slot-sound lent (r .3)) le)) first-none)))
+      (first-join (slotFault more) [] (slot-complete more (λ z. omega arith)) first-none)))
 
   -- a reply that is no refusal is the search's
   pub answered : (r : Reply) → searchReply f clauses lent ≡ r

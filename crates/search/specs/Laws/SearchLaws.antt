@@ -19,7 +19,7 @@ use Rattle.formula.specs.Laws.RefusalLaws.{digits-suffice, fits-count}
 use Rattle.formula.specs.Refusals.{formulaFault, permutationFault, symmetryFault, faultOf}
 use Rattle.formula.specs.Reply.{Reply, Fault, no-fault, fault, pointIn}
 use Rattle.formula.specs.Laws.ReplyLaws.{first-last, first-after, first-before, unless-none}
-use Rattle.search.specs.Laws.Accepted.{rows, ready-of-faults, lent-of-faults, lent-few}
+use Rattle.search.specs.Laws.Accepted.{slot-complete, rows, ready-of-faults, lent-of-faults, lent-few}
 use Rattle.search.specs.Search.{slotFault, searchFault, searchReply, searchSlots, searchSlices}
 use Rattle.search.specs.Contract.{replyOfFound, Searched}
 use Rattle.search_expansion.specs.declared.Frame.{Frame}
@@ -72,12 +72,7 @@ module _ (f : Formula) (clauses : ClauseSlices) where
   -- the rows 10 to 12 passed, and a slot lent
   fault-none : (lent : ℕ) → problemFault f clauses ≡ no-fault → (lent ≡ 0 → ⊥)
       → searchFault f clauses lent ≡ no-fault
-  unfolding slotFault
-  fault-none lent h ne = fault-passed lent h ∙ by lent ne
-    where
-      by : (k : ℕ) → (k ≡ 0 → ⊥) → slotFault k ≡ no-fault
-      by zero ne = absurd (ne refl)
-      by (suc k) ne = refl
+  fault-none lent h ne = fault-passed lent h ∙ slot-complete lent ne
 
   -- the problem of the frame is the formula's, once refusal 10 has passed
   framed-is : (lent : ℕ) → formulaFault f clauses ≡ no-fault
