@@ -3,13 +3,14 @@
 use formula::Checked;
 use formula::Formula;
 use point_slices::point_at;
+use point_slices::point_count;
 ghost use mathlib.Core.Path.{_≡_};
 ghost use Rattle.point_slices.specs.Slices.{pointsOf};
 ghost use Rattle.formula.specs.Limits.{maxSlots};
 ghost use Rattle.formula.specs.Refusals.{faultOf};
 ghost use Rattle.certificate.specs.Rows.{pointsFault};
 ghost use Rattle.check_distinct.specs.Laws.Indexing.{Growable, Grows, Indexable, Sifts, Refuses, Counted};
-ghost use Rattle.check_distinct.specs.Laws.Indexing.{fewPoints};
+ghost use Rattle.check_distinct.specs.Laws.Indexing.{fewPoints, manyPoints};
 
 // Whether the point at index i has no bit at n or above and equals none of the i before it, of which the links are an
 // index; if so it is added. At most n + 1 comparisons.
@@ -70,8 +71,10 @@ pub fn points_refusal(
     }
 }
 
-// How many points small arrays are for, and how many there can be.
+// For how many points arrays are made: few, many, and as many as there can be.
 pub const FEW_POINTS: usize = 1024;
+
+pub const MANY_POINTS: usize = 8192;
 
 pub const MOST_POINTS: usize = Formula::MAX_SLOTS as usize;
 
@@ -84,8 +87,17 @@ fn few_refusal(n: u32, points: &[u64], count: usize, limit: usize) -> Checked
     points_refusal(n, points, &mut links, FEW_POINTS, count, limit)
 }
 
-// The same of as many points as there can be: 768 KiB of the stack.
+// The same of at most `MANY_POINTS` points: 96 KiB of the stack.
 fn many_refusal(n: u32, points: &[u64], count: usize, limit: usize) -> Checked
+    requires { ⌜ Counted manyPoints n count (pointsOf (now points)) ⌝ }
+    ensures { λ r. ⌜ faultOf r ≡ pointsFault limit n count (pointsOf (now (points .entry))) ⌝ }
+{
+    let mut links = [0u32; 3 * MANY_POINTS];
+    points_refusal(n, points, &mut links, MANY_POINTS, count, limit)
+}
+
+// The same of as many points as there can be: 768 KiB of the stack.
+fn most_refusal(n: u32, points: &[u64], count: usize, limit: usize) -> Checked
     requires { ⌜ Counted maxSlots n count (pointsOf (now points)) ⌝ }
     ensures { λ r. ⌜ faultOf r ≡ pointsFault limit n count (pointsOf (now (points .entry))) ⌝ }
 {
@@ -94,7 +106,8 @@ fn many_refusal(n: u32, points: &[u64], count: usize, limit: usize) -> Checked
 }
 
 // R16: refusal 16 for callers that need no index after it: at most count · (n + 1) comparisons. The array suits the
-// count, since each of its links is made 0 first.
+// count, since each of its links is made 0 first. The limit allows no more points than there are, so it never calls
+// itself: the call keeps the arrays out of this function and its callers, whose frames are then small.
 pub fn local_refusal(n: u32, points: &[u64], count: usize, limit: usize) -> Checked
     requires { ⌜ Counted maxSlots n limit (pointsOf (now points)) ⌝ }
     ensures { λ r. ⌜ faultOf r ≡ pointsFault limit n count (pointsOf (now (points .entry))) ⌝ }
@@ -104,7 +117,11 @@ pub fn local_refusal(n: u32, points: &[u64], count: usize, limit: usize) -> Chec
     }
     if count <= FEW_POINTS {
         few_refusal(n, points, count, limit)
-    } else {
+    } else if count <= MANY_POINTS {
         many_refusal(n, points, count, limit)
+    } else if count <= point_count(points) {
+        most_refusal(n, points, count, limit)
+    } else {
+        local_refusal(n, points, count, limit)
     }
 }

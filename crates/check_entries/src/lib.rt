@@ -2,6 +2,7 @@
 use certificate::bodies::numbers_into;
 use certificate::bodies::points_into;
 use check_distinct::FEW_POINTS;
+use check_distinct::MANY_POINTS;
 use check_distinct::MOST_POINTS;
 use check_distinct::points_refusal;
 use check_falsified::numbers_refusal;
@@ -16,7 +17,7 @@ ghost use Rattle.point_slices.specs.Slices.{pointsOf};
 ghost use Rattle.permutation_theory.specs.Permutations.{permutationsIn};
 ghost use Rattle.formula.specs.Limits.{maxSlots};
 ghost use Rattle.formula.specs.Refusals.{faultOf};
-ghost use Rattle.check_distinct.specs.Laws.Indexing.{fewPoints};
+ghost use Rattle.check_distinct.specs.Laws.Indexing.{fewPoints, manyPoints};
 ghost use Rattle.check_entries.specs.Laws.Entries.{listsFault, entriesFault, Ready, Decodable, Lent};
 
 // N8: the tests of the first `count` points and numbers of two slices, in their order. The first leaves an index of the
@@ -122,8 +123,47 @@ fn few_refusal(
     )
 }
 
-// The same of as many entries as there can be: 1.5 MiB of the stack.
+// The same of at most `MANY_POINTS` entries: 192 KiB of the stack.
 fn many_refusal(
+    n: u32,
+    permutations: u32,
+    images: &[u8],
+    positive: &[u64],
+    negative: &[u64],
+    points: &[u8],
+    falsified: &[u8],
+    count: usize,
+) -> Checked
+    requires { ⌜ Decodable n permutations (now images) (lentClauses (now positive) (now negative)) (now points)
+        (now falsified) count manyPoints ⌝ }
+    ensures { λ r. ⌜ faultOf r ≡ entriesFault n permutations (now (images .entry))
+        (lentClauses (now (positive .entry)) (now (negative .entry))) (now (points .entry))
+        (now (falsified .entry)) count ⌝ }
+{
+    let g = Lookup {
+        variables: n,
+        permutations,
+        heads: MANY_POINTS,
+    };
+    let mut held = [0u64; MANY_POINTS];
+    let mut named = [0u32; MANY_POINTS];
+    let mut links = [0u32; 3 * MANY_POINTS];
+    copied_refusal(
+        g,
+        images,
+        positive,
+        negative,
+        points,
+        falsified,
+        &mut held,
+        &mut named,
+        &mut links,
+        count,
+    )
+}
+
+// The same of as many entries as there can be: 1.5 MiB of the stack.
+fn most_refusal(
     n: u32,
     permutations: u32,
     images: &[u8],
@@ -162,7 +202,8 @@ fn many_refusal(
 }
 
 // The same, with arrays of a size that suits the count, since each is made 0 first. Refusals 10, 11 and 14 see to what
-// it requires.
+// it requires. A number takes a byte at least, so it never calls itself: the call keeps the arrays out of this function
+// and its callers, whose frames are then small.
 pub fn decoded_refusal(
     n: u32,
     permutations: u32,
@@ -190,8 +231,30 @@ pub fn decoded_refusal(
             falsified,
             count,
         )
-    } else {
+    } else if count <= MANY_POINTS {
         many_refusal(
+            n,
+            permutations,
+            images,
+            positive,
+            negative,
+            points,
+            falsified,
+            count,
+        )
+    } else if count <= falsified.len() {
+        most_refusal(
+            n,
+            permutations,
+            images,
+            positive,
+            negative,
+            points,
+            falsified,
+            count,
+        )
+    } else {
+        decoded_refusal(
             n,
             permutations,
             images,

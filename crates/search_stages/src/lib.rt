@@ -141,7 +141,9 @@ fn finish(
     }
 }
 
-// The stage between: up to 8,192 slots, 96 KiB of links.
+// The stage between: up to 8,192 slots, 96 KiB of links. It pauses only where more slots are lent, so it never calls
+// itself: the call is there because a compiler puts no function that calls itself into another, and no large array
+// into one that does. So the first stage touches neither this array nor the last one's.
 fn resume(
     g: Frame,
     images: &[u8],
@@ -178,7 +180,12 @@ fn resume(
     let point = explored.point;
     match stage {
         Stage::Concluded(conclusion) => Answer { conclusion, point },
-        Stage::Paused(at) => finish(g, images, positive, negative, points, falsified, depths, at),
+        Stage::Paused(at) => {
+            if g.room <= MANY_HEADS {
+                return resume(g, images, positive, negative, points, falsified, depths, at);
+            }
+            finish(g, images, positive, negative, points, falsified, depths, at)
+        }
     }
 }
 

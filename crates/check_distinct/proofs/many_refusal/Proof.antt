@@ -2,16 +2,16 @@
 use mathlib.Core.Path.{refl, sym}
 use Prim.Native.Nat.{ℕ, _*_}
 use lib.ListN.{length-replicate}
-use Rattle.formula.specs.Limits.{maxSlots}
+use Rattle.check_distinct.specs.Laws.Indexing.{manyPoints}
 use Rattle.check_distinct.specs.Laws.IndexingLaws.{zeros-links, links-indexable}
 use Rattle.check_distinct.proofs.many_refusal.Statement.{statement}
 use Rattle.check_distinct.proofs.many_refusal.Tie as tie
 
 slice-aggregate-points-refusal : tie.Need-slice-aggregate-points-refusal
-slice-aggregate-points-refusal c = sym (length-replicate {A = ℕ} (3 * maxSlots) 0)
+slice-aggregate-points-refusal c = sym (length-replicate {A = ℕ} (3 * manyPoints) 0)
 
 points-refusal-requires : tie.Need-points-refusal-requires
-points-refusal-requires c κs = links-indexable (zeros-links maxSlots (3 * maxSlots) refl) (c .before .before .pre)
+points-refusal-requires c κs = links-indexable (zeros-links manyPoints (3 * manyPoints) refl) (c .before .before .pre)
 
 returns : tie.Need-returns
 returns c = c .before .points-refusal .ensures .tells

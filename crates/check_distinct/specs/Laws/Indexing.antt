@@ -57,6 +57,9 @@ pub record Refuses (heads n count limit : ℕ) (points : List ℕ) (r : Fault) (
 abbrev pub fewPoints : ℕ
 fewPoints = 1024
 
+abbrev pub manyPoints : ℕ
+manyPoints = 8192
+
 -- there are `count` points, of few variables, and no more than an array has room for
 pub record Counted (room n count : ℕ) (points : List ℕ) : Type 0 where
   pub few : n ≤ maxVariables

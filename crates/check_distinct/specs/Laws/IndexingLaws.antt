@@ -166,3 +166,8 @@ links-indexable l c =
       room = omega arith;
       zeros = l .zeros;
     }
+
+-- no more points are counted than there are
+pub counted-all : {room n limit count : ℕ} {points : List ℕ} → Counted room n limit points → count ≤ limit
+    → length points < count → ⊥
+counted-all c fits past = let enough = c .enough in omega arith

@@ -2,22 +2,22 @@
 use mathlib.Core.Path.{refl, sym}
 use Prim.Native.Nat.{ℕ, _*_}
 use lib.ListN.{length-replicate}
-use Rattle.formula.specs.Limits.{maxSlots}
+use Rattle.check_distinct.specs.Laws.Indexing.{manyPoints}
 use Rattle.check_entries.specs.Laws.EntryLaws.{zeros-lent}
 use Rattle.check_entries.proofs.many_refusal.Statement.{statement}
 use Rattle.check_entries.proofs.many_refusal.Tie as tie
 
 slice-aggregate-copied-refusal : tie.Need-slice-aggregate-copied-refusal
-slice-aggregate-copied-refusal c = sym (length-replicate {A = ℕ} maxSlots 0)
+slice-aggregate-copied-refusal c = sym (length-replicate {A = ℕ} manyPoints 0)
 
 slice-aggregate-copied-refusal-2 : tie.Need-slice-aggregate-copied-refusal-2
-slice-aggregate-copied-refusal-2 c = sym (length-replicate {A = ℕ} maxSlots 0)
+slice-aggregate-copied-refusal-2 c = sym (length-replicate {A = ℕ} manyPoints 0)
 
 slice-aggregate-copied-refusal-3 : tie.Need-slice-aggregate-copied-refusal-3
-slice-aggregate-copied-refusal-3 c = sym (length-replicate {A = ℕ} (3 * maxSlots) 0)
+slice-aggregate-copied-refusal-3 c = sym (length-replicate {A = ℕ} (3 * manyPoints) 0)
 
 copied-refusal-requires : tie.Need-copied-refusal-requires
-copied-refusal-requires c κs = (c .before .before .before .before .before .before .before .before .pre, zeros-lent maxSlots (3 * maxSlots) refl)
+copied-refusal-requires c κs = (c .before .before .before .before .before .before .before .before .pre, zeros-lent manyPoints (3 * manyPoints) refl)
 
 returns : tie.Need-returns
 returns c = c .before .before .before .copied-refusal .ensures

@@ -3,7 +3,7 @@
 use mathlib.Core.Bool.{true}
 use mathlib.Core.List.{List}
 use mathlib.Core.Path.{_≡_, sym, ap, _∙_}
-use Prim.Native.Nat.{ℕ, _≤_}
+use Prim.Native.Nat.{ℕ, _≤_, _<_}
 use native.Mathlib.Nat.{le-of-eq, le-trans}
 use native.Mathlib.Omega.{arith}
 use lib.ListN.{length, take, replicate, length-replicate}
@@ -110,3 +110,9 @@ zeros-lent limit k h =
       named-long = long;
       linked = zeros-links limit k h;
     }
+
+-- each number takes a byte at least
+pub numbers-fill : {n permutations : ℕ} {images : List ℕ} {clauses : List Clause} {points falsified : List ℕ}
+    {count limit : ℕ} → Decodable n permutations images clauses points falsified count limit
+    → length falsified < count → ⊥
+numbers-fill d short = let long = d .numbers-long in omega arith

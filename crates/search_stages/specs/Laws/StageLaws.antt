@@ -126,9 +126,13 @@ module _ (g : Frame) (images : List ℕ) (clauses : List Clause) (ok : Searchabl
               → Concludes pb (g .room) m q r m″
           stage-followed next = walking-answers pb (g .room) (paused .0) next
 
-          -- with a head for each slot that can be lent there is no pause
+          -- with a head for each slot lent there is no pause
+          pub stage-roomy : g .room ≤ heads → ⊥
+          stage-roomy all = let lt = paused .1 in omega arith
+
+          -- so none with a head for each slot that can be lent
           pub stage-last : maxSlots ≤ heads → ⊥
-          stage-last all = let lt = paused .1 in let most = ok .most in omega arith
+          stage-last all = stage-roomy (le-trans (ok .most) all)
 
   -- ---- the first stage: the target stands in the first slot
 
