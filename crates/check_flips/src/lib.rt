@@ -3,8 +3,9 @@
 use formula::Checked;
 use formula::Formula;
 use permutation_coverage::Lookup;
-use permutation_coverage::flip_covered;
+use permutation_coverage::image_covered;
 use permutation_coverage::move_images;
+use point_index::contains;
 use point_slices::clause_at;
 use point_slices::clause_count;
 use point_slices::number_at;
@@ -41,68 +42,67 @@ fn variables_of(positive: &[u64], negative: &[u64], k: u32) -> Point
     points::listed(c)
 }
 
-// Whether each flip of x by a variable of the set is covered by the first `count` points, variables lowest first;
-// `moved` holds the images of x. At most n times permutations + 1 look-ups, each of at most n + 1 comparisons.
-// `flips_pass` sees to what it requires.
+// What a test of flips says, and the point whose images are at hand after it.
+struct Tested {
+    passed: bool,
+    seen: Point,
+}
+
+// Whether x with variable v flipped is covered by the first `count` points; `moved` has the images of `seen`, and those of
+// x where they were asked for. Where the flip itself is among the points one look-up; else permutations + 1 of them, each
+// of at most n + 1 comparisons, and the images are turned, one step for each permutation and each variable in which the
+// two points differ.
+fn flip_passes(
+    g: Lookup,
+    images: &[u8],
+    points: &[u64],
+    links: &[u32],
+    moved: &mut [u64],
+    count: usize,
+    seen: Point,
+    x: Point,
+    v: u32,
+) -> Tested {
+    let n = g.variables;
+    let flipped = points::flip(x, v);
+    if contains(n, points, links, g.heads, count, flipped) {
+        return Tested { passed: true, seen };
+    }
+    move_images(n, g.permutations, images, moved, seen, x);
+    let passed = image_covered(g, images, points, links, moved, count, x, v);
+    Tested { passed, seen: x }
+}
+
+// Whether each flip of x by a variable of the set is covered by the first `count` points, variables lowest first. At most
+// n flips. `flips_pass` sees to what it requires.
 fn flips_covered(
     g: Lookup,
     images: &[u8],
     points: &[u64],
     links: &[u32],
-    moved: &[u64],
+    moved: &mut [u64],
     count: usize,
+    seen: Point,
     x: Point,
     listed: Point,
-) -> bool
-    requires { ⌜ Coverable (g .heads) (g .variables) count (pointsOf (now points)) (now links) (g .permutations)
-        (now images) (pointsOf (now moved)) x × (listed < 2 ^ g .variables) ⌝ }
-    ensures { λ r. ⌜ r ≡ allFlips (covered (permutationsIn (g .variables) (g .permutations) (now (images .entry)))
-        (take count (pointsOf (now (points .entry))))) (g .variables) x listed ⌝ }
-{
+) -> Tested {
     let n = g.variables;
+    let mut seen = seen;
     let mut left = listed;
     let mut v = points::next_variable(left);
     while v < n {
-        let known = flip_covered(g, images, points, links, moved, count, x, v);
-        if !known {
-            return false;
+        let tested = flip_passes(g, images, points, links, moved, count, seen, x, v);
+        if !tested.passed {
+            return tested;
         }
+        seen = tested.seen;
         left = points::flip(left, v);
         v = points::next_variable(left);
     }
-    true
+    Tested { passed: true, seen }
 }
 
-// Whether the flips of the point at index i, by the clause that the number there names, are covered; `moved` has the
-// images of the point.
-fn flips_pass(
-    g: Lookup,
-    images: &[u8],
-    positive: &[u64],
-    negative: &[u64],
-    points: &[u64],
-    falsified: &[u32],
-    links: &[u32],
-    moved: &[u64],
-    count: usize,
-    i: usize,
-) -> bool
-    requires { ⌜ Testable g (now images) (lentClauses (now positive) (now negative)) (pointsOf (now points))
-        (now links) count × (i < count) × Imaged (g .variables) (g .permutations) (now images)
-        (getD (pointsOf (now points)) i 0) (pointsOf (now moved)) ⌝ }
-    ensures { λ r. ⌜ r ≡ flipsPass (g .variables) (numbered
-        (lentClauses (now (positive .entry)) (now (negative .entry))))
-        (permutationsIn (g .variables) (g .permutations) (now (images .entry)))
-        (take count (pointsOf (now (points .entry)))) (now (falsified .entry)) i ⌝ }
-{
-    let k = number_at(falsified, i);
-    let x = point_at(points, i);
-    let listed = variables_of(positive, negative, k);
-    flips_covered(g, images, points, links, moved, count, x, listed)
-}
-
-// The number, from 1, of the first of `count` points with a flip that is not covered; 0 if there is none. From point to
-// point the images are turned, one step for each permutation and each variable in which the points differ.
+// The number, from 1, of the first of `count` points with a flip that is not covered; 0 if there is none.
 fn first_uncovered(
     g: Lookup,
     images: &[u8],
@@ -112,36 +112,18 @@ fn first_uncovered(
     falsified: &[u32],
     links: &[u32],
     count: usize,
-) -> usize
-    requires { ⌜ Testable g (now images) (lentClauses (now positive) (now negative)) (pointsOf (now points))
-        (now links) count ⌝ }
-    ensures { λ r. ⌜ r ≡ firstFailing (flipsPass (g .variables)
-        (numbered (lentClauses (now (positive .entry)) (now (negative .entry))))
-        (permutationsIn (g .variables) (g .permutations) (now (images .entry)))
-        (take count (pointsOf (now (points .entry)))) (now (falsified .entry))) (below count) ⌝ }
-{
+) -> usize {
     let mut moved = [0u64; Formula::MAX_PERMUTATIONS as usize];
     let mut seen = points::EMPTY;
     let mut i = 0;
     while i < count {
         let x = point_at(points, i);
-        move_images(g.variables, g.permutations, images, &mut moved, seen, x);
-        seen = x;
-        let fine = flips_pass(
-            g,
-            images,
-            positive,
-            negative,
-            points,
-            falsified,
-            links,
-            &moved,
-            count,
-            i,
-        );
-        if !fine {
+        let listed = variables_of(positive, negative, number_at(falsified, i));
+        let tested = flips_covered(g, images, points, links, &mut moved, count, seen, x, listed);
+        if !tested.passed {
             return i + 1;
         }
+        seen = tested.seen;
         i += 1;
     }
     0

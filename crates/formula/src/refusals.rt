@@ -20,20 +20,18 @@ ghost use Rattle.formula.specs.Limits.{maxVariables, maxPermutations};
 ghost use Rattle.formula.specs.Refusals.{allBelow, fits, clausesFault, formulaFault, permutationFault};
 ghost use Rattle.formula.specs.Refusals.{symmetryFault, faultOf};
 
-// Whether no number of the slice has a bit at n or above. One step a number.
+// Whether no number of the slice has a bit at n or above: the union of all is tested. One step a number.
 fn all_below(xs: &[u64], n: u32) -> bool
     ensures { λ r. ⌜ r ≡ allBelow n (pointsOf (now (xs .entry))) ⌝ }
 {
     let end = point_count(xs);
+    let mut all = points::EMPTY;
     let mut i = 0;
     while i < end {
-        let small = points::below(point_at(xs, i), n);
-        if !small {
-            return false;
-        }
+        all = points::union(all, point_at(xs, i));
         i += 1;
     }
-    true
+    points::below(all, n)
 }
 
 // Whether n is within its limits, and both clause slices are as long as they should be and have no bit at n or above.

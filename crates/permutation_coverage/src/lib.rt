@@ -64,9 +64,33 @@ pub fn move_images(n: u32, permutations: u32, images: &[u8], moved: &mut [u64], 
     }
 }
 
-// Whether x with variable v flipped, or an image of that, is among the first k points, of which the links are an index;
-// `moved` holds the images of x. At most permutations + 1 look-ups, each of at most n + 1 comparisons, and one step for
-// each image.
+// Whether the image of x with variable v flipped under a listed permutation is among the first k points, of which the
+// links are an index; `moved` holds the images of x. At most permutations look-ups, each of at most n + 1 comparisons,
+// and one step for each image.
+pub fn image_covered(
+    g: Lookup,
+    images: &[u8],
+    points: &[u64],
+    links: &[u32],
+    moved: &[u64],
+    k: usize,
+    x: Point,
+    v: u32,
+) -> bool {
+    let n = g.variables;
+    let permutations = g.permutations as usize;
+    let mut i = 0;
+    while i < permutations {
+        let image = flipped_image(n, images, moved, i, v);
+        if contains(n, points, links, g.heads, k, image) {
+            return true;
+        }
+        i += 1;
+    }
+    false
+}
+
+// Whether x with variable v flipped, or an image of that, is among the first k points: at most permutations + 1 look-ups.
 pub fn flip_covered(
     g: Lookup,
     images: &[u8],
@@ -82,19 +106,9 @@ pub fn flip_covered(
     ensures { λ r. ⌜ r ≡ covered (permutationsIn (g .variables) (g .permutations) (now (images .entry)))
         (take k (pointsOf (now (points .entry)))) (flip x v) ⌝ }
 {
-    let n = g.variables;
     let flipped = points::flip(x, v);
-    if contains(n, points, links, g.heads, k, flipped) {
+    if contains(g.variables, points, links, g.heads, k, flipped) {
         return true;
     }
-    let permutations = g.permutations as usize;
-    let mut i = 0;
-    while i < permutations {
-        let image = flipped_image(n, images, moved, i, v);
-        if contains(n, points, links, g.heads, k, image) {
-            return true;
-        }
-        i += 1;
-    }
-    false
+    image_covered(g, images, points, links, moved, k, x, v)
 }

@@ -2,13 +2,16 @@
 // the image of variable 1 first.
 use points::Clause;
 use points::Point;
+ghost use mathlib.Core.Bool.{cond};
 ghost use mathlib.Core.Path.{_≡_};
-ghost use Prim.Native.Nat.{_+_, _*_, _≤_};
+ghost use Prim.Native.Nat.{_+_, _*_, _^_, _≤_, _<_};
+ghost use lib.Bits.{bitOr};
+ghost use lib.Dec.{eqb};
 ghost use lib.ListN.{length, take, drop};
 ghost use Rattle.points.specs.Points.{pointDigits};
 ghost use Rattle.points.specs.Laws.Contracts.{clauseOf};
 ghost use Rattle.permutation_theory.specs.Permutations.{isPermutation, moved, imageOfPoint, imageOfClause};
-ghost use Rattle.permutation_images.specs.Laws.Contracts.{Movable, fresh};
+ghost use Rattle.permutation_images.specs.Laws.Contracts.{Movable, Fixes, fresh};
 
 // Whether v is one of 1 to n and not in the set of those seen.
 fn fresh(n: u32, seen: Point, v: u32) -> bool
@@ -44,8 +47,8 @@ pub fn is_permutation(n: u32, e: &[u8]) -> bool
     true
 }
 
-// Where a permutation sends the variables of a set. One step a variable. Refusal 11 sees to what it requires.
-pub fn moved(e: &[u8], s: Point) -> Point
+// Where a permutation sends the variables of a set: one step a variable, whether it is in the set or not.
+fn moved_all(e: &[u8], s: Point) -> Point
     requires { ⌜ Movable (now e) ⌝ }
     ensures { λ r. ⌜ r ≡ moved (now (e .entry)) s ⌝ }
 {
@@ -61,6 +64,66 @@ pub fn moved(e: &[u8], s: Point) -> Point
     r
 }
 
+// The same, lowest variable first: one step for each variable of the set.
+fn moved_few(e: &[u8], s: Point) -> Point
+    requires { ⌜ Movable (now e) ⌝ }
+    ensures { λ r. ⌜ r ≡ moved (now (e .entry)) s ⌝ }
+{
+    let n = e.len() as u32;
+    let mut r = points::EMPTY;
+    let mut left = s;
+    let mut v = points::next_variable(left);
+    while v < n {
+        let image = e[v as usize] - 1;
+        r = points::with_variable(r, image as u32);
+        left = points::flip(left, v);
+        v = points::next_variable(left);
+    }
+    r
+}
+
+// The same: a set of at most half of the variables goes variable by variable, which takes twice as long a step. Refusal
+// 11 sees to what it requires.
+pub fn moved(e: &[u8], s: Point) -> Point
+    requires { ⌜ Movable (now e) ⌝ }
+    ensures { λ r. ⌜ r ≡ moved (now (e .entry)) s ⌝ }
+{
+    let size = points::distance(s, points::EMPTY);
+    if 2 * size as usize <= e.len() {
+        moved_few(e, s)
+    } else {
+        moved_all(e, s)
+    }
+}
+
+// The set r, with the variable of bit v where the image of that is its own number.
+fn with_fixed(r: Point, v: u32, image: u32) -> Point
+    requires { ⌜ v < pointDigits ⌝ }
+    ensures { λ t. ⌜ t ≡ cond (eqb image (v + 1)) (bitOr r (2 ^ v)) r ⌝ }
+{
+    if image == v + 1 {
+        points::with_variable(r, v)
+    } else {
+        r
+    }
+}
+
+// The set of the variables that a permutation sends to themselves. One step a variable. Refusal 11 sees to what it
+// requires.
+pub fn fixed(e: &[u8]) -> Point
+    requires { ⌜ Movable (now e) ⌝ }
+    ensures { λ r. ⌜ Fixes (now (e .entry)) (length (now (e .entry))) r ⌝ }
+{
+    let mut r = points::EMPTY;
+    let mut i = 0;
+    while i < e.len() {
+        let image = e[i] as u32;
+        r = with_fixed(r, i as u32, image);
+        i += 1;
+    }
+    r
+}
+
 // The image of a point, by its definition. Nothing calls it today: the search and the checker turn the image of one
 // point into that of the next; it is for a point of which no neighbour's image is at hand.
 pub fn image_of_point(e: &[u8], x: Point) -> Point
@@ -70,14 +133,25 @@ pub fn image_of_point(e: &[u8], x: Point) -> Point
     moved(e, x)
 }
 
-// The image of a clause.
-pub fn image_of_clause(e: &[u8], c: Clause) -> Clause
-    requires { ⌜ Movable (now e) ⌝ }
+// The image of a set of variables, of which those in `fixed` stay: one step for each of the others.
+fn image_of_set(e: &[u8], fixed: Point, s: Point) -> Point
+    requires { ⌜ Movable (now e) × Fixes (now e) (length (now e)) fixed ⌝ }
+    ensures { λ r. ⌜ r ≡ moved (now (e .entry)) s ⌝ }
+{
+    let staying = points::common(s, fixed);
+    let leaving = points::differing(s, staying);
+    let arrived = moved(e, leaving);
+    points::union(staying, arrived)
+}
+
+// The image of a clause; `fixed` has variables that the permutation sends to themselves.
+pub fn image_of_clause(e: &[u8], fixed: Point, c: Clause) -> Clause
+    requires { ⌜ Movable (now e) × Fixes (now e) (length (now e)) fixed ⌝ }
     ensures { λ r. ⌜ clauseOf r ≡ imageOfClause (record { images = now (e .entry) }) (clauseOf c) ⌝ }
 {
     Clause {
-        positive: moved(e, c.positive),
-        negative: moved(e, c.negative),
+        positive: image_of_set(e, fixed, c.positive),
+        negative: image_of_set(e, fixed, c.negative),
     }
 }
 

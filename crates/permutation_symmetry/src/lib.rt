@@ -1,19 +1,25 @@
 // Whether a permutation keeps the clauses and so is a symmetry of the formula, with guesses where an image may stand.
-use crate::guesses::ENTRIES;
+use crate::guesses::FEW_CLAUSES;
+use crate::guesses::FEW_ENTRIES;
+use crate::guesses::MOST_ENTRIES;
 use crate::guesses::guessed;
 use crate::guesses::make_guesses;
+use permutation_images::fixed;
 use permutation_images::image_of_clause;
 use permutation_images::permutation_at;
 use point_slices::clause_at;
 use point_slices::clause_count;
 use points::Clause;
+use points::Point;
 ghost use mathlib.Core.Path.{_≡_};
+ghost use Prim.Native.Nat.{_<_};
+ghost use lib.ListN.{length, getD};
 ghost use Rattle.math.specs.Lists.{any, firstFailing};
 ghost use Rattle.point_slices.specs.Laws.Contracts.{lentClauses};
 ghost use Rattle.points.specs.Laws.Contracts.{clauseOf};
-ghost use Rattle.points.specs.Points.{numbered};
-ghost use Rattle.permutation_theory.specs.Permutations.{sameClause, keeps, permutationsIn};
-ghost use Rattle.permutation_images.specs.Laws.Contracts.{Movable, Listed};
+ghost use Rattle.points.specs.Points.{numbered, emptyClause};
+ghost use Rattle.permutation_theory.specs.Permutations.{sameClause, imageAmong, keeps, permutationsIn};
+ghost use Rattle.permutation_images.specs.Laws.Contracts.{Movable, Fixes, Listed};
 
 mod guesses;
 
@@ -47,19 +53,45 @@ fn has_clause(positive: &[u64], negative: &[u64], guesses: &[u32], c: Clause) ->
     false
 }
 
-// Whether the image of each clause is among the clauses. For each clause an image, 2n steps, and about one comparison
-// where the guesses have it, never more than 16 and one a clause.
+// Whether the image of the clause at index i is among the clauses; `fixed` has variables that the permutation sends to
+// themselves. A clause of these alone is its own image, and no guess is asked for. `keeps` sees to what it requires.
+fn image_stands(
+    e: &[u8],
+    fixed: Point,
+    positive: &[u64],
+    negative: &[u64],
+    guesses: &[u32],
+    i: usize,
+) -> bool
+    requires { ⌜ Movable (now e) × Fixes (now e) (length (now e)) fixed
+        × (i < length (lentClauses (now positive) (now negative))) ⌝ }
+    ensures { λ r. ⌜ r ≡ imageAmong (lentClauses (now (positive .entry)) (now (negative .entry)))
+        (record { images = now (e .entry) })
+        (getD (lentClauses (now (positive .entry)) (now (negative .entry))) i emptyClause) ⌝ }
+{
+    let c = clause_at(positive, negative, i);
+    let listed = points::listed(c);
+    let staying = points::common(listed, fixed);
+    if points::same(staying, listed) {
+        return true;
+    }
+    let image = image_of_clause(e, fixed, c);
+    has_clause(positive, negative, guesses, image)
+}
+
+// Whether the image of each clause is among the clauses: n steps for the permutation; then, for each clause that it
+// changes, one step for each literal moved, or 2n where these are many, and about one comparison where the guesses have
+// its image, never more than 16 and one a clause.
 fn keeps(e: &[u8], positive: &[u64], negative: &[u64], guesses: &[u32]) -> bool
     requires { ⌜ Movable (now e) ⌝ }
     ensures { λ r. ⌜ r ≡ keeps (numbered (lentClauses (now (positive .entry)) (now (negative .entry))))
         (record { images = now (e .entry) }) ⌝ }
 {
+    let still = fixed(e);
     let end = clause_count(positive, negative);
     let mut i = 0;
     while i < end {
-        let c = clause_at(positive, negative, i);
-        let image = image_of_clause(e, c);
-        let kept = has_clause(positive, negative, guesses, image);
+        let kept = image_stands(e, still, positive, negative, guesses, i);
         if !kept {
             return false;
         }
@@ -95,8 +127,43 @@ fn first_not_kept(
     0
 }
 
+// The same, with guesses for few clauses: 2 KiB of the stack.
+fn with_few_guesses(
+    n: u32,
+    permutations: u32,
+    images: &[u8],
+    positive: &[u64],
+    negative: &[u64],
+) -> usize
+    requires { ⌜ Listed n permutations (now images) ⌝ }
+    ensures { λ r. ⌜ r ≡ firstFailing (keeps (numbered (lentClauses (now (positive .entry)) (now (negative .entry)))))
+        (permutationsIn n permutations (now (images .entry))) ⌝ }
+{
+    let mut guesses = [0u32; FEW_ENTRIES];
+    make_guesses(positive, negative, &mut guesses);
+    first_not_kept(n, permutations, images, positive, negative, &guesses)
+}
+
+// The same, with guesses for as many clauses as there can be: 32 KiB of the stack.
+fn with_most_guesses(
+    n: u32,
+    permutations: u32,
+    images: &[u8],
+    positive: &[u64],
+    negative: &[u64],
+) -> usize
+    requires { ⌜ Listed n permutations (now images) ⌝ }
+    ensures { λ r. ⌜ r ≡ firstFailing (keeps (numbered (lentClauses (now (positive .entry)) (now (negative .entry)))))
+        (permutationsIn n permutations (now (images .entry))) ⌝ }
+{
+    let mut guesses = [0u32; MOST_ENTRIES];
+    make_guesses(positive, negative, &mut guesses);
+    first_not_kept(n, permutations, images, positive, negative, &guesses)
+}
+
 // E3: the number, from 1, of the first of the listed permutations that does not keep the clauses; 0 if all do. Guesses
-// are made once for all, 32 KiB of the stack. Refusal 11 sees to what it requires.
+// are made once for all. Refusal 11 sees to what it requires: the permutations lie in the bytes, so it never calls
+// itself, and the call keeps the arrays out of this function and its callers, whose frames are then small.
 pub fn first_non_symmetry(
     n: u32,
     permutations: u32,
@@ -108,7 +175,13 @@ pub fn first_non_symmetry(
     ensures { λ r. ⌜ r ≡ firstFailing (keeps (numbered (lentClauses (now (positive .entry)) (now (negative .entry)))))
         (permutationsIn n permutations (now (images .entry))) ⌝ }
 {
-    let mut guesses = [0u32; ENTRIES];
-    make_guesses(positive, negative, &mut guesses);
-    first_not_kept(n, permutations, images, positive, negative, &guesses)
+    let count = clause_count(positive, negative);
+    if count <= FEW_CLAUSES {
+        return with_few_guesses(n, permutations, images, positive, negative);
+    }
+    let area = permutations as usize * n as usize;
+    if area <= images.len() {
+        return with_most_guesses(n, permutations, images, positive, negative);
+    }
+    first_non_symmetry(n, permutations, images, positive, negative)
 }

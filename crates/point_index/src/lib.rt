@@ -13,7 +13,7 @@ ghost use lib.ListN.{take};
 ghost use Rattle.math.specs.Bits.{bit};
 ghost use Rattle.math.specs.Lists.{has};
 ghost use Rattle.point_slices.specs.Slices.{pointsOf};
-ghost use Rattle.point_index.specs.Laws.Index.{headOf, childOf};
+ghost use Rattle.point_index.specs.Laws.Index.{hashOf, HasHeads, headOf, childOf};
 ghost use Rattle.point_index.specs.Laws.Looking.{Askable, Addable, Ends, Adds};
 
 // Where a look-up ended: whether at the point itself, and the link.
@@ -22,16 +22,23 @@ pub struct Spot {
     pub link: usize,
 }
 
-// The head link of a point: a hash of its halves. A leaf function on points, kept beside the tree;
-// `permutation_symmetry::guesses` hashes clauses by it.
-pub fn head_of(x: Point, heads: usize) -> usize
-    requires { ⌜ 1 ≤ heads ⌝ }
-    ensures { λ r. ⌜ r ≡ headOf heads x ⌝ }
+// A hash of a point, of its halves. A leaf function on points, kept beside the tree; `permutation_symmetry::guesses`
+// hashes clauses by it.
+pub fn hash_of(x: Point) -> usize
+    ensures { λ r. ⌜ (r ≡ hashOf x) × (r < 4294967296) ⌝ }
 {
     let low = x % 4294967296 * 1640531527;
     let high = x / 4294967296 * 1779033703;
-    let mixed = (low + high) / 4294967296;
-    mixed as usize % heads
+    let mixed = (low + high) % 4294967296;
+    mixed as usize
+}
+
+// The head link of a point: a product and a quotient by a power of two bring its hash below the number of heads.
+fn head_of(x: Point, heads: usize) -> usize
+    requires { ⌜ HasHeads heads ⌝ }
+    ensures { λ r. ⌜ r ≡ headOf heads x ⌝ }
+{
+    hash_of(x) * heads / 4294967296
 }
 
 // The link of point j for the digit d of x.

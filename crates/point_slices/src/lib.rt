@@ -9,7 +9,8 @@ ghost use Prim.Native.Nat.{min, _≤_};
 ghost use lib.ListN.{length, getD, set, take};
 ghost use Rattle.point_slices.specs.Laws.Contracts.{lentClauses};
 ghost use Rattle.points.specs.Laws.Contracts.{clauseOf};
-ghost use Rattle.points.specs.Points.{firstFalsified, numbered, numberOf, emptyClause};
+ghost use Rattle.points.specs.Points.{satisfies, firstFalsified, numbered, numberOf, emptyClause};
+ghost use Rattle.point_slices.specs.Laws.SliceLaws.{falsifiedFrom};
 ghost use Rattle.point_slices.specs.Slices.{pointsOf, restOf};
 
 // How many points a slice holds.
@@ -100,20 +101,60 @@ pub fn clause_at(positive: &[u64], negative: &[u64], i: usize) -> Clause
     }
 }
 
-// The number, from 1, of the first clause that the point falsifies; 0 where it satisfies all. One step a clause.
-pub fn first_falsified(positive: &[u64], negative: &[u64], x: Point) -> usize
-    ensures { λ r. ⌜ r ≡ numberOf (firstFalsified (numbered
-        (lentClauses (now (positive .entry)) (now (negative .entry)))) x) ⌝ }
+// Whether the point satisfies the clause at index i.
+fn satisfies_at(positive: &[u64], negative: &[u64], i: usize, x: Point) -> bool
+    ensures { λ r. ⌜ r ≡ satisfies (getD (lentClauses (now (positive .entry)) (now (negative .entry))) i emptyClause) x
+        ⌝ }
+{
+    let c = clause_at(positive, negative, i);
+    points::satisfies(c, x)
+}
+
+// How many of the first clauses can be skipped, since the point satisfies them: four are tested together, so that no
+// step waits for the one before, until one of four is falsified or fewer are left.
+fn satisfied_first(positive: &[u64], negative: &[u64], x: Point) -> usize
+    ensures { λ r. ⌜ falsifiedFrom (lentClauses (now (positive .entry)) (now (negative .entry))) x 0
+        ≡ falsifiedFrom (lentClauses (now (positive .entry)) (now (negative .entry))) x r ⌝ }
 {
     let end = clause_count(positive, negative);
     let mut i = 0;
+    while i + 4 <= end {
+        let a = satisfies_at(positive, negative, i, x);
+        let b = satisfies_at(positive, negative, i + 1, x);
+        let c = satisfies_at(positive, negative, i + 2, x);
+        let d = satisfies_at(positive, negative, i + 3, x);
+        let met = (a & b) & (c & d);
+        if !met {
+            return i;
+        }
+        i += 4;
+    }
+    i
+}
+
+// The number, from 1, of the first clause from index `from` on that the point falsifies; 0 where there is none. One
+// step a clause.
+fn falsified_from(positive: &[u64], negative: &[u64], from: usize, x: Point) -> usize
+    ensures { λ r. ⌜ r ≡ falsifiedFrom (lentClauses (now (positive .entry)) (now (negative .entry))) x from ⌝ }
+{
+    let end = clause_count(positive, negative);
+    let mut i = from;
     while i < end {
-        let c = clause_at(positive, negative, i);
-        let met = points::satisfies(c, x);
+        let met = satisfies_at(positive, negative, i, x);
         if !met {
             return i + 1;
         }
         i += 1;
     }
     0
+}
+
+// The number, from 1, of the first clause that the point falsifies; 0 where it satisfies all. One step for four
+// clauses, and at most four more.
+pub fn first_falsified(positive: &[u64], negative: &[u64], x: Point) -> usize
+    ensures { λ r. ⌜ r ≡ numberOf (firstFalsified (numbered
+        (lentClauses (now (positive .entry)) (now (negative .entry)))) x) ⌝ }
+{
+    let from = satisfied_first(positive, negative, x);
+    falsified_from(positive, negative, from, x)
 }

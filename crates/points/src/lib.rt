@@ -2,7 +2,7 @@
 // hash in `point_index::head_of` and the bytes of a certificate.
 ghost use mathlib.Core.Path.{_≡_};
 ghost use Prim.Native.Nat.{_<_, _*_, _/_, _%_, _^_};
-ghost use lib.Bits.{bitOr, bitXor};
+ghost use lib.Bits.{bitAnd, bitOr, bitXor};
 ghost use lib.Dec.{eqb, ltb};
 ghost use Rattle.math.specs.Bits.{bit, flip};
 ghost use Rattle.points.specs.Points.{pointDigits, satisfies, distance, listed};
@@ -102,11 +102,11 @@ pub fn distance(x: Point, y: Point) -> u32
     u64::count_ones(x ^ y)
 }
 
-// Whether a point satisfies a clause.
+// Whether a point satisfies a clause: whether one of its literals is met.
 pub fn satisfies(c: Clause, x: Point) -> bool
     ensures { λ r. ⌜ r ≡ satisfies (clauseOf c) x ⌝ }
 {
-    (x & c.positive != 0) | (x & c.negative != c.negative)
+    (x & c.positive) | ((x ^ c.negative) & c.negative) != 0
 }
 
 // The set of the variables that a clause lists.
@@ -114,4 +114,18 @@ pub fn listed(c: Clause) -> Point
     ensures { λ r. ⌜ r ≡ listed (clauseOf c) ⌝ }
 {
     c.positive | c.negative
+}
+
+// The set of the variables that two sets have in common.
+pub fn common(s: Point, t: Point) -> Point
+    ensures { λ r. ⌜ r ≡ bitAnd s t ⌝ }
+{
+    s & t
+}
+
+// The set of the variables that one of two sets has.
+pub fn union(s: Point, t: Point) -> Point
+    ensures { λ r. ⌜ r ≡ bitOr s t ⌝ }
+{
+    s | t
 }

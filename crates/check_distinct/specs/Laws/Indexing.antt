@@ -10,7 +10,7 @@ use Rattle.math.specs.Laws.ScanLaws.{onFrom}
 use Rattle.formula.specs.Limits.{maxVariables, maxSlots}
 use Rattle.formula.specs.Reply.{Fault, no-fault}
 use Rattle.certificate.specs.Rows.{pointPasses, pointsFault}
-use Rattle.point_index.specs.Laws.Index.{Indexed}
+use Rattle.point_index.specs.Laws.Index.{HasHeads, Indexed}
 use Rattle.point_index.specs.Laws.Looking.{AllZero}
 
 -- the links are an index of the first i points, with room for the next, whose number fits a link
@@ -29,7 +29,7 @@ pub record Grows (heads n i : ℕ) (points : List ℕ) (passes : Bool) (links′
 -- links that are all 0, with room for `count` points, whose numbers fit them
 pub record Indexable (heads n count : ℕ) (points links : List ℕ) : Type 0 where
   pub few : n ≤ maxVariables
-  pub headed : 1 ≤ heads
+  pub headed : HasHeads heads
   pub enough : count ≤ length points
   pub small : count < 4294967296
   pub room : heads + 2 * count ≤ length links

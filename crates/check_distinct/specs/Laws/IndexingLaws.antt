@@ -160,7 +160,7 @@ links-indexable l c =
     let most = l .most in
     record {
       few = c .few;
-      headed = l .headed;
+      headed = (l .headed, omega arith);
       enough = c .enough;
       small = omega arith;
       room = omega arith;

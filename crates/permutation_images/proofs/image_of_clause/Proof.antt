@@ -6,15 +6,15 @@ use Rattle.permutation_theory.specs.Permutations.{imageOfClause}
 use Rattle.permutation_images.proofs.image_of_clause.Statement.{statement}
 use Rattle.permutation_images.proofs.image_of_clause.Tie as tie
 
-moved-requires : tie.Need-moved-requires
-moved-requires c κs = search needs
+image-of-set-requires : tie.Need-image-of-set-requires
+image-of-set-requires c κs = search needs
 
-moved-requires-2 : tie.Need-moved-requires-2
-moved-requires-2 c κs = search needs
+image-of-set-requires-2 : tie.Need-image-of-set-requires-2
+image-of-set-requires-2 c κs = search needs
 
 returns : tie.Need-returns
 unfolding imageOfClause
-returns c = ap₂ (λ p n. let d : Clause = record { positive = p; negative = n } in d) (c .before .moved .ensures) (c .moved2 .ensures)
+returns c = ap₂ (λ p n. let d : Clause = record { positive = p; negative = n } in d) (c .before .image-of-set .ensures) (c .image-of-set2 .ensures)
 
 pub image-of-clause-spec : {M : Type 1} → statement M
-image-of-clause-spec = tie.close (tie.spec moved-requires moved-requires-2 returns)
+image-of-clause-spec = tie.close (tie.spec image-of-set-requires image-of-set-requires-2 returns)

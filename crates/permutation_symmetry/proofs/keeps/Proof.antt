@@ -1,28 +1,28 @@
 -- `permutation_symmetry::keeps` meets its contract: whether every image is among the clauses is, at index i, whether
 -- those of the clauses from i on are. Assumes nothing.
-use mathlib.Core.Path.{_≡_, refl, sym, ap, _∙_}
+use mathlib.Core.Path.{_≡_, refl, sym, _∙_}
 use Prim.Native.Nat.{_-_}
 use native.Mathlib.Omega.{arith}
-use lib.ListN.{length, getD, drop}
+use lib.ListN.{length, drop}
 use borrow.Author.Needs.{needs}
 use borrow.Author.Tests.{not-true, not-false}
-use Rattle.math.specs.Lists.{any, all}
+use Rattle.math.specs.Lists.{all}
 use Rattle.math.specs.Laws.ScanLaws.{all-ends, all-stops, all-goes-on}
 use Rattle.point_slices.specs.Laws.Contracts.{lentClauses}
 use Rattle.points.specs.Points.{emptyClause}
 use Rattle.permutation_images.specs.Laws.LoopLaws.{keeps-numbered}
-use Rattle.permutation_theory.specs.Permutations.{imageAmong, sameClause}
+use Rattle.permutation_theory.specs.Permutations.{imageAmong}
 use Rattle.permutation_symmetry.proofs.keeps.Statement.{statement}
 use Rattle.permutation_symmetry.proofs.keeps.Tie as tie
 
 abbrev Inv-loop : tie.InvT-loop
-Inv-loop e positive negative guesses end i₀ i =
+Inv-loop e positive negative guesses still end i₀ i =
     (end ≡ length (lentClauses positive negative))
     × (all (imageAmong (lentClauses positive negative) (record { images = e })) (lentClauses positive negative)
     ≡ all (imageAmong (lentClauses positive negative) (record { images = e })) (drop i (lentClauses positive negative)))
 
 abbrev μ-loop : tie.MeasureT-loop
-μ-loop e positive negative guesses end i₀ i = end - i
+μ-loop e positive negative guesses still end i₀ i = end - i
 
 clause-count-requires : tie.Need-clause-count-requires Inv-loop μ-loop
 clause-count-requires c κs = search needs
@@ -30,35 +30,18 @@ clause-count-requires c κs = search needs
 loop-holds : tie.Need-loop-holds Inv-loop μ-loop
 loop-holds c = (c .clause-count .ensures, refl)
 
-clause-at-requires : tie.Need-clause-at-requires Inv-loop μ-loop
-clause-at-requires c κs = search needs
-
-image-of-clause-requires : tie.Need-image-of-clause-requires Inv-loop μ-loop
-image-of-clause-requires c κs = search needs
-
-has-clause-requires : tie.Need-has-clause-requires Inv-loop μ-loop
-has-clause-requires c κs = search needs
-
--- what the test says of the clause at i
-tested : (c : tie.After-has-clause Inv-loop μ-loop)
-    → imageAmong (lentClauses (c .before .before .before .before .before .before .before .before .before .before .args .positive .now) (c .before .before .before .before .before .before .before .before .before .before .args .negative .now)) (record { images = c .before .before .before .before .before .before .before .before .before .before .args .e .now })
-    (getD (lentClauses (c .before .before .before .before .before .before .before .before .before .before .args .positive .now) (c .before .before .before .before .before .before .before .before .before .before .args .negative .now)) (c .before .before .before .before .loop .i) emptyClause)
-    ≡ c .has-clause .result
-tested c =
-    let a = c .before .before .before .before .before .before .before .before .before .before .args in
-    let cs = lentClauses (a .positive .now) (a .negative .now) in
-    ap (imageAmong cs (record { images = a .e .now })) (sym (c .before .before .clause-at .ensures))
-    ∙ ap (λ d. any (sameClause d) cs) (sym (c .before .image-of-clause .ensures)) ∙ sym (c .has-clause .ensures)
+image-stands-requires : tie.Need-image-stands-requires Inv-loop μ-loop
+image-stands-requires c κs = (c .before .before .before .before .before .before .before .before .pre, c .before .before .before .fixed .ensures, omega (arith, c .before .loop .inv .0))
 
 returns : tie.Need-returns Inv-loop μ-loop
 returns c =
-    let l = c .before .before .before .before .before .loop in
-    sym (keeps-numbered _ _ ∙ l .inv .1 ∙ all-stops (imageAmong _ _) _ emptyClause (l .i) (omega arith) (tested (c .before) ∙ not-true _ (c .if1 .taken)))
+    let l = c .before .before .before .loop in
+    sym (keeps-numbered _ _ ∙ l .inv .1 ∙ all-stops (imageAmong _ _) _ emptyClause (l .i) (omega arith) (sym (c .before .image-stands .ensures) ∙ not-true _ (c .if1 .taken)))
 
 loop-again : tie.Need-loop-again Inv-loop μ-loop
 loop-again c =
-    let l = c .before .before .before .before .before .loop in
-    (l .inv .0, l .inv .1 ∙ all-goes-on (imageAmong _ _) _ emptyClause (l .i) (omega arith) (tested (c .before) ∙ not-false _ (c .if1 .left)))
+    let l = c .before .before .before .loop in
+    (l .inv .0, l .inv .1 ∙ all-goes-on (imageAmong _ _) _ emptyClause (l .i) (omega arith) (sym (c .before .image-stands .ensures) ∙ not-false _ (c .if1 .left)))
 
 returns-2 : tie.Need-returns-2 Inv-loop μ-loop
 returns-2 c =
@@ -71,11 +54,10 @@ keeps-spec =
     (tie.spec
     Inv-loop
     μ-loop
+    (λ c κs. search needs)
     clause-count-requires
     loop-holds
-    clause-at-requires
-    image-of-clause-requires
-    has-clause-requires
+    image-stands-requires
     returns
     (λ c. search needs)
     (λ c. search needs)

@@ -1,11 +1,12 @@
 -- Laws of images under a permutation: the computed image is the one that the sentence fixes, and that of a flipped
 -- point is the flipped image. Assumes nothing.
-use mathlib.Core.Bool.{false, _&&_, _||_, and-true, and-false, or-false, xor}
+use mathlib.Core.Bool.{true, false, _&&_, _||_, and-true, and-false, or-false, xor, true≢false}
 use mathlib.Core.List.{List, [], _∷_, List·Memᴰ·head, List·Memᴰ·tail}
+use mathlib.Core.Logic.{⊎-elim}
 use mathlib.Core.Path.{_≡_, refl, sym, ap, ap₂, _∙_, subst}
-use Prim.Native.Nat.{ℕ, zero, suc, _-_, _*_, _/_, _%_, _^_, _≤_, _<_}
+use Prim.Native.Nat.{ℕ, zero, suc, _-_, _*_, _/_, _%_, _^_, _≤_, _<_, suc-le-suc}
 use native.Mathlib.Nat.{zero-mul, one-mul, not-suc-le-zero, le-of-suc-le-suc, lt-of-le-of-lt, mul-le-mul-right}
-use native.Mathlib.Nat.{le-of-eq}
+use native.Mathlib.Nat.{le-of-eq, zero-lt-suc}
 use native.Mathlib.Omega.{arith}
 use lib.Bits.{bitOr, or-lt, or-zero-r}
 use lib.Dec.{eqb}
@@ -13,10 +14,11 @@ use lib.ListN.{length, getD}
 use lib.Pow.{pow-pos, pow-lt}
 use borrow.Author.Tests.{eqb-true, eq-eqb, ne-eqb}
 use Rattle.math.specs.Laws.BitLaws.{digit-lt, bit-zero, bit-suc, bit-of-zero, bit-or, bit-pow, bit-flip, flip-lt}
-use Rattle.math.specs.Laws.BitLaws.{bits-ext-below}
+use Rattle.math.specs.Laws.BitLaws.{bits-ext-below, bits-ext, no-bits}
 use Rattle.math.specs.Bits.{bit, flip}
 use Rattle.math.specs.Laws.CountLaws.{distinct-index}
-use Rattle.math.specs.Laws.ListLaws.{here, getD-in, in-getD, or-none, same-tests}
+use Rattle.math.specs.Laws.ListLaws.{here, getD-in, in-getD, or-none, same-tests, or-left, or-right}
+use Rattle.math.specs.Laws.ListLaws.{or-split, and-split, and-join, not-true-false}
 use Rattle.math.specs.Lists.{_∈_, Distinct, distinct-cons}
 use Rattle.permutation_theory.specs.Laws.PermutationLaws.{permutation-within, permutation-distinct}
 use Rattle.permutation_theory.specs.Laws.PermutationLaws.{permutation-onto}
@@ -85,6 +87,104 @@ moved-at (v ∷ vs) s (suc i) (distinct-cons new d) pos h =
   where
     same : (u : ℕ) → v - 1 ≡ u - 1 → 1 ≤ v → 1 ≤ u → u ≡ v
     same u e hv hu = omega arith
+
+-- ---- which variables are sent where, whatever the numbers are
+
+-- a variable of the set is sent where its number points
+pub moved-to : (vs : List ℕ) (s i : ℕ) → i < length vs → bit s i ≡ true → bit (moved vs s) (getD vs i 0 - 1) ≡ true
+moved-to [] s i h e = absurd (not-suc-le-zero h)
+moved-to (v ∷ vs) s zero h e =
+    step v vs s (v - 1)
+    ∙ or-left (eqb (s % 2) 1 && eqb (v - 1) (v - 1)) (bit (moved vs (s / 2)) (v - 1))
+    (and-join (eqb (s % 2) 1) (eqb (v - 1) (v - 1)) (sym (bit-zero s) ∙ e) (eq-eqb (v - 1) (v - 1) refl))
+moved-to (v ∷ vs) s (suc i) h e =
+    step v vs s (getD vs i 0 - 1)
+    ∙ or-right (eqb (s % 2) 1 && eqb (v - 1) (getD vs i 0 - 1)) (bit (moved vs (s / 2)) (getD vs i 0 - 1))
+    (moved-to vs (s / 2) i (le-of-suc-le-suc h) (sym (bit-suc s i) ∙ e))
+
+-- the variable j comes from one of the set
+pub record Source (vs : List ℕ) (s j : ℕ) : Type 0 where
+  pub from : ℕ
+  pub within : from < length vs
+  pub member : bit s from ≡ true
+  pub sent : getD vs from 0 - 1 ≡ j
+
+pub moved-from : (vs : List ℕ) (s j : ℕ) → bit (moved vs s) j ≡ true → Source vs s j
+unfolding moved
+moved-from [] s j e = absurd (true≢false (sym e ∙ bit-of-zero j))
+moved-from (v ∷ vs) s j e =
+    ⊎-elim first (λ h. rest (moved-from vs (s / 2) j h))
+    (or-split (eqb (s % 2) 1 && eqb (v - 1) j) (bit (moved vs (s / 2)) j) (sym (step v vs s j) ∙ e))
+  where
+    first : eqb (s % 2) 1 && eqb (v - 1) j ≡ true → Source (v ∷ vs) s j
+    first h =
+        let both = and-split (eqb (s % 2) 1) (eqb (v - 1) j) h in
+        record { from = 0; within = zero-lt-suc (length vs); member = bit-zero s ∙ both .0; sent = eqb-true (v - 1) j (both .1) }
+
+    rest : Source vs (s / 2) j → Source (v ∷ vs) s j
+    rest w =
+        record {
+          from = suc (w .from);
+          within = suc-le-suc (w .within);
+          member = bit-suc s (w .from) ∙ w .member;
+          sent = w .sent;
+        }
+
+-- of a set without variables that the list has a number for nothing is sent
+pub moved-idle : (vs : List ℕ) (s : ℕ) → ((i : ℕ) → i < length vs → bit s i ≡ false) → moved vs s ≡ 0
+moved-idle vs s none =
+    no-bits (moved vs s) (λ j. not-true-false (bit (moved vs s) j) (λ e. let w = moved-from vs s j e in
+    true≢false (sym (w .member) ∙ none (w .from) (w .within))))
+
+-- a set that is made of two is sent where these are sent
+pub moved-union : (vs : List ℕ) (s a b : ℕ) → ((i : ℕ) → bit s i ≡ bit a i || bit b i)
+    → moved vs s ≡ bitOr (moved vs a) (moved vs b)
+moved-union vs s a b made =
+    bits-ext (moved vs s) (bitOr (moved vs a) (moved vs b))
+    (λ j. same-tests (bit (moved vs s) j) (bit (bitOr (moved vs a) (moved vs b)) j) (apart j) (together j))
+  where
+    one : (t : ℕ) (j : ℕ) → ((i : ℕ) → bit t i ≡ true → bit s i ≡ true) → bit (moved vs t) j ≡ true
+        → bit (moved vs s) j ≡ true
+    one t j sub e =
+        let w = moved-from vs t j e in
+        ap (bit (moved vs s)) (sym (w .sent)) ∙ moved-to vs s (w .from) (w .within) (sub (w .from) (w .member))
+
+    together : (j : ℕ) → bit (bitOr (moved vs a) (moved vs b)) j ≡ true → bit (moved vs s) j ≡ true
+    together j e =
+        ⊎-elim (one a j (λ i m. made i ∙ or-left (bit a i) (bit b i) m))
+        (one b j (λ i m. made i ∙ or-right (bit a i) (bit b i) m))
+        (or-split (bit (moved vs a) j) (bit (moved vs b) j) (sym (bit-or (moved vs a) (moved vs b) j) ∙ e))
+
+    apart : (j : ℕ) → bit (moved vs s) j ≡ true → bit (bitOr (moved vs a) (moved vs b)) j ≡ true
+    apart j e =
+        let w = moved-from vs s j e in
+        let i = w .from in
+        let there : (t : ℕ) → bit t i ≡ true → bit (moved vs t) j ≡ true =
+        λ t m. ap (bit (moved vs t)) (sym (w .sent)) ∙ moved-to vs t i (w .within) m in
+        bit-or (moved vs a) (moved vs b) j
+        ∙ ⊎-elim (λ m. or-left (bit (moved vs a) j) (bit (moved vs b) j) (there a m))
+        (λ m. or-right (bit (moved vs a) j) (bit (moved vs b) j) (there b m))
+        (or-split (bit a i) (bit b i) (sym (made i) ∙ w .member))
+
+-- a set of variables that are sent to themselves stays
+pub moved-still : (vs : List ℕ) (s : ℕ)
+    → ((i : ℕ) → bit s i ≡ true → (i < length vs) × (getD vs i 0 - 1 ≡ i)) → moved vs s ≡ s
+moved-still vs s still =
+    bits-ext (moved vs s) s (λ j. same-tests (bit (moved vs s) j) (bit s j)
+    (λ e. let w = moved-from vs s j e in
+    ap (bit s) (sym (w .sent) ∙ still (w .from) (w .member) .1) ∙ w .member)
+    (λ e. let w = still j e in ap (bit (moved vs s)) (sym (w .1)) ∙ moved-to vs s j (w .0) e))
+
+-- one variable is sent where its number points
+pub moved-one : (vs : List ℕ) (v : ℕ) → v < length vs → moved vs (2 ^ v) ≡ 2 ^ (getD vs v 0 - 1)
+moved-one vs v lt =
+    bits-ext (moved vs (2 ^ v)) (2 ^ (getD vs v 0 - 1)) (λ j. same-tests (bit (moved vs (2 ^ v)) j)
+    (bit (2 ^ (getD vs v 0 - 1)) j)
+    (λ e. let w = moved-from vs (2 ^ v) j e in
+    let from : v ≡ w .from = eqb-true v (w .from) (sym (bit-pow v (w .from)) ∙ w .member) in
+    bit-pow (getD vs v 0 - 1) j ∙ eq-eqb (getD vs v 0 - 1) j (ap (λ i. getD vs i 0 - 1) from ∙ w .sent))
+    (λ e. let at = eqb-true (getD vs v 0 - 1) j (sym (bit-pow (getD vs v 0 - 1) j) ∙ e) in
+    ap (bit (moved vs (2 ^ v))) (sym at) ∙ moved-to vs (2 ^ v) v lt (bit-pow v v ∙ eq-eqb v v refl)))
 
 pub moved-lt : (n : ℕ) (vs : List ℕ) (s : ℕ) → ((v : ℕ) → v ∈ vs → (1 ≤ v) × (v ≤ n)) → moved vs s < 2 ^ n
 unfolding moved

@@ -8,9 +8,18 @@ use Prim.Native.Nat.{ℕ, suc, _+_, _*_, _/_, _%_, _^_, _≤_, _<_}
 use lib.ListN.{length, getD}
 use Rattle.math.specs.Bits.{bit}
 
--- the head link of a point: a hash of it, below the number of heads
+-- a hash of a point, below 2^32: a product of each half, of whose lowest 32 digits the highest depend on all of it
+unfoldable pub hashOf : ℕ → ℕ
+hashOf x = (x % 4294967296 * 1640531527 + x / 4294967296 * 1779033703) % 4294967296
+
+-- so many heads an index may have: one at least, and no more than there are hashes
+abbrev pub HasHeads : ℕ → Type 0
+HasHeads heads = (1 ≤ heads) × (heads ≤ 4294967296)
+
+-- the head link of a point: its hash, brought below the number of heads
 unfoldable pub headOf : ℕ → ℕ → ℕ
-headOf heads x = (x % 4294967296 * 1640531527 + x / 4294967296 * 1779033703) / 4294967296 % heads
+unfolding hashOf
+headOf heads x = hashOf x * heads / 4294967296
 
 -- the link of point j for one digit: two for each point, behind the heads
 unfoldable pub childOf : ℕ → ℕ → Bool → ℕ
@@ -46,7 +55,7 @@ pub record Indexes (heads n k : ℕ) (point depth link : ℕ → ℕ) : Type 0 w
 
 -- the links are an index of these points of n digits, at some depths
 pub record Indexed (heads n : ℕ) (points links : List ℕ) : Type 0 where
-  pub headed : 1 ≤ heads
+  pub headed : HasHeads heads
   pub room : heads + 2 * length points ≤ length links
   pub depth : ℕ → ℕ
   pub indexes : Indexes heads n (length points) (entry points) depth (entry links)

@@ -18,13 +18,13 @@ use Rattle.math.specs.Laws.ListLaws.{getD-in, in-getD, has-in, in-has, not-true
 use Rattle.math.specs.Lists.{_∈_, has}
 use Rattle.math.specs.Laws.QueueLaws.{length-snoc}
 use Rattle.math.specs.Laws.ScanLaws.{getD-prefix}
-use Rattle.point_index.specs.Laws.Index.{headOf, childOf, entry, Indexes, Indexed}
+use Rattle.point_index.specs.Laws.Index.{HasHeads, headOf, childOf, entry, Indexes, Indexed}
 use Rattle.point_index.specs.Laws.Looking.{AllZero, Looking, Seeking, Askable, Addable, Ends, Adds}
 use Rattle.point_index.specs.Laws.TreeLaws.{looking-begins, looking-ends, looking-meets, looking-less}
 use Rattle.point_index.specs.Laws.TreeLaws.{looking-goes-on, stands-lt, indexes-more}
 
 -- links that are all 0 are an index of no points
-pub index-empty : (heads n : ℕ) (links : List ℕ) → 1 ≤ heads → heads ≤ length links → AllZero links
+pub index-empty : (heads n : ℕ) (links : List ℕ) → HasHeads heads → heads ≤ length links → AllZero links
     → Indexed heads n [] links
 index-empty heads n links pos le zeros =
     record {
@@ -77,7 +77,7 @@ module _ {heads n : ℕ} (points links : List ℕ) {x s d : ℕ}
       (w .0) (w .1) (w .2)))
 
   -- the next number at the free link
-  pub ends-grows : entry links s ≡ 0 → 1 ≤ heads → x < 2 ^ n → heads + 2 * suc (length points) ≤ length links
+  pub ends-grows : entry links s ≡ 0 → HasHeads heads → x < 2 ^ n → heads + 2 * suc (length points) ≤ length links
       → Indexed heads n (points ++ x ∷ []) (set links s (suc (length points)))
   ends-grows z pos narrow room =
       record {
@@ -100,7 +100,7 @@ module _ {heads n : ℕ} (points links : List ℕ) {x s d : ℕ}
       }
     where
       within : s < length links
-      within = let lt : s < heads + 2 * length points = stands-lt pos (l .stands) in omega arith
+      within = let lt : s < heads + 2 * length points = stands-lt (pos .0) (l .stands) in omega arith
 
 -- the number that a link which is not 0 names
 named : (value : ℕ) → (value ≡ 0 → ⊥) → value ≡ suc (value - 1)
@@ -155,7 +155,7 @@ module _ {heads n k : ℕ} {points links : List ℕ} {x : ℕ} (a : Askable head
             }
 
         pub seeking-less : eqb x y ≡ false → d < n
-        seeking-less e = looking-less (l .looking) (a .indexed .headed) (value - 1) names (a .narrow) (other e)
+        seeking-less e = looking-less (l .looking) (a .indexed .headed .0) (value - 1) names (a .narrow) (other e)
 
         pub seeking-goes-on : eqb x y ≡ false → (s′ value′ : ℕ) → s′ ≡ childOf heads (value - 1) (bit x d)
             → value′ ≡ entry links s′ → value′ < 4294967296
@@ -167,7 +167,7 @@ module _ {heads n k : ℕ} {points links : List ℕ} {x : ℕ} (a : Askable head
                   (d + 1)) (sym side)
                   (subst (λ (m : ℕ). Looking heads n (length (take k points)) (entry (take k points)) (entry links) x
                   (childOf heads (value - 1) (bit x d)) m) (sym (add-one d))
-                  (looking-goes-on (l .looking) (a .indexed .headed) (value - 1) names (other e)));
+                  (looking-goes-on (l .looking) (a .indexed .headed .0) (value - 1) names (other e)));
               read = read;
               small = small;
             }

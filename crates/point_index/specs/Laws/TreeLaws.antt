@@ -5,19 +5,27 @@ use mathlib.Core.Logic.{_⊎_, inl, inr}
 use mathlib.Core.Path.{_≡_, refl, sym, ap, _∙_, subst}
 use Prim.Native.Nat.{ℕ, suc, _+_, _*_, _^_, _≤_, _<_}
 use native.Mathlib.Decide.{decLt, ℕ-discrete}
-use native.Mathlib.Nat.{mod-lt, not-suc-le-zero, le-of-eq, le-trans, lt-of-lt-of-le}
+use native.Mathlib.Nat.{mod-lt, not-suc-le-zero, le-of-eq, le-trans, lt-of-lt-of-le, zero-lt-suc, mul-comm}
+use native.Mathlib.Nat.{div-lt-iff-lt-mul, mul-lt-mul-of-pos-right, mul-le-mul-left, mul-le-mul-right, le-of-suc-le-suc}
 use native.Mathlib.Omega.{arith}
 use Rattle.math.specs.Laws.BitLaws.{bits-ext-below}
 use Rattle.math.specs.Bits.{bit}
-use Rattle.point_index.specs.Laws.Index.{headOf, childOf, Agree, MayStand, at-head, at-child, Finds, found-here}
+use Rattle.point_index.specs.Laws.Index.{hashOf, headOf, childOf, Agree, MayStand, at-head, at-child, Finds, found-here}
 use Rattle.point_index.specs.Laws.Index.{found-below, Indexes}
 use Rattle.point_index.specs.Laws.Looking.{Extends, Looking}
 
 -- ---- links
 
 pub head-lt : (heads x : ℕ) → 1 ≤ heads → headOf heads x < heads
-unfolding headOf
-head-lt heads x pos = mod-lt _ pos
+unfolding headOf hashOf
+head-lt heads x pos =
+    div-lt-iff-lt-mul {k = 4294967296} (zero-lt-suc 4294967295) .1
+    (lt-of-lt-of-le (mul-lt-mul-of-pos-right {k = heads} (mod-lt _ (zero-lt-suc 4294967295)) pos)
+    (le-of-eq (mul-comm 4294967296 heads)))
+
+-- what a hash is brought below another number by
+pub hash-scaled : (h k most : ℕ) → h < 4294967296 → k ≤ most → h * k ≤ 4294967295 * most
+hash-scaled h k most small few = le-trans (mul-le-mul-right k (le-of-suc-le-suc small)) (mul-le-mul-left 4294967295 few)
 
 child-ge : (heads j : ℕ) (b : Bool) → heads ≤ childOf heads j b
 unfolding childOf

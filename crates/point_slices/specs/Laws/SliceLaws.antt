@@ -1,17 +1,18 @@
 -- Laws of points and clauses in lent slices, and of scanning clauses for the first falsified one. Those of the first
 -- part alone know how many words a point has. Assumes nothing.
-use mathlib.Core.Bool.{Bool, true, false, cond}
+use mathlib.Core.Bool.{Bool, true, false, cond, _&&_}
 use mathlib.Core.List.{List, [], _∷_, List·Memᴰ·head, List·Memᴰ·tail, List·Memᴰ·not-nil}
 use mathlib.Core.Logic.{_⊎_, inl, inr}
 use mathlib.Core.Option.{some}
 use mathlib.Core.Path.{_≡_, refl, sym, ap, _∙_}
 use Prim.Native.Nat.{ℕ, zero, suc, _+_, _≤_, _<_, min, zero-le}
 use native.Mathlib.Nat.{zero-min, min-zero, suc-min-suc, min-le-left, min-le-right, le-trans, le-of-eq}
-use native.Mathlib.Nat.{le-of-suc-le-suc, not-suc-le-zero}
+use native.Mathlib.Nat.{le-of-suc-le-suc, not-suc-le-zero, add-assoc}
 use native.Mathlib.Omega.{arith}
 use native.Mathlib.Numerals.{add-one}
 use lib.ListN.{length, getD, take, drop, replicate, drop-of-length-le, List·getD-eq-default}
 use lib.Seq.{drop-cons}
+use Rattle.math.specs.Laws.ListLaws.{and-split}
 use Rattle.math.specs.Lists.{_∈_}
 use Rattle.points.specs.Points.{Clause, satisfies, numberedFrom, firstFalsified, numberOf, emptyClause}
 use Rattle.point_slices.specs.Slices.{pointsOf, restOf, ClauseSlices, clauseSlices, wholeClauses, firstClauses}
@@ -153,6 +154,20 @@ module _ (cs : List Clause) (x : ℕ) where
   falsified-goes-on i h e =
       ap (λ l. numberOf (firstFalsified (numberedFrom (suc i) l) x)) (next i h)
       ∙ rw e (ap (λ k. numberOf (firstFalsified (numberedFrom (suc k) (drop (i + 1) cs)) x)) (sym (add-one i)))
+
+  -- four clauses that the point satisfies, by tests of each
+  pub falsified-four : (i : ℕ) {a b c d : Bool} → i + 4 ≤ length cs → a ≡ satisfies (getD cs i emptyClause) x
+      → b ≡ satisfies (getD cs (i + 1) emptyClause) x → c ≡ satisfies (getD cs (i + 2) emptyClause) x
+      → d ≡ satisfies (getD cs (i + 3) emptyClause) x → (a && b) && (c && d) ≡ true
+      → falsifiedFrom cs x i ≡ falsifiedFrom cs x (i + 4)
+  falsified-four i {a} {b} {c} {d} room ta tb tc td all =
+      let halves = and-split (a && b) (c && d) all in
+      let low = and-split a b (halves .0) in
+      let high = and-split c d (halves .1) in
+      falsified-goes-on i (omega arith) (sym ta ∙ low .0) ∙ falsified-goes-on (i + 1) (omega arith) (sym tb ∙ low .1)
+      ∙ ap (falsifiedFrom cs x) (add-assoc i 1 1)
+      ∙ falsified-goes-on (i + 2) (omega arith) (sym tc ∙ high .0) ∙ ap (falsifiedFrom cs x) (add-assoc i 2 1)
+      ∙ falsified-goes-on (i + 3) (omega arith) (sym td ∙ high .1) ∙ ap (falsifiedFrom cs x) (add-assoc i 3 1)
 
 -- the number is 0, or that of a clause of the list
 pub falsified-le : (cs : List Clause) (x k : ℕ) → numberOf (firstFalsified (numberedFrom (suc k) cs) x) ≤ k + length cs

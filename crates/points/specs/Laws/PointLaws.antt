@@ -1,18 +1,18 @@
 -- Laws of points and clauses: what the computed tests say, and distance. Assumes nothing.
-use mathlib.Core.Bool.{Bool, true, false, not, cond, _&&_, xor, true≢false, false≢true}
+use mathlib.Core.Bool.{Bool, true, false, not, cond, _&&_, _||_, xor, true≢false, false≢true}
 use mathlib.Core.List.{List, [], _∷_, _++_, List·Memᴰ·head, List·Memᴰ·tail, List·Memᴰ·not-nil}
 use mathlib.Core.Logic.{⊎-elim}
 use mathlib.Core.Option.{some, none, Option·some-ne-none, Option·none-ne-some, Option·some-injective}
-use mathlib.Core.Path.{_≡_, refl, sym, ap, _∙_}
+use mathlib.Core.Path.{_≡_, refl, sym, ap, ap₂, _∙_}
 use Prim.Native.Nat.{ℕ, _<_, _^_}
-use lib.Bits.{bitAnd, bitXor, xor-lt}
+use lib.Bits.{bitAnd, bitOr, bitXor, xor-lt}
 use lib.Count.{ones}
 use lib.Dec.{eqb}
 use borrow.Author.Tests.{ne-eqb, eqb-false, not-true}
-use Rattle.math.specs.Laws.BitLaws.{bit-and, bit-xor, bit-of-zero, some-bit, differing-bit}
+use Rattle.math.specs.Laws.BitLaws.{bit-and, bit-or, bit-xor, bit-of-zero, some-bit, differing-bit}
 use Rattle.math.specs.Bits.{bit}
 use Rattle.math.specs.Laws.ListLaws.{count-ext, or-split, or-left, or-right, and-split, and-join, not-true-false}
-use Rattle.math.specs.Laws.ListLaws.{true-or-false, here}
+use Rattle.math.specs.Laws.ListLaws.{true-or-false, here, same-tests}
 use Rattle.math.specs.Lists.{_∈_, below}
 use Rattle.math.specs.Laws.SetLaws.{ones-count}
 use Rattle.points.specs.Points.{Clause, Satisfies, by-yes, by-no, satisfies, distance, Numbered, SatisfiesAll}
@@ -68,6 +68,52 @@ satisfies-sound c x h =
         let m = missing (bit x (w .0)) (bit (c .negative) (w .0))
         (ap (λ b. xor b (bit (c .negative) (w .0))) (sym (bit-and x (c .negative) (w .0))) ∙ w .1) in
         by-no (w .0) (m .0) (m .1)
+
+-- the literals that the point meets, as one set: it satisfies the clause where there is one
+abbrev pub metBy : Clause → ℕ → ℕ
+metBy c x = bitOr (bitAnd x (c .positive)) (bitAnd (bitXor x (c .negative)) (c .negative))
+
+pub satisfies-met : (c : Clause) (x : ℕ) → not (eqb (metBy c x) 0) ≡ satisfies c x
+unfolding xor
+satisfies-met c x =
+    same-tests (not (eqb (metBy c x) 0)) (satisfies c x) (λ e. satisfies-complete c x (met e))
+    (λ e. shown (satisfies-sound c x e))
+  where
+    yes-at : ℕ → Bool
+    yes-at i = bit x i && bit (c .positive) i
+
+    no-at : ℕ → Bool
+    no-at i = xor (bit x i) (bit (c .negative) i) && bit (c .negative) i
+
+    digit : (i : ℕ) → bit (metBy c x) i ≡ yes-at i || no-at i
+    digit i =
+        bit-or (bitAnd x (c .positive)) (bitAnd (bitXor x (c .negative)) (c .negative)) i
+        ∙ ap₂ _||_ (bit-and x (c .positive) i)
+        (bit-and (bitXor x (c .negative)) (c .negative) i
+        ∙ ap (λ b. b && bit (c .negative) i) (bit-xor x (c .negative) i))
+
+    lacking : (a b : Bool) → xor a b ≡ true → b ≡ true → a ≡ false
+    lacking true true e f = absurd (false≢true e)
+    lacking true false e f = absurd (false≢true f)
+    lacking false b e f = refl
+
+    met : not (eqb (metBy c x) 0) ≡ true → Satisfies c x
+    met e =
+        let w = some-bit (metBy c x) (eqb-false (metBy c x) 0 (not-true _ e)) in
+        let i = w .0 in
+        ⊎-elim
+        (λ h. let both = and-split (bit x i) (bit (c .positive) i) h in by-yes i (both .1) (both .0))
+        (λ h. let both = and-split (xor (bit x i) (bit (c .negative) i)) (bit (c .negative) i) h in
+        by-no i (both .1) (lacking (bit x i) (bit (c .negative) i) (both .0) (both .1)))
+        (or-split (yes-at i) (no-at i) (sym (digit i) ∙ w .1))
+
+    shown : Satisfies c x → not (eqb (metBy c x) 0) ≡ true
+    shown (by-yes i p q) =
+        not-zero (metBy c x) i (digit i ∙ or-left (yes-at i) (no-at i) (and-join (bit x i) (bit (c .positive) i) q p))
+    shown (by-no i p q) =
+        not-zero (metBy c x) i (digit i
+        ∙ or-right (yes-at i) (no-at i) (and-join (xor (bit x i) (bit (c .negative) i)) (bit (c .negative) i)
+        (ap₂ xor q p) p))
 
 pub falsifies : (c : Clause) (x : ℕ) → satisfies c x ≡ false → Satisfies c x → ⊥
 falsifies c x h s = true≢false (sym (satisfies-complete c x s) ∙ h)

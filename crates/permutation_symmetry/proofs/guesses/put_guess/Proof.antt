@@ -7,10 +7,10 @@ use Rattle.permutation_symmetry.proofs.guesses.put_guess.Statement.{sta
 use Rattle.permutation_symmetry.proofs.guesses.put_guess.Tie as tie
 
 abbrev Inv-loop : tie.InvT-loop
-Inv-loop guesses₀ number i₀ end guesses i = length guesses ≡ length guesses₀
+Inv-loop positive negative guesses₀ c number i₀ end guesses i = length guesses ≡ length guesses₀
 
 abbrev μ-loop : tie.MeasureT-loop
-μ-loop guesses₀ number i₀ end guesses i = end - i
+μ-loop positive negative guesses₀ c number i₀ end guesses i = end - i
 
 place-of-requires : tie.Need-place-of-requires Inv-loop μ-loop
 place-of-requires c κs = search needs
@@ -24,6 +24,9 @@ number-at-requires c κs = search needs
 put-number-requires : tie.Need-put-number-requires Inv-loop μ-loop
 put-number-requires c κs = search needs
 
+stands-at-requires : tie.Need-stands-at-requires Inv-loop μ-loop
+stands-at-requires c κs = search needs
+
 pub put-guess-spec : {M : Type 1} → statement M
 put-guess-spec =
     tie.close
@@ -35,6 +38,11 @@ put-guess-spec =
     loop-holds
     number-at-requires
     put-number-requires
+    (λ c. search needs)
+    (λ c. search needs)
+    (λ c. search needs)
+    (λ c. search needs)
+    stands-at-requires
     (λ c. search needs)
     (λ c. search needs)
     (λ c. search needs)

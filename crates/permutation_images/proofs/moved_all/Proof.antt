@@ -1,4 +1,4 @@
--- `permutation_images::moved` meets its contract: at index i the set holds what the numbers from i on send. Assumes
+-- `permutation_images::moved_all` meets its contract: at index i the set holds what the numbers from i on send. Assumes
 -- nothing.
 use mathlib.Core.Path.{_≡_, sym, ap, _∙_}
 use Prim.Native.Nat.{_-_, _+_, _*_, _/_, _%_, _^_, _≤_, _<_}
@@ -13,8 +13,8 @@ use Rattle.points.specs.Laws.NextLaws.{digits-few}
 use Rattle.math.specs.Laws.ListLaws.{getD-in}
 use Rattle.permutation_images.specs.Laws.LoopLaws.{moved-step}
 use Rattle.permutation_theory.specs.Permutations.{moved}
-use Rattle.permutation_images.proofs.moved.Statement.{statement}
-use Rattle.permutation_images.proofs.moved.Tie as tie
+use Rattle.permutation_images.proofs.moved_all.Statement.{statement}
+use Rattle.permutation_images.proofs.moved_all.Tie as tie
 
 abbrev Inv-loop : tie.InvT-loop
 Inv-loop e s r₀ i₀ r i = (i ≤ length e) × (r ≡ moved (drop i e) (s / 2 ^ i))
@@ -68,8 +68,8 @@ returns c =
     let none : l .i ≡ 0 = omega arith in
     l .inv .1 ∙ ap (λ j. moved (drop j (a .e .now)) (a .s / 2 ^ j)) none ∙ ap (moved (a .e .now)) (div-one (a .s))
 
-pub moved-spec : {M : Type 1} → statement M
-moved-spec =
+pub moved-all-spec : {M : Type 1} → statement M
+moved-all-spec =
     tie.close
     (tie.spec
     Inv-loop
