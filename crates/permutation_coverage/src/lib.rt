@@ -9,8 +9,9 @@ ghost use mathlib.Core.Path.{_≡_};
 ghost use Prim.Native.Nat.{_+_, _-_, _*_, _^_, _≤_, _<_};
 ghost use lib.ListN.{length, getD, take};
 ghost use Rattle.math.specs.Bits.{flip};
+ghost use Rattle.math.specs.Lists.{any};
 ghost use Rattle.point_slices.specs.Slices.{pointsOf};
-ghost use Rattle.permutation_theory.specs.Permutations.{covered, permutationsIn};
+ghost use Rattle.permutation_theory.specs.Permutations.{imageIn, covered, permutationsIn};
 ghost use Rattle.permutation_coverage.specs.Laws.Coverage.{Permuting, Imaged, Coverable, Turns, Sends};
 
 // What a look-up goes by: the number of variables and of permutations, and the heads of the index.
@@ -64,9 +65,9 @@ pub fn move_images(n: u32, permutations: u32, images: &[u8], moved: &mut [u64], 
     }
 }
 
-// Whether the image of x with variable v flipped under a listed permutation is among the first k points, of which the
-// links are an index; `moved` holds the images of x. At most permutations look-ups, each of at most n + 1 comparisons,
-// and one step for each image.
+// Whether an image of x with variable v flipped is among the first k points, of which the links are an index; `moved`
+// holds the images of x. At most one look-up for each permutation, each of at most n + 1 comparisons, and one step for
+// each image.
 pub fn image_covered(
     g: Lookup,
     images: &[u8],
@@ -76,7 +77,12 @@ pub fn image_covered(
     k: usize,
     x: Point,
     v: u32,
-) -> bool {
+) -> bool
+    requires { ⌜ Coverable (g .heads) (g .variables) k (pointsOf (now points)) (now links) (g .permutations)
+        (now images) (pointsOf (now moved)) x × (v < g .variables) ⌝ }
+    ensures { λ r. ⌜ r ≡ any (imageIn (take k (pointsOf (now (points .entry)))) (flip x v))
+        (permutationsIn (g .variables) (g .permutations) (now (images .entry))) ⌝ }
+{
     let n = g.variables;
     let permutations = g.permutations as usize;
     let mut i = 0;
@@ -90,7 +96,8 @@ pub fn image_covered(
     false
 }
 
-// Whether x with variable v flipped, or an image of that, is among the first k points: at most permutations + 1 look-ups.
+// Whether x with variable v flipped, or an image of that, is among the first k points: at most permutations + 1
+// look-ups.
 pub fn flip_covered(
     g: Lookup,
     images: &[u8],
@@ -106,8 +113,9 @@ pub fn flip_covered(
     ensures { λ r. ⌜ r ≡ covered (permutationsIn (g .variables) (g .permutations) (now (images .entry)))
         (take k (pointsOf (now (points .entry)))) (flip x v) ⌝ }
 {
+    let n = g.variables;
     let flipped = points::flip(x, v);
-    if contains(g.variables, points, links, g.heads, k, flipped) {
+    if contains(n, points, links, g.heads, k, flipped) {
         return true;
     }
     image_covered(g, images, points, links, moved, k, x, v)

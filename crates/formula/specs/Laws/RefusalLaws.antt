@@ -1,14 +1,18 @@
 -- Laws of the refusals 10, 11 and 12: what is known once each has passed, and what passes. Assumes nothing.
-use mathlib.Core.Bool.{Bool, true, false, cond, _&&_}
+use mathlib.Core.Bool.{Bool, true, false, cond, _&&_, and-true, and-assoc}
 use mathlib.Core.List.{List, [], _∷_}
 use mathlib.Core.Path.{_≡_, refl, sym, ap, ap₂, _∙_, subst}
-use Prim.Native.Nat.{ℕ, _*_, _^_, _≤_, _<_, min}
+use Prim.Native.Nat.{ℕ, _+_, _*_, _^_, _≤_, _<_, min}
 use native.Mathlib.Nat.{le-refl, le-trans, mul-le-mul, le-of-eq, min-eq-left}
+use lib.Bits.{bitOr}
 use lib.Dec.{leb, ltb}
-use lib.ListN.{length}
+use lib.ListN.{length, getD, drop}
+use lib.Pow.{pow-pos}
 use borrow.Author.Tests.{leb-true, le-leb, lt-leb, ltb-true, lt-ltb, eqb-true, eq-eqb}
+use Rattle.math.specs.Laws.BitLaws.{below-or}
 use Rattle.math.specs.Laws.ListLaws.{and-split, all-at, all-of, map-in}
 use Rattle.math.specs.Laws.PartLaws.{none-failing, all-passing}
+use Rattle.math.specs.Laws.ScanLaws.{all-next, all-ends}
 use Rattle.math.specs.Lists.{_∈_, firstFailing}
 use Rattle.formula.specs.Laws.Contracts.{problemFault}
 use Rattle.points.specs.Points.{pointDigits, Numbered, numbered}
@@ -27,6 +31,30 @@ use Rattle.formula.specs.Refusals.{allBelow, Fits, fits, formulaFault, p
 use Rattle.formula.specs.Reply.{Fault, no-fault, fault, faultAt}
 use Rattle.formula.specs.Laws.ReplyLaws.{IsFault, fault-not-none, faultAt-none, answers-first, answers-rest}
 use Rattle.formula.specs.Laws.ReplyLaws.{first-last}
+
+-- ---- the union of numbers, and whether it has a bit at n or above
+
+-- whether all numbers are below 2^n is, at index i, whether `union` is and those from i on are
+abbrev pub UnionBelow : ℕ → List ℕ → ℕ → ℕ → Type 0
+UnionBelow n xs union i = allBelow n xs ≡ ltb union (2 ^ n) && allBelow n (drop i xs)
+
+pub union-begins : (n : ℕ) (xs : List ℕ) → UnionBelow n xs 0 0
+union-begins n xs = sym (ap (λ b. b && allBelow n xs) (lt-ltb 0 (2 ^ n) (pow-pos n)))
+
+pub union-goes-on : (n : ℕ) (xs : List ℕ) (union i : ℕ) → UnionBelow n xs union i → i < length xs
+    → (more : ℕ) → more ≡ bitOr union (getD xs i 0) → UnionBelow n xs more (i + 1)
+unfolding allBelow
+union-goes-on n xs union i was lt more is =
+    was ∙ ap (λ b. ltb union (2 ^ n) && b) (all-next (λ (x : ℕ). ltb x (2 ^ n)) xs 0 i lt)
+    ∙ sym (and-assoc (ltb union (2 ^ n)) (ltb (getD xs i 0) (2 ^ n)) (allBelow n (drop (i + 1) xs)))
+    ∙ ap (λ b. b && allBelow n (drop (i + 1) xs)) (sym (ap (λ u. ltb u (2 ^ n)) is ∙ below-or n union (getD xs i 0)))
+
+pub union-ends : (n : ℕ) (xs : List ℕ) (union i : ℕ) → UnionBelow n xs union i → length xs ≤ i
+    → ltb union (2 ^ n) ≡ allBelow n xs
+unfolding allBelow
+union-ends n xs union i was ge =
+    sym (was ∙ ap (λ b. ltb union (2 ^ n) && b) (all-ends (λ (x : ℕ). ltb x (2 ^ n)) xs 0 i ge)
+    ∙ and-true (ltb union (2 ^ n)))
 
 -- ---- 10
 

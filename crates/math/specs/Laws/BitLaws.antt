@@ -7,13 +7,13 @@ use native.Mathlib.Nat.{zero-lt-suc, zero-div, div-eq-of-lt, lt-of-lt-of-le, mul
 use native.Mathlib.Nat.{le-of-suc-le-suc, not-suc-le-zero}
 use native.Mathlib.Omega.{arith}
 use lib.Arith.{digits-div, digits-mod, bin-ind}
-use lib.Bits.{bitAnd, bitOr, bitXor, and-step, or-step, xor-step, xor-lt, differ}
+use lib.Bits.{bitAnd, bitOr, bitXor, and-step, or-step, xor-step, xor-lt, or-lt, differ}
 use lib.Dec.{eqb, ltb, lit<, eqb·zero-suc, eqb·suc-zero, eqb·suc-suc}
 use lib.Pow.{pow-pos, pow-mono, pow-lt}
 use native.Mathlib.Decide.{decLt}
 use borrow.Author.Tests.{eq-eqb, eqb-true, lt-ltb, ltb-true}
 use Rattle.math.specs.Bits.{bit, flip}
-use Rattle.math.specs.Laws.ListLaws.{same-tests}
+use Rattle.math.specs.Laws.ListLaws.{same-tests, and-join, and-split}
 
 -- ---- a digit, by halving
 
@@ -115,6 +115,24 @@ lt-of-bits (suc n) x h =
     let half : x / 2 < 2 ^ n = lt-of-bits n (x / 2) (λ i le. sym (bit-suc x i) ∙ h (suc i) (suc-le-suc le)) in
     let p : 2 ^ suc n ≡ 2 * 2 ^ n = pow-succ' 2 n in
     omega arith
+
+-- a set that is made of two has no bit at n or above where neither has
+pub below-or : (n a b : ℕ) → ltb (bitOr a b) (2 ^ n) ≡ ltb a (2 ^ n) && ltb b (2 ^ n)
+below-or n a b =
+    same-tests (ltb (bitOr a b) (2 ^ n)) (ltb a (2 ^ n) && ltb b (2 ^ n))
+    (λ h. let under = ltb-true (bitOr a b) (2 ^ n) h in
+    and-join (ltb a (2 ^ n)) (ltb b (2 ^ n))
+    (lt-ltb a (2 ^ n) (lt-of-bits n a (λ i ge. neither (bit a i) (bit b i) (off under i ge) .0)))
+    (lt-ltb b (2 ^ n) (lt-of-bits n b (λ i ge. neither (bit a i) (bit b i) (off under i ge) .1))))
+    (λ h. let both = and-split (ltb a (2 ^ n)) (ltb b (2 ^ n)) h in
+    lt-ltb (bitOr a b) (2 ^ n) (or-lt n a b (ltb-true a (2 ^ n) (both .0)) (ltb-true b (2 ^ n) (both .1))))
+  where
+    off : bitOr a b < 2 ^ n → (i : ℕ) → n ≤ i → bit a i || bit b i ≡ false
+    off under i ge = sym (bit-or a b i) ∙ bit-above n (bitOr a b) i under ge
+
+    neither : (x y : Bool) → x || y ≡ false → (x ≡ false) × (y ≡ false)
+    neither true y e = absurd (true≢false e)
+    neither false y e = (refl, e)
 
 -- a shift by n leaves nothing exactly of the numbers below 2 ^ n
 pub shifted-out : (x n : ℕ) → eqb (x / 2 ^ n) 0 ≡ ltb x (2 ^ n)

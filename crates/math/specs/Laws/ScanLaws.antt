@@ -45,6 +45,11 @@ module _ {A : Type 0} (t : A → Bool) (xs : List A) (d : A) where
   unfolding all
   all-goes-on i h e = ap (all t) (next i h) ∙ ap (λ b. b && all t (drop (i + 1) xs)) e
 
+  -- whatever the test says of the next
+  pub all-next : (i : ℕ) → i < length xs → all t (drop i xs) ≡ t (getD xs i d) && all t (drop (i + 1) xs)
+  unfolding all
+  all-next i h = ap (all t) (next i h)
+
   pub failing-begins : firstFailing t xs ≡ onFrom 0 (firstFailing t (drop 0 xs))
   unfolding onFrom
   failing-begins = by (firstFailing t xs)

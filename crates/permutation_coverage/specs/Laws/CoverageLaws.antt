@@ -231,10 +231,11 @@ module _ {heads n k : ℕ} {points links : List ℕ} {permutations : ℕ} {image
   abbrev es : List Permutation
   es = permutationsIn n permutations images
 
-  -- whether the flipped point, or its image under a permutation from index i on, is among the points
+  -- whether the flipped point or one of its images is among the points
   abbrev whole : Bool
   whole = covered es (take k points) (flip x v)
 
+  -- whether its image under a permutation from index i on is
   abbrev from : ℕ → Bool
   from i = any (imageIn (take k points) (flip x v)) (drop i es)
 
@@ -278,19 +279,19 @@ module _ {heads n k : ℕ} {points links : List ℕ} {permutations : ℕ} {image
           asks y (imageOfPoint sender (flip x v)) image-is
           (image-sound n sender (c .permuting .proper sender (getD-in es i noPermutation among)) (flip x v) .within)
 
-      module _ (left : whole ≡ from i) (found : Bool) (promised : found ≡ has y (take k points)) where
+      module _ (left : from 0 ≡ from i) (found : Bool) (promised : found ≡ has y (take k points)) where
         tested : imageIn (take k points) (flip x v) sender ≡ found
         tested = sym (promised ∙ ap (λ (z : ℕ). has z (take k points)) image-is)
 
-        pub image-found : found ≡ true → true ≡ whole
+        pub image-found : found ≡ true → true ≡ from 0
         image-found e = sym (left ∙ any-stops (imageIn (take k points) (flip x v)) es noPermutation i among
             (tested ∙ e))
 
-        pub image-not-found : found ≡ false → whole ≡ from (i + 1)
+        pub image-not-found : found ≡ false → from 0 ≡ from (i + 1)
         image-not-found e = left ∙ any-goes-on (imageIn (take k points) (flip x v)) es noPermutation i among
             (tested ∙ e)
 
-  pub none-found : (i : ℕ) → permutations ≤ i → whole ≡ from i → false ≡ whole
+  pub none-found : (i : ℕ) → permutations ≤ i → from 0 ≡ from i → false ≡ from 0
   none-found i ge left =
       sym (left ∙ any-ends (imageIn (take k points) (flip x v)) es noPermutation i
       (le-trans (le-of-eq (length-permutations n permutations images)) ge))
