@@ -13,17 +13,18 @@ use point_slices::point_at;
 use points::Point;
 ghost use mathlib.Core.Path.{_≡_};
 ghost use Prim.Native.Nat.{_<_, _^_};
-ghost use lib.ListN.{getD, take};
+ghost use lib.ListN.{take};
+ghost use Rattle.math.specs.Bits.{flip};
 ghost use Rattle.math.specs.Lists.{firstFailing, below};
 ghost use Rattle.point_slices.specs.Laws.Contracts.{lentClauses};
 ghost use Rattle.points.specs.Points.{numbered};
 ghost use Rattle.point_slices.specs.Slices.{pointsOf};
 ghost use Rattle.permutation_theory.specs.Permutations.{covered, permutationsIn};
-ghost use Rattle.permutation_coverage.specs.Laws.Coverage.{Imaged, Coverable};
+ghost use Rattle.permutation_coverage.specs.Laws.Coverage.{Imaged};
 ghost use Rattle.formula.specs.Refusals.{faultOf};
 ghost use Rattle.certificate.specs.Rows.{clauseNumbered};
 ghost use Rattle.check_flips.specs.Flips.{flipsPass, flipsFault};
-ghost use Rattle.check_flips.specs.Laws.Loops.{listedBy, allFlips, Testable};
+ghost use Rattle.check_flips.specs.Laws.Loops.{listedBy, allFlips, Testable, Follows};
 
 // The set of the variables that the clause with the number k lists; the empty set where no clause has it.
 fn variables_of(positive: &[u64], negative: &[u64], k: u32) -> Point
@@ -48,10 +49,10 @@ struct Tested {
     seen: Point,
 }
 
-// Whether x with variable v flipped is covered by the first `count` points; `moved` has the images of `seen`, and those of
-// x where they were asked for. Where the flip itself is among the points one look-up; else permutations + 1 of them, each
-// of at most n + 1 comparisons, and the images are turned, one step for each permutation and each variable in which the
-// two points differ.
+// Whether x with variable v flipped is covered by the first `count` points; `moved` has the images of `seen`. Where the
+// flip itself is among the points that is one look-up. Else the images are turned into those of x, one step for each
+// permutation and each variable in which the two points differ, and at most one look-up each follows; a look-up takes at
+// most n + 1 comparisons. `flips_covered` hands on what it requires.
 fn flip_passes(
     g: Lookup,
     images: &[u8],
@@ -62,7 +63,13 @@ fn flip_passes(
     seen: Point,
     x: Point,
     v: u32,
-) -> Tested {
+) -> Tested
+    requires { ⌜ Follows g (now images) (pointsOf (now points)) (now links) (pointsOf (now moved)) count seen x
+        × (v < g .variables) ⌝ }
+    ensures { λ r. ⌜ (r .passed ≡ covered (permutationsIn (g .variables) (g .permutations) (now (images .entry)))
+        (take count (pointsOf (now (points .entry)))) (flip x v))
+        × Imaged (g .variables) (g .permutations) (now (images .entry)) (r .seen) (pointsOf (now (moved .exit))) ⌝ }
+{
     let n = g.variables;
     let flipped = points::flip(x, v);
     if contains(n, points, links, g.heads, count, flipped) {
@@ -73,8 +80,8 @@ fn flip_passes(
     Tested { passed, seen: x }
 }
 
-// Whether each flip of x by a variable of the set is covered by the first `count` points, variables lowest first. At most
-// n flips. `flips_pass` sees to what it requires.
+// Whether each flip of x by a variable of the set is covered by the first `count` points, variables lowest first: at
+// most n flips. `first_uncovered` sees to what it requires.
 fn flips_covered(
     g: Lookup,
     images: &[u8],
@@ -85,21 +92,33 @@ fn flips_covered(
     seen: Point,
     x: Point,
     listed: Point,
-) -> Tested {
+) -> Tested
+    requires { ⌜ Follows g (now images) (pointsOf (now points)) (now links) (pointsOf (now moved)) count seen x
+        × (listed < 2 ^ g .variables) ⌝ }
+    ensures { λ r. ⌜ (r .passed ≡ allFlips (covered (permutationsIn (g .variables) (g .permutations)
+        (now (images .entry))) (take count (pointsOf (now (points .entry))))) (g .variables) x listed)
+        × Imaged (g .variables) (g .permutations) (now (images .entry)) (r .seen) (pointsOf (now (moved .exit))) ⌝ }
+{
     let n = g.variables;
-    let mut seen = seen;
+    let mut at = seen;
     let mut left = listed;
     let mut v = points::next_variable(left);
     while v < n {
-        let tested = flip_passes(g, images, points, links, moved, count, seen, x, v);
+        let tested = flip_passes(g, images, points, links, moved, count, at, x, v);
+        at = tested.seen;
         if !tested.passed {
-            return tested;
+            return Tested {
+                passed: false,
+                seen: at,
+            };
         }
-        seen = tested.seen;
         left = points::flip(left, v);
         v = points::next_variable(left);
     }
-    Tested { passed: true, seen }
+    Tested {
+        passed: true,
+        seen: at,
+    }
 }
 
 // The number, from 1, of the first of `count` points with a flip that is not covered; 0 if there is none.
@@ -112,13 +131,21 @@ fn first_uncovered(
     falsified: &[u32],
     links: &[u32],
     count: usize,
-) -> usize {
+) -> usize
+    requires { ⌜ Testable g (now images) (lentClauses (now positive) (now negative)) (pointsOf (now points))
+        (now links) count ⌝ }
+    ensures { λ r. ⌜ r ≡ firstFailing (flipsPass (g .variables)
+        (numbered (lentClauses (now (positive .entry)) (now (negative .entry))))
+        (permutationsIn (g .variables) (g .permutations) (now (images .entry)))
+        (take count (pointsOf (now (points .entry)))) (now (falsified .entry))) (below count) ⌝ }
+{
     let mut moved = [0u64; Formula::MAX_PERMUTATIONS as usize];
     let mut seen = points::EMPTY;
     let mut i = 0;
     while i < count {
+        let k = number_at(falsified, i);
         let x = point_at(points, i);
-        let listed = variables_of(positive, negative, number_at(falsified, i));
+        let listed = variables_of(positive, negative, k);
         let tested = flips_covered(g, images, points, links, &mut moved, count, seen, x, listed);
         if !tested.passed {
             return i + 1;
@@ -129,9 +156,9 @@ fn first_uncovered(
     0
 }
 
-// R18: refusal 18, of the first `count` points and numbers. For each point its images, permutations · n steps, and at
-// most n · (permutations + 1) look-ups, each of at most n + 1 comparisons. Refusals 10, 11 and 16 see to what it
-// requires.
+// R18: refusal 18, of the first `count` points and numbers. For each point at most n · (permutations + 1) look-ups, each
+// of at most n + 1 comparisons; where a flip itself is none of the points, also the images of the point, at most
+// permutations · n steps. Refusals 10, 11 and 16 see to what it requires.
 pub fn flips_refusal(
     g: Lookup,
     images: &[u8],

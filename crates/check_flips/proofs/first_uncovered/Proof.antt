@@ -1,6 +1,6 @@
 -- `check_flips::first_uncovered` meets its contract: the number over all is, at index i, that over the indices from i
 -- on; and the images are those of the point before. Assumes nothing.
-use mathlib.Core.Path.{_≡_, sym, _∙_, subst}
+use mathlib.Core.Path.{_≡_, sym, ap, _∙_, subst}
 use Prim.Native.Nat.{ℕ, _-_, _^_, _<_}
 use lib.ListN.{length, take, drop, length-replicate}
 use borrow.Author.Tests.{not-true, not-false}
@@ -14,7 +14,9 @@ use Rattle.point_slices.specs.Slices.{pointsOf}
 use Rattle.permutation_theory.specs.Permutations.{permutationsIn}
 use Rattle.permutation_coverage.specs.Laws.Coverage.{Imaged}
 use Rattle.permutation_coverage.specs.Laws.CoverageLaws.{imaged-none}
-use Rattle.check_flips.specs.Laws.FlipLaws.{tested-permuting, tested-narrow}
+use Rattle.check_flips.specs.Laws.FlipLaws.{tested-follows, listed-within, flips-passed}
+use Rattle.check_flips.specs.Laws.Loops.{listedBy}
+use Rattle.certificate.specs.Rows.{clauseNumbered}
 use Rattle.check_flips.specs.Flips.{flipsPass}
 use borrow.Author.Needs.{needs}
 use Rattle.check_flips.proofs.first_uncovered.Statement.{statement}
@@ -32,36 +34,30 @@ abbrev μ-loop : tie.MeasureT-loop
 loop-holds : tie.Need-loop-holds Inv-loop μ-loop
 loop-holds c = (failing-begins _ _ 0, length-replicate {A = ℕ} maxPermutations 0, subst (Imaged _ _ _ 0) (sym (points-blank maxPermutations)) (imaged-none _ _ maxPermutations _ (c .before .before .before .before .before .before .pre .given .few-permutations)))
 
-point-at-requires : tie.Need-point-at-requires Inv-loop μ-loop
-point-at-requires c κs = search needs
+slice-aggregate-flips-covered : tie.Need-slice-aggregate-flips-covered Inv-loop μ-loop
+slice-aggregate-flips-covered c = sym (c .before .before .before .before .before .loop .inv .1)
 
-slice-aggregate-move-images : tie.Need-slice-aggregate-move-images Inv-loop μ-loop
-slice-aggregate-move-images c = sym (c .before .before .before .loop .inv .1)
-
-move-images-requires : tie.Need-move-images-requires Inv-loop μ-loop
-move-images-requires c κs =
-    let a = c .before .before .before .before .before .before .before .before .before .before .args in
-    (tested-permuting (c .before .before .before .before .before .before .before .before .before .before .pre), c .before .before .before .loop .inv .2, subst (λ (y : ℕ). y < 2 ^ a .g .variables) (sym (c .before .point-at .ensures)) (tested-narrow (c .before .before .before .before .before .before .before .before .before .before .pre) _ (c .before .before .loop-test .taken)))
-
-slice-aggregate-flips-pass : tie.Need-slice-aggregate-flips-pass Inv-loop μ-loop
-slice-aggregate-flips-pass c = sym (c .before .before .move-images .kept .1 .1 .1 .0 ∙ c .before .before .before .before .before .before .loop .inv .1)
-
-flips-pass-requires : tie.Need-flips-pass-requires Inv-loop μ-loop
-flips-pass-requires c κs =
-    let a = c .before .before .before .before .before .before .before .before .before .before .before .before .before .args in
-    (c .before .before .before .before .before .before .before .before .before .before .before .before .before .pre, c .before .before .before .before .before .loop-test .taken, subst (λ (y : ℕ). Imaged (a .g .variables) (a .g .permutations) (a .images .now) y (pointsOf (c .before .before .move-images .last .1 .1 .1 .0))) (c .before .before .before .before .point-at .ensures) (c .before .before .move-images .ensures))
+flips-covered-requires : tie.Need-flips-covered-requires Inv-loop μ-loop
+flips-covered-requires c κs =
+    let t = c .before .before .before .before .before .before .before .before .before .before .before .before .pre in
+    let a = c .before .before .before .before .before .before .before .before .before .before .before .before .args in (
+      tested-follows t (c .before .before .before .before .before .loop .i) _ (c .before .before .point-at .ensures) (c .before .before .before .before .loop-test .taken) (c .before .before .before .before .before .loop .inv .2),
+      subst (λ (s : ℕ). s < 2 ^ a .g .variables) (sym (c .before .variables-of .ensures)) (listed-within _ _ (t .given .below) _),
+    )
 
 returns : tie.Need-returns Inv-loop μ-loop
 returns c =
-    let l = c .before .before .before .before .before .before .before .before .loop in
-    sym (l .inv .0 ∙ below-stops _ _ (l .i) (c .before .before .before .before .before .before .before .loop-test .taken) (sym (c .before .flips-pass .ensures) ∙ not-true _ (c .if1 .taken)))
+    let l = c .before .before .before .before .before .before .before .before .before .loop in
+    let a = c .before .before .before .before .before .before .before .before .before .before .before .before .before .before .before .before .args in
+    sym (l .inv .0 ∙ below-stops _ _ (l .i) (c .before .before .before .before .before .before .before .before .loop-test .taken) (sym (flips-passed (a .g .variables) _ _ (pointsOf (a .points .now)) (a .falsified .now) (a .count) (l .i) _ _ (c .before .before .before .before .before .before .before .before .loop-test .taken) (c .before .before .before .before .before .before .point-at .ensures) (c .before .before .before .before .before .variables-of .ensures ∙ ap (λ (k : ℕ). listedBy (clauseNumbered (numbered (lentClauses (a .positive .now) (a .negative .now))) k)) (c .before .before .before .before .before .before .before .number-at .ensures))) ∙ sym (c .before .before .before .flips-covered .ensures .0) ∙ not-true _ (c .if1 .taken)))
 
 loop-again : tie.Need-loop-again Inv-loop μ-loop
 loop-again c =
-    let l = c .before .before .before .before .before .before .before .before .loop in (
-      l .inv .0 ∙ below-goes-on _ _ (l .i) (c .before .before .before .before .before .before .before .loop-test .taken) (sym (c .before .flips-pass .ensures) ∙ not-false _ (c .if1 .left)),
-      c .before .before .before .before .move-images .kept .1 .1 .1 .0 ∙ l .inv .1,
-      c .before .before .before .before .move-images .ensures,
+    let l = c .before .before .before .before .before .before .before .before .before .loop in
+    let a = c .before .before .before .before .before .before .before .before .before .before .before .before .before .before .before .before .args in (
+      l .inv .0 ∙ below-goes-on _ _ (l .i) (c .before .before .before .before .before .before .before .before .loop-test .taken) (sym (flips-passed (a .g .variables) _ _ (pointsOf (a .points .now)) (a .falsified .now) (a .count) (l .i) _ _ (c .before .before .before .before .before .before .before .before .loop-test .taken) (c .before .before .before .before .before .before .point-at .ensures) (c .before .before .before .before .before .variables-of .ensures ∙ ap (λ (k : ℕ). listedBy (clauseNumbered (numbered (lentClauses (a .positive .now) (a .negative .now))) k)) (c .before .before .before .before .before .before .before .number-at .ensures))) ∙ sym (c .before .before .before .flips-covered .ensures .0) ∙ not-false _ (c .if1 .left)),
+      c .before .before .before .flips-covered .kept .1 .1 .1 .1 .0 ∙ l .inv .1,
+      c .before .before .before .flips-covered .ensures .1,
     )
 
 returns-2 : tie.Need-returns-2 Inv-loop μ-loop
@@ -74,11 +70,11 @@ first-uncovered-spec =
     Inv-loop
     μ-loop
     loop-holds
-    point-at-requires
-    slice-aggregate-move-images
-    move-images-requires
-    slice-aggregate-flips-pass
-    flips-pass-requires
+    (λ c κs. search needs)
+    (λ c κs. search needs)
+    (λ c κs. search needs)
+    slice-aggregate-flips-covered
+    flips-covered-requires
     (λ c. search needs)
     returns
     (λ c. search needs)

@@ -28,7 +28,7 @@ use Rattle.certificate.specs.Laws.RowLaws.{clause-found}
 use Rattle.certificate.specs.Rows.{clauseNumbered}
 use Rattle.check_falsified.specs.Laws.FalsifiedLaws.{numbered-at, numbered-below}
 use Rattle.check_flips.specs.Flips.{flipsOf, flipsPass, flipsFault}
-use Rattle.check_flips.specs.Laws.Loops.{listedBy, allFlips, Testable, Flipping}
+use Rattle.check_flips.specs.Laws.Loops.{listedBy, allFlips, Testable, Follows, Flipping}
 
 -- ---- the variables of the clause of a number
 
@@ -122,17 +122,32 @@ module _ {g : Lookup} {images : List ℕ} {clauses : List Clause} {points links 
       subst (λ (y : ℕ). y < 2 ^ g .variables) (getD-take count points i 0 lt)
       (t .indexed .indexes .narrow i (subst (λ (m : ℕ). i < m) (sym (length-take-le count points (t .enough))) lt))
 
-  -- the flips of a point that is indexed, where its images are known
-  pub tested-coverable : (i x : ℕ) → x ≡ getD points i 0 → (moved : List ℕ)
-      → Imaged (g .variables) (g .permutations) images (getD points i 0) moved
-      → Coverable (g .heads) (g .variables) count points links (g .permutations) images moved x
-  tested-coverable i x at moved known =
-      let own = subst (λ (y : ℕ). Imaged (g .variables) (g .permutations) images y moved) (sym at) known in
+  -- the flips of a point that is indexed
+  pub tested-follows : (i x : ℕ) → x ≡ getD points i 0 → i < count → {seen : ℕ} {moved : List ℕ}
+      → Imaged (g .variables) (g .permutations) images seen moved → Follows g images points links moved count seen x
+  tested-follows i x at lt known =
       record {
-        askable = record { few = digits-suffice (t .given .few); indexed = t .indexed; narrow = own .narrow };
+        askable = record {
+          few = digits-suffice (t .given .few);
+          indexed = t .indexed;
+          narrow = subst (λ (y : ℕ). y < 2 ^ g .variables) (sym at) (tested-narrow i lt);
+        };
         permuting = tested-permuting;
-        imaged = own .imaged;
+        imaged = known;
       }
+
+-- where the images are those of x itself, its images can be looked up too
+pub follows-covers : {g : Lookup} {images points links moved₀ : List ℕ} {count seen x : ℕ}
+    → Follows g images points links moved₀ count seen x → {moved : List ℕ}
+    → Imaged (g .variables) (g .permutations) images x moved
+    → Coverable (g .heads) (g .variables) count points links (g .permutations) images moved x
+follows-covers f known = record { askable = f .askable; permuting = f .permuting; imaged = known .imaged }
+
+-- the images may be those of another point
+pub follows-on : {g : Lookup} {images points links moved₀ : List ℕ} {count seen x : ℕ}
+    → Follows g images points links moved₀ count seen x → {at : ℕ} {moved : List ℕ}
+    → Imaged (g .variables) (g .permutations) images at moved → Follows g images points links moved count at x
+follows-on f known = record { askable = f .askable; permuting = f .permuting; imaged = known }
 
 -- ---- the test of one point, and the row
 

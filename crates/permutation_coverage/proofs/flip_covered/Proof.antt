@@ -2,6 +2,7 @@
 use mathlib.Core.Path.{sym, _∙_}
 use native.Mathlib.Nat.{lt-of-lt-of-le}
 use borrow.Author.Needs.{needs}
+use Rattle.point_slices.specs.Slices.{pointsOf}
 use Rattle.permutation_coverage.specs.Laws.CoverageLaws.{flip-askable, flip-found, flip-not-found}
 use Rattle.permutation_coverage.proofs.flip_covered.Statement.{statement}
 use Rattle.permutation_coverage.proofs.flip_covered.Tie as tie
@@ -11,18 +12,18 @@ flip-requires c κs = let pre = c .before .before .before .before .pre in lt-of-
 
 contains-requires : tie.Need-contains-requires
 contains-requires c κs =
-    let pre = c .before .before .before .before .before .pre in
-    let asked = flip-askable (pre .0) _ (pre .1) _ (c .flip .ensures) in
+    let pre = c .before .before .before .before .before .pre in let a = c .before .before .before .before .before .args in
+    let asked = flip-askable (a .g .variables) (a .k) (pointsOf (a .points .now)) (a .g .permutations) (a .images .now) (a .x) (a .v) (pre .0 .askable) (pre .1) _ (c .flip .ensures) in
     search (needs, asked)
 
 returns : tie.Need-returns
-returns c = let pre = c .before .before .before .before .before .before .before .pre in flip-found (pre .0) _ (pre .1) _ (c .before .before .flip .ensures) _ (c .before .contains .ensures) (c .if1 .taken)
+returns c = let pre = c .before .before .before .before .before .before .before .pre in let a = c .before .before .before .before .before .before .before .args in flip-found (a .g .variables) (a .k) (pointsOf (a .points .now)) (a .g .permutations) (a .images .now) (a .x) (a .v) (pre .0 .askable) (pre .1) _ (c .before .before .flip .ensures) _ (c .before .contains .ensures) (c .if1 .taken)
 
 image-covered-requires : tie.Need-image-covered-requires
 image-covered-requires c κs = c .before .before .before .before .before .before .before .pre
 
 returns-2 : tie.Need-returns-2
-returns-2 c = let pre = c .before .before .before .before .before .before .before .before .pre in c .image-covered .ensures ∙ sym (flip-not-found (pre .0) _ (pre .1) _ (c .before .before .before .flip .ensures) _ (c .before .before .contains .ensures) (c .before .if1 .left))
+returns-2 c = let pre = c .before .before .before .before .before .before .before .before .pre in let a = c .before .before .before .before .before .before .before .before .args in c .image-covered .ensures ∙ sym (flip-not-found (a .g .variables) (a .k) (pointsOf (a .points .now)) (a .g .permutations) (a .images .now) (a .x) (a .v) (pre .0 .askable) (pre .1) _ (c .before .before .before .flip .ensures) _ (c .before .before .contains .ensures) (c .before .if1 .left))
 
 pub flip-covered-spec : {M : Type 1} → statement M
 flip-covered-spec =

@@ -226,8 +226,7 @@ module _ {n permutations : ℕ} {images : List ℕ} (few : n ≤ pointDigits) (y
 
 -- ---- the look-ups of a flipped point and of its images
 
-module _ {heads n k : ℕ} {points links : List ℕ} {permutations : ℕ} {images moved : List ℕ} {x : ℕ}
-    (c : Coverable heads n k points links permutations images moved x) (v : ℕ) (inside : v < n) where
+module _ (n k : ℕ) (points : List ℕ) (permutations : ℕ) (images : List ℕ) (x v : ℕ) where
   abbrev es : List Permutation
   es = permutationsIn n permutations images
 
@@ -239,35 +238,40 @@ module _ {heads n k : ℕ} {points links : List ℕ} {permutations : ℕ} {image
   abbrev from : ℕ → Bool
   from i = any (imageIn (take k points) (flip x v)) (drop i es)
 
-  -- whatever has n digits can be looked up
-  asks : (y z : ℕ) → y ≡ z → z < 2 ^ n → Askable heads n (take k points) links y
-  asks y z same lt = record {
-    few = c .askable .few;
-    indexed = c .askable .indexed;
-    narrow = subst
-        (λ (w : ℕ). w < 2 ^ n) (sym same) lt;
-  }
+  module _ {heads : ℕ} {links : List ℕ} (a : Askable heads n (take k points) links x) (inside : v < n) where
+    -- whatever has n digits can be looked up
+    asks : (y z : ℕ) → y ≡ z → z < 2 ^ n → Askable heads n (take k points) links y
+    asks y z same lt =
+        record { few = a .few; indexed = a .indexed; narrow = subst (λ (w : ℕ). w < 2 ^ n) (sym same) lt }
 
-  module _ (y : ℕ) (is : y ≡ flip x v) where
-    pub flip-askable : Askable heads n (take k points) links y
-    flip-askable = asks y (flip x v) is (flip-lt n x v (c .askable .narrow) inside)
+    module _ (y : ℕ) (is : y ≡ flip x v) where
+      pub flip-askable : Askable heads n (take k points) links y
+      flip-askable = asks y (flip x v) is (flip-lt n x v (a .narrow) inside)
 
-    module _ (found : Bool) (promised : found ≡ has y (take k points)) where
-      first : whole ≡ found || from 0
-      unfolding covered
-      first = ap (λ (b : Bool). b || from 0) (sym (promised ∙ ap (λ (z : ℕ). has z (take k points)) is))
+      module _ (found : Bool) (promised : found ≡ has y (take k points)) where
+        first : whole ≡ found || from 0
+        unfolding covered
+        first = ap (λ (b : Bool). b || from 0) (sym (promised ∙ ap (λ (z : ℕ). has z (take k points)) is))
 
-      pub flip-found : found ≡ true → true ≡ whole
-      flip-found e = sym (first ∙ ap (λ (b : Bool). b || from 0) e)
+        pub flip-found : found ≡ true → true ≡ whole
+        flip-found e = sym (first ∙ ap (λ (b : Bool). b || from 0) e)
 
-      pub flip-not-found : found ≡ false → whole ≡ from 0
-      flip-not-found e = first ∙ ap (λ (b : Bool). b || from 0) e
+        pub flip-not-found : found ≡ false → whole ≡ from 0
+        flip-not-found e = first ∙ ap (λ (b : Bool). b || from 0) e
+
+module _ {heads n k : ℕ} {points links : List ℕ} {permutations : ℕ} {images moved : List ℕ} {x : ℕ}
+    (c : Coverable heads n k points links permutations images moved x) (v : ℕ) (inside : v < n) where
+  abbrev listed : List Permutation
+  listed = es n k points permutations images x v
+
+  abbrev image-from : ℕ → Bool
+  image-from i = from n k points permutations images x v i
 
   module _ (i : ℕ) (lt : i < permutations) where
     abbrev sender : Permutation
-    sender = getD es i noPermutation
+    sender = getD listed i noPermutation
 
-    among : i < length es
+    among : i < length listed
     among = inside-all (c .permuting) v inside i lt
 
     module _ (y : ℕ) (is : y ≡ flip (getD moved i 0) (getD images (i * n + v) 0 - 1)) where
@@ -276,22 +280,22 @@ module _ {heads n k : ℕ} {points links : List ℕ} {permutations : ℕ} {image
 
       pub image-askable : Askable heads n (take k points) links y
       image-askable =
-          asks y (imageOfPoint sender (flip x v)) image-is
-          (image-sound n sender (c .permuting .proper sender (getD-in es i noPermutation among)) (flip x v) .within)
+          asks n k points permutations images x v (c .askable) inside y (imageOfPoint sender (flip x v)) image-is
+          (image-sound n sender (c .permuting .proper sender (getD-in listed i noPermutation among)) (flip x v) .within)
 
-      module _ (left : from 0 ≡ from i) (found : Bool) (promised : found ≡ has y (take k points)) where
+      module _ (left : image-from 0 ≡ image-from i) (found : Bool) (promised : found ≡ has y (take k points)) where
         tested : imageIn (take k points) (flip x v) sender ≡ found
         tested = sym (promised ∙ ap (λ (z : ℕ). has z (take k points)) image-is)
 
-        pub image-found : found ≡ true → true ≡ from 0
-        image-found e = sym (left ∙ any-stops (imageIn (take k points) (flip x v)) es noPermutation i among
+        pub image-found : found ≡ true → true ≡ image-from 0
+        image-found e = sym (left ∙ any-stops (imageIn (take k points) (flip x v)) listed noPermutation i among
             (tested ∙ e))
 
-        pub image-not-found : found ≡ false → from 0 ≡ from (i + 1)
-        image-not-found e = left ∙ any-goes-on (imageIn (take k points) (flip x v)) es noPermutation i among
+        pub image-not-found : found ≡ false → image-from 0 ≡ image-from (i + 1)
+        image-not-found e = left ∙ any-goes-on (imageIn (take k points) (flip x v)) listed noPermutation i among
             (tested ∙ e)
 
-  pub none-found : (i : ℕ) → permutations ≤ i → from 0 ≡ from i → false ≡ from 0
+  pub none-found : (i : ℕ) → permutations ≤ i → image-from 0 ≡ image-from i → false ≡ image-from 0
   none-found i ge left =
-      sym (left ∙ any-ends (imageIn (take k points) (flip x v)) es noPermutation i
+      sym (left ∙ any-ends (imageIn (take k points) (flip x v)) listed noPermutation i
       (le-trans (le-of-eq (length-permutations n permutations images)) ge))
