@@ -490,3 +490,45 @@ pub fn check(formula: &Formula, clauses: Clauses, file: &[u8]) -> Result<(), Ref
     }
     Ok(())
 }
+
+// ---- everything from a text to a checked certificate
+
+// Slots to fill, in three lists of the same length.
+#[derive(Clone, PartialEq, Debug)]
+pub struct Slots {
+    pub points: Vec<u64>,
+    pub numbers: Vec<u32>,
+    pub depths: Vec<u32>,
+}
+
+impl Slots {
+    pub fn new(count: usize) -> Slots {
+        Slots { points: vec![0; count], numbers: vec![0; count], depths: vec![0; count] }
+    }
+
+    pub fn search(&mut self, formula: &Formula, clauses: Clauses) -> Result<Answer, Refusal> {
+        search(formula, clauses, &mut self.points, &mut self.numbers, &mut self.depths)
+    }
+
+    pub fn write(&self, formula: &Formula, clauses: Clauses, filled: usize, out: &mut [u8]) -> Result<usize, Refusal> {
+        write(formula, clauses, &self.points, &self.numbers, &self.depths, filled, out)
+    }
+}
+
+// Reads into two clause slices, searches and, where no point satisfies the clauses, writes and checks the certificate;
+// answers its length, or 0.
+pub fn solve(
+    text: &[u8],
+    [positive, negative]: [&mut [u64]; 2],
+    slots: &mut Slots,
+    out: &mut [u8],
+) -> Result<(Answer, usize), Refusal> {
+    let formula = read(text, positive, negative)?;
+    let count = formula.clauses as usize;
+    let clauses = Clauses { positive: &positive[..count], negative: &negative[..count] };
+    let answer = slots.search(&formula, clauses)?;
+    let Answer::Unsatisfiable { filled } = answer else { return Ok((answer, 0)) };
+    let length = slots.write(&formula, clauses, filled, out)?;
+    check(&formula, clauses, &out[..length])?;
+    Ok((answer, length))
+}

@@ -29,14 +29,7 @@ fn tree(x: u64) -> usize {
 
 // Half as many points as a file holds, at random.
 fn ordinary() -> Vec<u64> {
-    let mut x = 88172645463325252u64;
-    let mut next = || {
-        x ^= x << 13;
-        x ^= x >> 7;
-        x ^= x << 17;
-        x % FIRST | FIRST
-    };
-    (0..POINTS / 2).map(|_| next()).collect()
+    files::random(88172645463325252).take(POINTS / 2).map(|x| x % FIRST | FIRST).collect()
 }
 
 // The same number, hostile: a tree's points have their flips in the next tree.
