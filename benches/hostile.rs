@@ -94,17 +94,11 @@ fn checked(permutations: &[Vec<u8>], points: &[u64], wanted: [u64; 2]) -> f64 {
     least
 }
 
-// 4,096 clauses of 12 variables: from any point the search visits all points of 16 variables, which are the lowest or
-// the highest of 64. With 16 permutations that move nothing, so that every flip costs 17 look-ups.
+// The clauses of a cube of 16 variables, the lowest or the highest of 64, with 16 permutations that move nothing, so that
+// every flip costs 17 look-ups.
 fn cube(first: u32) -> Sheet {
-    // the points with the digits of q, at variables that the lowest digit chooses, falsify the clause
-    let clause = |q: u64| {
-        let place = |k: u32| first + if q & 1 == 0 || k == 0 { k } else { k + 4 };
-        let spread = |set: u64| (0..12).filter(|k| set >> k & 1 == 1).map(|k| 1u64 << place(k)).sum::<u64>();
-        (spread(!q), spread(q))
-    };
     let identity: Vec<u8> = (1..=64).collect();
-    sheets::sheet(64, &(0..1 << 12).map(clause).collect::<Vec<_>>(), &vec![identity; 16])
+    sheets::sheet(64, &sheets::cube(first), &vec![identity; 16])
 }
 
 fn searched(s: &Sheet) -> f64 {
