@@ -1,7 +1,7 @@
 // An implementation of document 01 in plain Rust for the library to be timed beside, written for speed: one pass over
 // a text, points in the standard library's hash set as it comes, clauses tried eight at a time, permutations as
-// rotations of masks, images made only where a flip itself is not found. compare.rs holds its answers to the
-// library's before it times a step.
+// rotations of masks, images made only where a flip itself is not found. compare.rs stops where its answers are not
+// the library's.
 #![allow(dead_code)] // a program uses some of them
 use std::collections::HashSet;
 use std::hash::{BuildHasherDefault, Hasher};
