@@ -1,6 +1,6 @@
-// How much of the stack each exported function takes, on a small sheet, as most are, and on large ones, which make it go
-// as deep as it goes: as many clauses, slots and permutations as there can be, and a certificate of as many points. For
-// `nearest`, which takes texts of 65,536 bytes and has 4,096 slots, there are smaller ones among them.
+// How much of the stack each exported function takes, on a small sheet, as most are, and on large ones, which make it
+// go as deep as it goes: as many clauses, slots and permutations as there can be, and a certificate of as many points.
+// For `nearest`, which takes texts of 65,536 bytes and has 4,096 slots, there are smaller ones among them.
 #[path = "../tests/depth.rs"]
 mod depth;
 #[path = "../tests/library.rs"]

@@ -1,5 +1,5 @@
-// How much of the stack a task takes: it runs on a stack of its own that was filled with a pattern, and what differs from
-// the pattern afterwards was used.
+// How much of the stack a task takes: it runs on a stack of its own that was filled with a pattern, and what differs
+// from the pattern afterwards was used.
 use std::ffi::c_void;
 
 const SIZE: usize = 4 << 20;

@@ -59,8 +59,8 @@ pub fn formula_a() -> Vec<(u64, u64)> {
     [[1, 2], [-1, 2], [1, -2], [-1, -2]].map(|c| clause(&c)).to_vec()
 }
 
-// All clauses that list each of the first n variables, as the sets of their positive literals ascend: each point falsifies
-// just one of them.
+// All clauses that list each of the first n variables, as the sets of their positive literals ascend: each point
+// falsifies just one of them.
 pub fn every(n: u32) -> Vec<(u64, u64)> {
     let all = (1 << n) - 1;
     (0..=all).map(|positive| (positive, all - positive)).collect()
