@@ -45,18 +45,25 @@ struct Measuring {
 }
 
 impl Measuring {
-    // A row, of which `bytes` are read where a speed is told.
+    // A row, of which `bytes` are read where a speed is told. Both answer the same words before they are timed.
     fn row(
         &mut self,
         (sheet, step, detail): (&str, &'static str, String),
         bytes: Option<usize>,
-        mut library: impl FnMut(),
-        mut baseline: impl FnMut(),
+        mut library: impl FnMut() -> [u64; 4],
+        mut baseline: impl FnMut() -> [u64; 4],
     ) {
+        assert_eq!(library(), baseline(), "{sheet}, {step}");
+        let mut ours = || {
+            black_box(library());
+        };
+        let mut theirs = || {
+            black_box(baseline());
+        };
         let [library, baseline] = if self.alone {
-            [least(self.limit, [&mut library])[0], f64::NAN]
+            [least(self.limit, [&mut ours])[0], f64::NAN]
         } else {
-            least(self.limit, [&mut library, &mut baseline])
+            least(self.limit, [&mut ours, &mut theirs])
         };
         let sheet = sheet.to_string();
         self.rows.push(Row { sheet, step, detail, bytes, library: library * 1e6, baseline: baseline * 1e6 });
@@ -78,18 +85,17 @@ impl Measuring {
         let (mut p, mut q, mut numbers, mut images, mut reply) =
             (vec![0; 4096], vec![0; 4096], [0; 4], [0; 1024], [9; 4]);
         let (mut positive, mut negative) = (p.clone(), q.clone());
-        let mut read = || library::read(black_box(text), &mut p, &mut q, &mut numbers, &mut images, &mut reply);
-        let mut baseline = || baseline::read(black_box(text), &mut positive, &mut negative);
-        let formula = baseline();
         self.row(
             (name, "read", format!(" {} bytes", text.len())),
             Some(text.len()),
-            || assert_eq!(read(), 1),
-            || assert!(black_box(baseline()).is_ok() == formula.is_ok()),
+            || {
+                assert_eq!(library::read(black_box(text), &mut p, &mut q, &mut numbers, &mut images, &mut reply), 1);
+                reply
+            },
+            || words(&baseline::read(black_box(text), &mut positive, &mut negative), |_| [PARSED, 0, 0, 0]),
         );
-        assert_eq!(reply, words(&formula, |_| [PARSED, 0, 0, 0]));
+        let f = baseline::read(text, &mut positive, &mut negative).ok()?;
         assert_eq!((p, q), (positive.clone(), negative.clone()));
-        let f = formula.ok()?;
         assert_eq!(numbers, [f.variables.into(), f.clauses.into(), f.target, f.permutations.into()]);
         assert_eq!(images, f.images);
         positive.truncate(f.clauses as usize);
@@ -109,19 +115,18 @@ impl Measuring {
     fn searching(&mut self, name: &str, s: &Sheet, step: &'static str, room: usize) -> Option<(Slots, usize)> {
         let (mut ours, mut theirs, mut reply) = (Slots::new(room), Slots::new(room), [9; 4]);
         let (f, c) = (&formula(s), clauses(s));
-        let mut search =
-            || library::search(s, &mut ours.points, &mut ours.numbers, &mut ours.depths, black_box(&mut reply));
-        let mut baseline = || theirs.search(f, black_box(c));
-        let found = baseline();
+        let filled = filled(&theirs.search(f, c));
         self.row(
-            (name, step, format!(", {} filled", filled(&found))),
+            (name, step, format!(", {filled} filled")),
             None,
-            || assert_eq!(search(), 1),
-            || assert_eq!(black_box(baseline()), found),
+            || {
+                assert_eq!(library::search(s, &mut ours.points, &mut ours.numbers, &mut ours.depths, &mut reply), 1);
+                reply
+            },
+            || words(&theirs.search(f, black_box(c)), told),
         );
-        assert_eq!(reply, words(&found, told));
         assert_eq!(ours, theirs);
-        (reply[0] == UNSATISFIABLE).then(|| (ours, filled(&found)))
+        (reply[0] == UNSATISFIABLE).then_some((ours, filled))
     }
 
     fn certifying(&mut self, name: &str, s: &Sheet, slots: &Slots, filled: usize) {
@@ -132,41 +137,43 @@ impl Measuring {
         self.row(
             (name, "write", format!(" {length} bytes")),
             None,
-            || assert_eq!(library::write(s, points, numbers, depths, filled as u32, &mut ours, &mut reply), 1),
-            || assert_eq!(black_box(slots.write(f, c, filled, &mut theirs)), Ok(length)),
+            || {
+                assert_eq!(library::write(s, points, numbers, depths, filled as u32, &mut ours, &mut reply), 1);
+                reply
+            },
+            || words(&slots.write(f, c, filled, &mut theirs), |&length| [WRITTEN, length as u64, 0, 0]),
         );
-        assert_eq!(reply, [WRITTEN, length as u64, 0, 0]);
         assert_eq!(ours, theirs);
         let file = &ours[..length];
         self.row(
             (name, "check", format!(" {length} bytes")),
             None,
-            || assert_eq!(library::check(s, black_box(file), &mut reply), 1),
-            || assert_eq!(black_box(baseline::check(f, c, black_box(file))), Ok(())),
+            || {
+                assert_eq!(library::check(s, black_box(file), &mut reply), 1);
+                reply
+            },
+            || words(&baseline::check(f, c, black_box(file)), |_| [ACCEPTED, 0, 0, 0]),
         );
-        assert_eq!(reply, [ACCEPTED, 0, 0, 0]);
     }
 
     fn solving(&mut self, name: &str, text: &[u8]) {
         let (mut ours, mut theirs, mut reply) = (Slots::new(FEW), Slots::new(FEW), [9; 4]);
         let (mut out, mut p, mut q) = (vec![0; 32 + 1024 + 12 * FEW], vec![0; 4096], vec![0; 4096]);
         let mut other = out.clone();
-        let mut solve = |to: &mut Slots| {
-            library::solve(black_box(text), &mut to.points, &mut to.numbers, &mut to.depths, &mut out, &mut reply)
-        };
-        let mut baseline = || baseline::solve(black_box(text), [&mut p, &mut q], &mut theirs, &mut other);
-        let solved = baseline();
-        self.row(
-            (name, "solve", ", 4096 slots lent".to_string()),
-            None,
-            || assert_eq!(solve(&mut ours), 1),
-            || assert_eq!(black_box(baseline()), solved),
-        );
         let answer = |&(answer, length): &(Answer, usize)| match answer {
             Answer::Unsatisfiable { filled } => [CERTIFIED, filled as u64, length as u64, 0],
             _ => told(&answer),
         };
-        assert_eq!(reply, words(&solved, answer));
+        self.row(
+            (name, "solve", ", 4096 slots lent".to_string()),
+            None,
+            || {
+                let Slots { points, numbers, depths } = &mut ours;
+                assert_eq!(library::solve(black_box(text), points, numbers, depths, &mut out, &mut reply), 1);
+                reply
+            },
+            || words(&baseline::solve(black_box(text), [&mut p, &mut q], &mut theirs, &mut other), answer),
+        );
         assert_eq!((ours, out), (theirs, other));
     }
 }
