@@ -7,18 +7,11 @@ mod clock;
 mod files;
 #[path = "../tests/library.rs"]
 mod library;
-use clock::spent;
-use library::Sheet;
+#[path = "../tests/sheets.rs"]
+mod sheets;
+use clock::least;
 
 const LISTED: u32 = 8;
-
-// All clauses over the first 8 variables.
-fn sheet(variables: u32) -> Sheet {
-    let all = (1u64 << LISTED) - 1;
-    let positive: Vec<u64> = (0..=all).collect();
-    let negative = positive.iter().map(|p| all - p).collect();
-    Sheet { variables, clauses: 1 << LISTED, target: 0, permutations: 0, images: vec![0; 1024], positive, negative }
-}
 
 // The points of m variables, each with its parity shown by two more where there are permutations.
 fn points(m: u32, shown: bool) -> Vec<u64> {
@@ -40,13 +33,11 @@ fn main() {
             let all = (1u64 << LISTED) - 1;
             let file =
                 files::certificate(variables, 1 << LISTED, &permutations, &held, |x| (all - (x & all)) as usize + 1);
-            let mut reply = [0u64; 4];
-            let begun = spent();
-            library::check(&sheet(variables), &file, &mut reply);
-            let seconds = spent() - begun;
+            let (s, mut reply) = (sheets::sheet(variables, &sheets::every(LISTED), &[]), [0u64; 4]);
+            let [seconds] = least(0.2, [&mut || assert_eq!(library::check(&s, &file, &mut reply), 1)]);
             assert_eq!(reply, [7, 0, 0, 0], "accepted");
             let lookups = held.len() as u32 * LISTED;
-            println!("{listed} {} {lookups} {seconds:.3} {:.2}", held.len(), seconds / lookups as f64 * 1e6);
+            println!("{listed} {} {lookups} {seconds:.4} {:.3}", held.len(), seconds / lookups as f64 * 1e6);
         }
     }
 }

@@ -1,18 +1,28 @@
-// The processor's time of this program (Linux); other programs do not count.
-#[repr(C)]
-struct Timespec {
-    seconds: i64,
-    nanoseconds: i64,
+// How long steps take, by the clock on the wall: the processor's time of a virtual machine is corrected for what the
+// machine lost, and sometimes comes out too short.
+use std::time::Instant;
+
+// Short steps are timed in batches of so many seconds, so that reading the clock does not count.
+const BATCH: f64 = 20e-6;
+
+fn seconds(step: &mut dyn FnMut(), runs: usize) -> f64 {
+    let begun = Instant::now();
+    (0..runs).for_each(|_| step());
+    begun.elapsed().as_secs_f64() / runs as f64
 }
 
-extern "C" {
-    fn clock_gettime(clock: i32, time: *mut Timespec) -> i32;
-}
-
-// The seconds spent so far.
-pub fn spent() -> f64 {
-    const PROCESS_CPUTIME: i32 = 2;
-    let mut t = Timespec { seconds: 0, nanoseconds: 0 };
-    assert_eq!(unsafe { clock_gettime(PROCESS_CPUTIME, &mut t) }, 0);
-    t.seconds as f64 + t.nanoseconds as f64 * 1e-9
+// The least seconds that each of some steps takes. They take turns, for so many seconds and five times at least.
+pub fn least<const STEPS: usize>(limit: f64, mut steps: [&mut dyn FnMut(); STEPS]) -> [f64; STEPS] {
+    let mut once = |k: usize| {
+        steps[k]();
+        seconds(steps[k], 1)
+    };
+    let runs: [usize; STEPS] = std::array::from_fn(|k| (BATCH / once(k).max(1e-9)).ceil() as usize);
+    let mut least = [f64::MAX; STEPS];
+    let (begun, mut rounds) = (Instant::now(), 0);
+    while rounds < 5 || begun.elapsed().as_secs_f64() < limit {
+        (0..STEPS).for_each(|k| least[k] = least[k].min(seconds(steps[k], runs[k])));
+        rounds += 1;
+    }
+    least
 }

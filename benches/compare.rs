@@ -1,101 +1,230 @@
-// The library against the implementation of tests/reference.rs, which has the standard hash set: same inputs, same
-// run, by the processor's time (Linux). For each sheet handed over: reading it, searching with 4,096 and with 65,536
-// slots and, where no point satisfies it, writing and checking the certificate. Prints a table; a ratio above 1 says
-// that the library took longer. Usage: compare SECONDS FILE .. (SECONDS: how long a measurement goes on repeating a
-// step at most; a FILE called `large` stands for two texts of 1 MiB).
+// The library beside baseline.rs, an implementation of document 01 in plain Rust that was written for speed: same
+// inputs, same run, and the same answers, or the program stops. For each sheet handed over: reading it, searching with
+// 4,096 and with 65,536 slots, where no point satisfies it writing and checking the certificate, and the whole in one
+// call, from the text to the answer, with 4,096 slots. Both take turns, and the least time counts.
+//
+// The ratio is the baseline's time to the library's: above 1 the library is faster. Rows stand with the worst ratio
+// last; below them is for each step the geometric mean, the worst ratio and how many rows are below 1.
+//
+// Usage: compare SECONDS FILE .. (SECONDS: how long a measurement goes on) prints a table; compare --rows SECONDS FILE
+// .. times the library alone and prints sheet, step and microseconds, parted by tabs.
+mod baseline;
+mod beside;
 mod clock;
-#[path = "../tests/lending.rs"]
-mod lending;
 #[path = "../tests/library.rs"]
 mod library;
-#[allow(dead_code)] // the benchmark needs the functions that it times
-#[path = "../tests/reference.rs"]
-mod reference;
-use clock::spent;
-use lending::lent;
+use baseline::{Answer, Refusal, Slots};
+use beside::{clauses, formula, told, words};
+use clock::least;
+use library::{Sheet, ACCEPTED, CERTIFIED, PARSED, UNSATISFIABLE, WRITTEN};
+use std::hint::black_box;
 
-// The fastest of some runs, in microseconds.
-fn fastest(limit: f64, mut step: impl FnMut()) -> f64 {
-    let begun = spent();
-    let mut least = f64::MAX;
-    for _ in 0..1000 {
-        let from = spent();
-        step();
-        least = least.min(spent() - from);
-        if spent() - begun > limit {
-            break;
+const FEW: usize = 4096;
+const MANY: usize = 65536;
+
+struct Row {
+    sheet: String,
+    step: &'static str,
+    detail: String,
+    bytes: Option<usize>,
+    library: f64,
+    baseline: f64,
+}
+
+impl Row {
+    fn ratio(&self) -> f64 {
+        self.baseline / self.library
+    }
+}
+
+// How a sheet is measured: each step for so many seconds, the library alone or not; and the rows so far.
+struct Measuring {
+    limit: f64,
+    alone: bool,
+    rows: Vec<Row>,
+}
+
+impl Measuring {
+    // A row, of which `bytes` are read where a speed is told. Both answer the same words before they are timed.
+    fn row(
+        &mut self,
+        (sheet, step, detail): (&str, &'static str, String),
+        bytes: Option<usize>,
+        mut library: impl FnMut() -> [u64; 4],
+        mut baseline: impl FnMut() -> [u64; 4],
+    ) {
+        assert_eq!(library(), baseline(), "{sheet}, {step}");
+        let mut ours = || {
+            black_box(library());
+        };
+        let mut theirs = || {
+            black_box(baseline());
+        };
+        let [library, baseline] = if self.alone {
+            [least(self.limit, [&mut ours])[0], f64::NAN]
+        } else {
+            least(self.limit, [&mut ours, &mut theirs])
+        };
+        let sheet = sheet.to_string();
+        self.rows.push(Row { sheet, step, detail, bytes, library: library * 1e6, baseline: baseline * 1e6 });
+    }
+
+    fn sheet(&mut self, name: &str, text: &[u8]) {
+        if let Some(s) = self.reading(name, text) {
+            let few = self.searching(name, &s, "search, 4096 slots lent", FEW);
+            let many = self.searching(name, &s, "search, 65536 slots lent", MANY);
+            if let Some((slots, filled)) = few.or(many) {
+                self.certifying(name, &s, &slots, filled);
+            }
         }
+        self.solving(name, text);
     }
-    least * 1e6
-}
 
-fn row(name: &str, step: &str, library: f64, reference: f64) {
-    println!("| {name} | {step} | {library:.1} | {reference:.1} | {:.2} |", library / reference);
-}
-
-fn reading(name: &str, text: &[u8], limit: f64) {
-    let (mut p, mut q) = (vec![0; 4096], vec![0; 4096]);
-    let (mut numbers, mut images, mut reply) = ([0; 4], [0; 1024], [0; 4]);
-    let ours =
-        fastest(limit, || assert_eq!(library::read(text, &mut p, &mut q, &mut numbers, &mut images, &mut reply), 1));
-    let theirs = fastest(limit, || assert_eq!(reference::read(text, 4096, 4096).is_ok(), reply[0] == 4));
-    row(name, &format!("read {} bytes", text.len()), ours, theirs);
-}
-
-fn searching(name: &str, s: &reference::Sheet, slots: usize, limit: f64) -> Option<Vec<u8>> {
-    let lent = lent(s);
-    let (mut points, mut numbers, mut depths, mut reply) = (vec![0; slots], vec![0; slots], vec![0; slots], [0; 4]);
-    let ours =
-        fastest(limit, || assert_eq!(library::search(&lent, &mut points, &mut numbers, &mut depths, &mut reply), 1));
-    let mut filled = 0;
-    let theirs = fastest(limit, || filled = reference::walk(s, slots).1.len());
-    row(name, &format!("search, {slots} slots lent, {filled} filled"), ours, theirs);
-    if reply[0] != 2 {
-        return None;
+    // Answers the sheet unless it is refused.
+    fn reading(&mut self, name: &str, text: &[u8]) -> Option<Sheet> {
+        let (mut p, mut q, mut numbers, mut images, mut reply) =
+            (vec![0; 4096], vec![0; 4096], [0; 4], [0; 1024], [9; 4]);
+        let (mut positive, mut negative) = (p.clone(), q.clone());
+        self.row(
+            (name, "read", format!(" {} bytes", text.len())),
+            Some(text.len()),
+            || {
+                assert_eq!(library::read(black_box(text), &mut p, &mut q, &mut numbers, &mut images, &mut reply), 1);
+                reply
+            },
+            || words(&baseline::read(black_box(text), &mut positive, &mut negative), |_| [PARSED, 0, 0, 0]),
+        );
+        let f = baseline::read(text, &mut positive, &mut negative).ok()?;
+        assert_eq!((p, q), (positive.clone(), negative.clone()));
+        assert_eq!(numbers, [f.variables.into(), f.clauses.into(), f.target, f.permutations.into()]);
+        assert_eq!(images, f.images);
+        positive.truncate(f.clauses as usize);
+        negative.truncate(f.clauses as usize);
+        Some(Sheet {
+            variables: f.variables,
+            clauses: f.clauses,
+            target: f.target,
+            permutations: f.permutations,
+            images: images.to_vec(),
+            positive,
+            negative,
+        })
     }
-    let mut out = vec![0; 32 + 1024 + 12 * slots];
-    let ours = fastest(limit, || {
-        assert_eq!(library::write(&lent, &points, &numbers, &depths, filled as u32, &mut out, &mut reply), 1)
-    });
-    let theirs =
-        fastest(limit, || assert!(reference::write(s, &points, &numbers, slots, filled as u32, out.len()).is_ok()));
-    out.truncate(reply[1] as usize);
-    row(name, &format!("write {} bytes", out.len()), ours, theirs);
-    Some(out)
+
+    // Answers the slots and how many are filled where no point satisfies the clauses.
+    fn searching(&mut self, name: &str, s: &Sheet, step: &'static str, room: usize) -> Option<(Slots, usize)> {
+        let (mut ours, mut theirs, mut reply) = (Slots::new(room), Slots::new(room), [9; 4]);
+        let (f, c) = (&formula(s), clauses(s));
+        let filled = filled(&theirs.search(f, c));
+        self.row(
+            (name, step, format!(", {filled} filled")),
+            None,
+            || {
+                assert_eq!(library::search(s, &mut ours.points, &mut ours.numbers, &mut ours.depths, &mut reply), 1);
+                reply
+            },
+            || words(&theirs.search(f, black_box(c)), told),
+        );
+        assert_eq!(ours, theirs);
+        (reply[0] == UNSATISFIABLE).then_some((ours, filled))
+    }
+
+    fn certifying(&mut self, name: &str, s: &Sheet, slots: &Slots, filled: usize) {
+        let (mut ours, mut reply) = (vec![0; 32 + 1024 + 12 * filled], [9; 4]);
+        let (f, c, mut theirs) = (&formula(s), clauses(s), ours.clone());
+        let (points, numbers, depths) = (&slots.points, &slots.numbers, &slots.depths);
+        let length = slots.write(f, c, filled, &mut theirs).expect("the slots of a search");
+        self.row(
+            (name, "write", format!(" {length} bytes")),
+            None,
+            || {
+                assert_eq!(library::write(s, points, numbers, depths, filled as u32, &mut ours, &mut reply), 1);
+                reply
+            },
+            || words(&slots.write(f, c, filled, &mut theirs), |&length| [WRITTEN, length as u64, 0, 0]),
+        );
+        assert_eq!(ours, theirs);
+        let file = &ours[..length];
+        self.row(
+            (name, "check", format!(" {length} bytes")),
+            None,
+            || {
+                assert_eq!(library::check(s, black_box(file), &mut reply), 1);
+                reply
+            },
+            || words(&baseline::check(f, c, black_box(file)), |_| [ACCEPTED, 0, 0, 0]),
+        );
+    }
+
+    fn solving(&mut self, name: &str, text: &[u8]) {
+        let (mut ours, mut theirs, mut reply) = (Slots::new(FEW), Slots::new(FEW), [9; 4]);
+        let (mut out, mut p, mut q) = (vec![0; 32 + 1024 + 12 * FEW], vec![0; 4096], vec![0; 4096]);
+        let mut other = out.clone();
+        let answer = |&(answer, length): &(Answer, usize)| match answer {
+            Answer::Unsatisfiable { filled } => [CERTIFIED, filled as u64, length as u64, 0],
+            _ => told(&answer),
+        };
+        self.row(
+            (name, "solve", ", 4096 slots lent".to_string()),
+            None,
+            || {
+                let Slots { points, numbers, depths } = &mut ours;
+                assert_eq!(library::solve(black_box(text), points, numbers, depths, &mut out, &mut reply), 1);
+                reply
+            },
+            || words(&baseline::solve(black_box(text), [&mut p, &mut q], &mut theirs, &mut other), answer),
+        );
+        assert_eq!((ours, out), (theirs, other));
+    }
 }
 
-// Two texts of 1 MiB: almost all remarks, and almost all literals.
-fn large() -> [(&'static str, Vec<u8>); 2] {
-    let filled = |start: &[u8], piece: &[u8], end: &[u8]| {
-        let count = ((1 << 20) - start.len() - end.len()) / piece.len();
-        [start, &piece.repeat(count), end].concat()
-    };
-    [
-        ("remarks", filled(b"p cnf 3 1\n", b"c a line that says nothing of names or rules\n", b"1 2 0\n")),
-        ("literals", filled(b"p cnf 64 1\n", b"-64 63 ", b"0\n")),
-    ]
+fn filled(found: &Result<Answer, Refusal>) -> usize {
+    match found {
+        Ok(Answer::Satisfiable { filled, .. } | Answer::Unsatisfiable { filled } | Answer::Unknown { filled, .. }) => {
+            *filled
+        }
+        Err(_) => 0,
+    }
+}
+
+// The rows, the worst ratio last, and what they come to by step.
+fn table(mut rows: Vec<Row>) {
+    rows.sort_by(|a, b| b.ratio().total_cmp(&a.ratio()));
+    println!("| sheet | step | library, µs | baseline, µs | ratio | library, MB/s |\n|---|---|---|---|---|---|");
+    for r in &rows {
+        let speed = r.bytes.map_or(String::new(), |bytes| format!("{:.0} ", bytes as f64 / r.library));
+        let (step, ratio) = (format!("{}{}", r.step, r.detail), r.ratio());
+        println!("| {} | {step} | {:.3} | {:.3} | {ratio:.2} | {speed}|", r.sheet, r.library, r.baseline);
+    }
+    let mut steps: Vec<&str> = rows.iter().map(|r| r.step).collect();
+    steps.sort();
+    steps.dedup();
+    for step in steps {
+        let of: Vec<&Row> = rows.iter().filter(|r| r.step == step).collect();
+        let mean = (of.iter().map(|r| r.ratio().ln()).sum::<f64>() / of.len() as f64).exp();
+        let slower = of.iter().filter(|r| r.ratio() < 1.0).count();
+        let worst = of[of.len() - 1];
+        println!(
+            "{step}: geometric mean {mean:.2}, worst {:.2} ({}), {slower} of {} rows below 1.0",
+            worst.ratio(),
+            worst.sheet,
+            of.len()
+        );
+    }
 }
 
 fn main() {
-    let mut words = std::env::args().skip(1);
-    let limit: f64 = words.next().and_then(|w| w.parse().ok()).expect("seconds");
-    println!("| sheet | step | library, µs | hash set, µs | ratio |\n|---|---|---|---|---|");
+    let mut words = std::env::args().skip(1).peekable();
+    let alone = words.next_if(|word| word == "--rows").is_some();
+    let limit = words.next().and_then(|word| word.parse().ok()).expect("seconds");
+    let mut measuring = Measuring { limit, alone, rows: Vec::new() };
     for path in words {
-        if path == "large" {
-            large().iter().for_each(|(name, text)| reading(name, text, limit));
-            continue;
-        }
-        let text = std::fs::read(&path).expect("a sheet");
-        let name = std::path::Path::new(&path).file_stem().and_then(|s| s.to_str()).unwrap_or(&path).to_string();
-        reading(&name, &text, limit);
-        let Ok(s) = reference::read(&text, 4096, 4096) else { continue };
-        let small = searching(&name, &s, 4096, limit);
-        let file = small.or_else(|| searching(&name, &s, 65536, limit));
-        if let Some(file) = file {
-            let (lent, mut reply) = (lent(&s), [0; 4]);
-            let ours = fastest(limit, || assert_eq!(library::check(&lent, &file, &mut reply), 1));
-            let theirs = fastest(limit, || assert!(reference::check(&s, &file).is_ok()));
-            row(&name, &format!("check {} bytes", file.len()), ours, theirs);
-        }
+        let name = std::path::Path::new(&path).file_stem().and_then(|stem| stem.to_str()).expect("a name");
+        measuring.sheet(name, &std::fs::read(&path).expect("a sheet"));
+    }
+    if alone {
+        measuring.rows.iter().for_each(|r| println!("{}\t{}{}\t{:.3}", r.sheet, r.step, r.detail, r.library));
+    } else {
+        table(measuring.rows);
     }
 }

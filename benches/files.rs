@@ -1,9 +1,21 @@
-// Certificates that benchmarks make themselves: contents, permutations, points, and for each point the number of a
-// clause.
+// What benchmarks make themselves.
+#![allow(dead_code)] // a program uses some of them
+
+// Random numbers (xorshift), the same on every machine.
+pub fn random(mut x: u64) -> impl Iterator<Item = u64> {
+    std::iter::from_fn(move || {
+        x ^= x << 13;
+        x ^= x >> 7;
+        x ^= x << 17;
+        Some(x)
+    })
+}
+
 fn number(file: &mut Vec<u8>, x: usize) {
     file.extend((x as u32).to_le_bytes());
 }
 
+// A certificate: contents, permutations, points, and for each point the number of a clause.
 pub fn certificate(
     variables: u32,
     clauses: u32,

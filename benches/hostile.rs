@@ -1,15 +1,17 @@
-// What the points of a file can cost whoever checks it, and those of a sheet whoever searches: each ordinary case
-// beside the worst that was found, in one run, by the processor's time (Linux). The index takes a tree by a hash of
-// the point and goes down by its lowest digits, so hostile points have the hash of one of a few trees and the same 30
-// lowest digits. Prints a table; the last column says how many times the ordinary time the hostile one is.
+// What a file can cost whoever checks it, and a sheet whoever searches: each ordinary case beside the worst that was
+// found, in one run, for the library and for the baseline. The index takes a tree by a hash of the point and goes down
+// by its lowest digits, so hostile points have the hash of one of a few trees and the same 30 lowest digits; a hostile
+// sheet repeats one clause, whose image is the last and is looked for where the repeated one stands. Prints a table;
+// 'times' says how many times the ordinary time the hostile one is.
+mod baseline;
+mod beside;
 mod clock;
 mod files;
 #[path = "../tests/library.rs"]
 mod library;
 #[path = "../tests/sheets.rs"]
 mod sheets;
-use clock::spent;
-use library::Sheet;
+use library::{Sheet, ACCEPTED, REFUSED, SATISFIABLE, UNSATISFIABLE};
 
 const POINTS: usize = 65536;
 // The trees among which hostile points are spread.
@@ -22,21 +24,23 @@ const TOP: u64 = 1 << 63;
 const FIRST: u64 = 1 << 61;
 const SECOND: u64 = 1 << 62;
 
-// The tree of a point in an index with 65,536 heads, as crates/point_index has it.
+// The tree of a point in an index with so many heads, as crates/point_index has it.
+fn head(x: u64, heads: u64) -> u64 {
+    ((x % (1 << 32)) * 1640531527 + (x >> 32) * 1779033703) / (1 << 32) % heads
+}
+
 fn tree(x: u64) -> usize {
-    (((x % (1 << 32)) * 1640531527 + (x >> 32) * 1779033703) / (1 << 32) % 65536) as usize
+    head(x, 65536) as usize
+}
+
+// Where crates/permutation_symmetry looks for a clause of positive literals first.
+fn place(positive: u64) -> u64 {
+    1031 * head(positive, 1 << 32) % 8177
 }
 
 // Half as many points as a file holds, at random.
 fn ordinary() -> Vec<u64> {
-    let mut x = 88172645463325252u64;
-    let mut next = || {
-        x ^= x << 13;
-        x ^= x >> 7;
-        x ^= x << 17;
-        x % FIRST | FIRST
-    };
-    (0..POINTS / 2).map(|_| next()).collect()
+    files::random(88172645463325252).take(POINTS / 2).map(|x| x % FIRST | FIRST).collect()
 }
 
 // The same number, hostile: a tree's points have their flips in the next tree.
@@ -62,84 +66,103 @@ fn closed(half: &[u64]) -> Vec<u64> {
 // Sixteen permutations that keep the clauses on variable 64: fifteen exchange two of the 30 lowest variables, the
 // last two above.
 fn permutations() -> Vec<Vec<u8>> {
-    let swapped = |a: usize, b: usize| {
-        let mut e: Vec<u8> = (1..=64).collect();
-        e.swap(a, b);
-        e
-    };
     (0..15).map(|k| swapped(2 * k, 2 * k + 1)).chain([swapped(61, 62)]).collect()
 }
 
-// The two clauses on variable 64 alone.
-fn units() -> Sheet {
-    Sheet {
-        variables: 64,
-        clauses: 2,
-        target: 0,
-        permutations: 0,
-        images: vec![0; 1024],
-        positive: vec![TOP, 0],
-        negative: vec![0, TOP],
-    }
+fn swapped(a: usize, b: usize) -> Vec<u8> {
+    let mut e: Vec<u8> = (1..=64).collect();
+    e.swap(a, b);
+    e
 }
 
-fn milliseconds(mut step: impl FnMut()) -> f64 {
-    (0..5)
-        .map(|_| {
-            let begun = spent();
-            step();
-            (spent() - begun) * 1e3
-        })
-        .fold(f64::MAX, f64::min)
-}
-
-fn checked(permutations: &[Vec<u8>], points: &[u64], wanted: [u64; 2]) -> f64 {
+// A file over the two clauses on variable 64 alone.
+fn file(permutations: &[Vec<u8>], points: &[u64]) -> (Sheet, Vec<u8>) {
     let file = files::certificate(64, 2, permutations, points, |x| if x & TOP == 0 { 1 } else { 2 });
-    let mut reply = [0u64; 4];
-    let least = milliseconds(|| assert_eq!(library::check(&units(), &file, &mut reply), 1));
-    assert_eq!(reply[..2], wanted);
-    least
+    (sheets::sheet(64, &[(TOP, 0), (0, TOP)], &[]), file)
 }
 
-// 4,096 clauses of 12 variables: from any point the search visits all points of 16 variables, which are the lowest or
-// the highest of 64. With 16 permutations that move nothing, so that every flip costs 17 look-ups.
+// Clauses with 16 permutations that exchange the first two variables, and a target that satisfies them all by variable
+// 64; a file of one point that falsifies the first clause and has a flip that is not in it, so that it is refused by 18
+// after the test that the permutations keep the clauses.
+fn kept(clauses: &[(u64, u64)], point: u64) -> (Sheet, Vec<u8>) {
+    let permutations = vec![swapped(0, 1); 16];
+    let with: Vec<(u64, u64)> = clauses.iter().map(|&(positive, negative)| (positive | TOP, negative)).collect();
+    let file = files::certificate(64, clauses.len() as u32, &permutations, &[point], |_| 1);
+    (Sheet { target: TOP, ..sheets::sheet(64, &with, &permutations) }, file)
+}
+
+// One clause 4,095 times and the one to which the permutations send it, which is looked for where all are.
+fn repeated() -> Vec<(u64, u64)> {
+    let meets = |others: &u64| place(others | TOP | 1) == place(others | TOP | 2);
+    let others = (0..1 << 32).map(|k| k << 2).find(meets).expect("places are few");
+    [vec![(others | 1, 0); 4095], vec![(others | 2, 0)]].concat()
+}
+
+// The clauses of a cube of 16 variables, the lowest or the highest of 64, with 16 permutations that move nothing, so
+// that every flip costs 17 look-ups.
 fn cube(first: u32) -> Sheet {
-    // the points with the digits of q, at variables that the lowest digit chooses, falsify the clause
-    let clause = |q: u64| {
-        let place = |k: u32| first + if q & 1 == 0 || k == 0 { k } else { k + 4 };
-        let spread = |set: u64| (0..12).filter(|k| set >> k & 1 == 1).map(|k| 1u64 << place(k)).sum::<u64>();
-        (spread(!q), spread(q))
-    };
     let identity: Vec<u8> = (1..=64).collect();
-    sheets::sheet(64, &(0..1 << 12).map(clause).collect::<Vec<_>>(), &vec![identity; 16])
+    sheets::sheet(64, &sheets::cube(first), &vec![identity; 16])
 }
 
-fn searched(s: &Sheet) -> f64 {
-    milliseconds(|| {
-        let found = sheets::search(s, POINTS);
-        assert_eq!(found.reply[..2], [2, POINTS as u64]);
-    })
+// The milliseconds of the library and of the baseline, which answer the same.
+fn both(library: &mut dyn FnMut() -> [u64; 4], baseline: &mut dyn FnMut() -> [u64; 4], wanted: [u64; 4]) -> [f64; 2] {
+    let times = clock::least(
+        0.2,
+        [&mut || assert_eq!(library(), wanted, "the library"), &mut || assert_eq!(baseline(), wanted, "the baseline")],
+    );
+    times.map(|seconds| seconds * 1e3)
 }
 
-fn row(name: &str, ordinary: f64, hostile: f64) {
-    println!("| {name} | {ordinary:.1} | {hostile:.1} | {:.1} |", hostile / ordinary);
+fn checked((s, file): &(Sheet, Vec<u8>), wanted: [u64; 4]) -> [f64; 2] {
+    let (f, c) = (beside::formula(s), beside::clauses(s));
+    let library = || {
+        let mut reply = [9; 4];
+        assert_eq!(library::check(s, file, &mut reply), 1);
+        reply
+    };
+    let baseline = || beside::words(&baseline::check(&f, c, file), |_| [ACCEPTED, 0, 0, 0]);
+    both(&mut { library }, &mut { baseline }, wanted)
+}
+
+fn searched(s: &Sheet, wanted: [u64; 4]) -> [f64; 2] {
+    let (f, c) = (beside::formula(s), beside::clauses(s));
+    let baseline = || beside::words(&baseline::Slots::new(POINTS).search(&f, c), beside::told);
+    both(&mut || sheets::search(s, POINTS).reply, &mut { baseline }, wanted)
+}
+
+fn row(name: &str, ordinary: [f64; 2], hostile: [f64; 2]) {
+    let cells: Vec<String> =
+        [0, 1].map(|k| format!("{:.3} | {:.3} | {:.1}", ordinary[k], hostile[k], hostile[k] / ordinary[k])).to_vec();
+    println!("| {name} | {} |", cells.join(" | "));
 }
 
 fn main() {
     let (random, chosen) = (ordinary(), chosen());
     assert_eq!(chosen.len(), POINTS / 2);
-    println!("| case | ordinary, ms | hostile, ms | times |");
-    println!("|---|---|---|---|");
+    println!("| case | ordinary, ms | hostile, ms | times | baseline: ordinary, ms | hostile, ms | times |");
+    println!("|---|---|---|---|---|---|---|");
     let alone = |h: &[u64]| h.iter().copied().chain(h.iter().map(|&x| x ^ TOP)).collect::<Vec<u64>>();
+    let accepted = [ACCEPTED, 0, 0, 0];
     row(
         "check 65,536 points, one flip each",
-        checked(&[], &alone(&random), [7, 0]),
-        checked(&[], &alone(&chosen), [7, 0]),
+        checked(&file(&[], &alone(&random)), accepted),
+        checked(&file(&[], &alone(&chosen)), accepted),
     );
     row(
         "the same with 16 permutations, 17 look-ups a flip",
-        checked(&permutations(), &closed(&random), [7, 0]),
-        checked(&permutations(), &closed(&chosen), [7, 0]),
+        checked(&file(&permutations(), &closed(&random)), accepted),
+        checked(&file(&permutations(), &closed(&chosen)), accepted),
     );
-    row("search, 4,096 clauses of 12 variables, 16 permutations", searched(&cube(0)), searched(&cube(52)));
+    let all = [UNSATISFIABLE, POINTS as u64, 0, 0];
+    row("search, 4,096 clauses of 12 variables, 16 permutations", searched(&cube(0), all), searched(&cube(52), all));
+    let (distinct, repeated) = (kept(&sheets::every(12), (1 << 12) - 1), kept(&repeated(), 0));
+    let satisfied = [SATISFIABLE, TOP, 0, 1];
+    row(
+        "search, one clause 4,095 times, 16 permutations",
+        searched(&distinct.0, satisfied),
+        searched(&repeated.0, satisfied),
+    );
+    let refused = [REFUSED, 18, 1, 0];
+    row("check, the same sheet", checked(&distinct, refused), checked(&repeated, refused));
 }

@@ -1,112 +1,74 @@
-// How much of the stack each exported function takes: it runs on a stack of its own that was filled with a pattern,
-// and what is no longer the pattern afterwards was used. The inputs make each go as deep as it goes: a certificate
-// that is checked to its end, a text that is solved.
+// How much of the stack each exported function takes, on a small sheet, as most are, and on large ones, which make it
+// go as deep as it goes: as many clauses, slots and permutations as there can be, and a certificate of as many points.
+// For `nearest`, which takes texts of 65,536 bytes and has 4,096 slots, there are smaller ones among them.
+#[path = "../tests/depth.rs"]
+mod depth;
 #[path = "../tests/library.rs"]
 mod library;
-use library::Sheet;
-use std::ffi::c_void;
+#[path = "../tests/sheets.rs"]
+mod sheets;
+use depth::used;
+use library::{Slot, ACCEPTED, CERTIFIED, OPENED, PARSED, UNSATISFIABLE, WRITTEN};
 
-const SIZE: usize = 4 << 20;
-const PATTERN: u8 = 0xA5;
+// The functions in the order in which they were called, with the bytes that each took.
+type Taken = Vec<(&'static str, usize)>;
 
-extern "C" {
-    fn pthread_attr_init(attr: *mut [u64; 8]) -> i32;
-    fn pthread_attr_setstack(attr: *mut [u64; 8], at: *mut c_void, size: usize) -> i32;
-    fn pthread_create(
-        thread: *mut u64,
-        attr: *const [u64; 8],
-        start: extern "C" fn(*mut c_void) -> *mut c_void,
-        with: *mut c_void,
-    ) -> i32;
-    fn pthread_join(thread: u64, result: *mut *mut c_void) -> i32;
+// Calls a function that answers a word.
+fn call(taken: &mut Taken, name: &'static str, word: u64, task: &mut dyn FnMut(&mut [u64; 4]) -> u32) -> [u64; 4] {
+    let mut reply = [9; 4];
+    taken.push((name, used(&mut || assert_eq!(task(&mut reply), 1))));
+    assert_eq!(reply[0], word, "{name}");
+    reply
 }
 
-// Runs a task, which is handed over as a pointer to it.
-extern "C" fn run(task: *mut c_void) -> *mut c_void {
-    let task = unsafe { &mut *(task as *mut &mut dyn FnMut()) };
-    task();
-    std::ptr::null_mut()
-}
-
-// The bytes of the stack that a task used.
-fn used(task: &mut dyn FnMut()) -> usize {
-    let mut memory = vec![PATTERN; SIZE + 4096];
-    let start = memory.as_mut_ptr() as usize;
-    let aligned = (start + 4095) & !4095;
-    let mut attr = [0u64; 8];
-    let mut thread = 0;
-    let mut task = task;
-    unsafe {
-        assert_eq!(pthread_attr_init(&mut attr), 0);
-        assert_eq!(pthread_attr_setstack(&mut attr, aligned as *mut c_void, SIZE), 0);
-        assert_eq!(pthread_create(&mut thread, &attr, run, &mut task as *mut &mut dyn FnMut() as *mut c_void), 0);
-        assert_eq!(pthread_join(thread, std::ptr::null_mut()), 0);
+// Calls each function on one sheet that no point satisfies, with so many slots.
+fn taken(variables: u32, clauses: &[(u64, u64)], permutations: &[Vec<u8>], room: usize) -> Taken {
+    let s = &sheets::sheet(variables, clauses, permutations);
+    let text = &sheets::text(variables, clauses, permutations);
+    let mut t = Vec::new();
+    let (mut p, mut q, mut four, mut kilo) = (vec![0; 4096], vec![0; 4096], [0; 4], [0; 1024]);
+    call(&mut t, "read", PARSED, &mut |reply| library::read(text, &mut p, &mut q, &mut four, &mut kilo, reply));
+    let (mut points, mut numbers, mut depths) = (vec![0; room], vec![0; room], vec![0; room]);
+    let mut slots = vec![Slot { point: 0, falsified: 0, depth: 0 }; room];
+    let mut out = vec![0; 32 + 1024 + 12 * room];
+    let filled = call(&mut t, "search", UNSATISFIABLE, &mut |reply| {
+        library::search(s, &mut points, &mut numbers, &mut depths, reply)
+    })[1] as u32;
+    call(&mut t, "write", WRITTEN, &mut |reply| library::write(s, &points, &numbers, &depths, filled, &mut out, reply));
+    call(&mut t, "search_slots", UNSATISFIABLE, &mut |reply| library::search_slots(s, &mut slots, reply));
+    let length =
+        call(&mut t, "write_slots", WRITTEN, &mut |reply| library::write_slots(s, &slots, filled, &mut out, reply))[1]
+            as usize;
+    let file = &out[..length];
+    call(&mut t, "check", ACCEPTED, &mut |reply| library::check(s, file, reply));
+    let mut contents = [0; 8];
+    call(&mut t, "open", OPENED, &mut |reply| library::open(file, &mut contents, reply));
+    let [images, bodies, last] = [3, 5, 7].map(|place| &file[contents[place] as usize..]);
+    if !permutations.is_empty() {
+        call(&mut t, "image_at", 1, &mut |reply| library::image_at(images, variables as usize, 0, 1, reply));
     }
-    let first = aligned - start;
-    SIZE - memory[first..first + SIZE].iter().take_while(|&&b| b == PATTERN).count()
+    call(&mut t, "point_at", 1, &mut |reply| library::point_at(bodies, filled as usize - 1, reply));
+    call(&mut t, "number_at", 1, &mut |reply| library::number_at(last, filled as usize - 1, reply));
+    call(&mut t, "solve", CERTIFIED, &mut |reply| {
+        library::solve(text, &mut points, &mut numbers, &mut depths, &mut out, reply)
+    });
+    let mut printed = [0; 400];
+    t.push(("nearest", used(&mut || assert!(library::nearest(text, &mut printed) > 0))));
+    t
 }
 
 fn main() {
-    let idle = used(&mut || {});
-    let clash = b"p cnf 2 4\nc exch 2 1\n1 2 0\n-1 2 0\n1 -2 0\n-1 -2 0\n";
-    let mut images = vec![2, 1];
-    images.resize(1024, 0);
-    let s = Sheet {
-        variables: 2,
-        clauses: 4,
-        target: 0,
-        permutations: 1,
-        images,
-        positive: vec![3, 2, 1, 0],
-        negative: vec![0, 1, 2, 3],
-    };
-    let (mut points, mut numbers, mut depths) = (vec![0; 8], vec![0; 8], vec![0; 8]);
-    let (mut out, mut reply) = (vec![0; 70], vec![0; 4]);
-    println!("function bytes-of-stack");
-    let report = |name: &str, bytes: usize| println!("{name} {}", bytes - idle);
-    let (mut p, mut q, mut four, mut kilo) = (vec![0; 4096], vec![0; 4096], vec![0; 4], vec![0; 1024]);
-    report("read", used(&mut || assert_eq!(library::read(clash, &mut p, &mut q, &mut four, &mut kilo, &mut reply), 1)));
-    // one clause more than the small arrays of the reader and the solver hold
-    let many = [b"p cnf 2 257\nc exch 2 1\n-1 2 0\n1 -2 0\n-1 -2 0\n".to_vec(), b"1 2 0\n".repeat(254)].concat();
-    report(
-        "read, 257 clauses",
-        used(&mut || assert_eq!(library::read(&many, &mut p, &mut q, &mut four, &mut kilo, &mut reply), 1)),
-    );
-    assert_eq!(reply[0], 4);
-    report(
-        "search",
-        used(&mut || assert_eq!(library::search(&s, &mut points, &mut numbers, &mut depths, &mut reply), 1)),
-    );
-    report(
-        "write",
-        used(&mut || assert_eq!(library::write(&s, &points, &numbers, &depths, 3, &mut out, &mut reply), 1)),
-    );
-    assert_eq!(reply[..2], [5, 70]);
-    let mut slots = library::joined(&points, &numbers, &depths);
-    report("search_slots", used(&mut || assert_eq!(library::search_slots(&s, &mut slots, &mut reply), 1)));
-    report("write_slots", used(&mut || assert_eq!(library::write_slots(&s, &slots, 3, &mut out, &mut reply), 1)));
-    assert_eq!(reply[..2], [5, 70]);
-    report("check", used(&mut || assert_eq!(library::check(&s, &out, &mut reply), 1)));
-    assert_eq!(reply[0], 7);
-    let mut contents = vec![0; 8];
-    report("open", used(&mut || assert_eq!(library::open(&out, &mut contents, &mut reply), 1)));
-    report("point_at", used(&mut || assert_eq!(library::point_at(&out[34..58], 2, &mut reply), 1)));
-    let mut file = vec![0; 70];
-    report(
-        "solve",
-        used(&mut || {
-            assert_eq!(library::solve(clash, &mut points, &mut numbers, &mut depths, &mut file, &mut reply), 1)
-        }),
-    );
-    assert_eq!(reply[..3], [8, 3, 70]);
-    report(
-        "solve, 257 clauses",
-        used(&mut || {
-            assert_eq!(library::solve(&many, &mut points, &mut numbers, &mut depths, &mut file, &mut reply), 1)
-        }),
-    );
-    assert_eq!(reply[..3], [8, 3, 70]);
-    // s UNSATISFIABLE, c slots 3: 16 and 10 bytes
-    let mut printed = vec![0; 26];
-    report("nearest", used(&mut || assert_eq!(library::nearest(clash, &mut printed), 26)));
+    let identity = |n: u8| vec![(1..=n).collect::<Vec<u8>>(); 16];
+    let small = taken(2, &sheets::formula_a(), &[vec![2, 1]], 4096);
+    let large = [
+        taken(64, &sheets::cube(48), &identity(64), 65536),
+        taken(30, &sheets::pigeons(5), &sheets::swaps(5), 65536),
+        taken(30, &sheets::pigeons(5), &[], 65536),
+        taken(10, &sheets::every(10), &identity(10), 65536),
+    ];
+    println!("| function | small, bytes | large, bytes |\n|---|---|---|");
+    for (name, bytes) in small {
+        let most = large.iter().flatten().filter(|(other, _)| *other == name).map(|&(_, most)| most).max();
+        println!("| {name} | {bytes} | {} |", most.expect("each function has large inputs"));
+    }
 }

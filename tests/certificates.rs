@@ -7,7 +7,7 @@ use library::{
     Count, Sheet, ACCEPTED, CERTIFIED, OPENED, PARSED, REFUSED, SATISFIABLE, UNCERTIFIED, UNKNOWN, UNSATISFIABLE,
     WRITTEN,
 };
-use sheets::{clause, paper, pigeons, search, sheet, swaps, text, Found};
+use sheets::{formula_a, paper, pigeons, search, sheet, swaps, text, Found};
 
 // A certificate by hand: the eight 32-bit numbers of the contents, then the bodies.
 struct File {
@@ -55,11 +55,6 @@ fn written(s: &Sheet, slots: usize, room: usize) -> ([u64; 4], Vec<u8>) {
         1
     );
     (reply, out)
-}
-
-// Document 01's formula A: (1 2) (-1 2) (1 -2) (-1 -2).
-fn formula_a() -> Vec<(u64, u64)> {
-    [[1, 2], [-1, 2], [1, -2], [-1, -2]].iter().map(|c| clause(c)).collect()
 }
 
 fn worked_cases(count: &mut Count) {

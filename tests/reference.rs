@@ -1,6 +1,7 @@
 // An implementation of document 01 for comparison, written from its sentences: names are numbers from 1, a rule is a
 // list of literals as the text has them, sets are the standard library's. It shares nothing with the library but the
 // forms in which things are lent.
+#![allow(dead_code)] // a program uses some of them
 use std::collections::{BTreeSet, HashMap, HashSet};
 
 pub type Refusal = (u32, u128);

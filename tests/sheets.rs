@@ -54,6 +54,29 @@ pub fn search(s: &Sheet, slots: usize) -> Found {
     Found { reply, points, numbers, depths }
 }
 
+// Document 01's formula A: (1 2) (-1 2) (1 -2) (-1 -2).
+pub fn formula_a() -> Vec<(u64, u64)> {
+    [[1, 2], [-1, 2], [1, -2], [-1, -2]].map(|c| clause(&c)).to_vec()
+}
+
+// All clauses that list each of the first n variables, as the sets of their positive literals ascend: each point
+// falsifies just one of them.
+pub fn every(n: u32) -> Vec<(u64, u64)> {
+    let all = (1 << n) - 1;
+    (0..=all).map(|positive| (positive, all - positive)).collect()
+}
+
+// 4,096 clauses of 12 variables among 16, from variable `first` + 1 on: from any point a search visits all points of
+// the 16. The points with the digits of q, at variables that the lowest digit chooses, falsify a clause.
+pub fn cube(first: u32) -> Vec<(u64, u64)> {
+    let clause = |q: u64| {
+        let place = |k: u32| first + if q & 1 == 0 || k == 0 { k } else { k + 4 };
+        let spread = |set: u64| (0..12).filter(|k| set >> k & 1 == 1).map(|k| 1u64 << place(k)).sum::<u64>();
+        (spread(!q), spread(q))
+    };
+    (0..1 << 12).map(clause).collect()
+}
+
 // Document 002, example 2: seven clauses over six variables, and its 14 points, written variable 1 first, each with
 // the clause that it falsifies.
 pub fn paper() -> (Vec<(u64, u64)>, Vec<(u64, u32)>) {

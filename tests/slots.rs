@@ -4,10 +4,10 @@
 mod library;
 mod sheets;
 use library::{joined, Count, Sheet, Slot, REFUSED, SATISFIABLE, UNKNOWN, UNSATISFIABLE, WRITTEN};
-use sheets::{clause, pigeons, sheet, swaps};
+use sheets::{clause, formula_a, pigeons, sheet, swaps};
 
 fn case_a(permutations: &[Vec<u8>]) -> Sheet {
-    sheet(2, &[&[1, 2][..], &[-1, 2], &[1, -2], &[-1, -2]].map(clause), permutations)
+    sheet(2, &formula_a(), permutations)
 }
 
 fn case_b() -> Sheet {
