@@ -24,9 +24,12 @@ crate, function, *wanted = sys.argv[2:] if mode else sys.argv[1:]
 
 with tempfile.TemporaryDirectory() as folder:
     subprocess.run(["rt", "dev", crate, "--generated", folder + "/g"], capture_output=True)
-    if not os.path.exists(f"{folder}/g/Rattle.{crate}.proofs/proofs/{function}/Lts.antt"):
+    # a function that calls itself has its proof below `+NAME`
+    module = f"Lts-{function[1:]}" if function.startswith("+") else "Lts"
+    made = f"{folder}/g/Rattle.{crate}.proofs/proofs/{function}/{module}.antt"
+    if not os.path.exists(made):
         sys.exit(f"{crate} has no function {function}, or `rt dev {crate}` stops before its proofs: run it to see")
-    text = open(f"{folder}/g/Rattle.{crate}.proofs/proofs/{function}/Lts.antt").read()
+    text = open(made).read()
 
 before, fields, needs = {}, {}, {}
 for found in re.finditer(r"^( *)pub record (\S+) ?(?:\([^\n]*)?:[^\n]*where\n((?:\1 +[^\n]*\n)*)", text, re.M):
@@ -88,8 +91,8 @@ if not mode:
 
 proof, at, lines = f"crates/{crate}/proofs/{function}/Proof.antt", None, []
 for line in open(proof):
-    named = re.match(r"\S+ : tie\.Need-(\S+)", line)
-    placed = re.search(r"\(c : tie\.([^)\s]+)", line)
+    named = re.match(r"\s*\S+ : (?:tie|lts)\.Need-(\S+)", line)
+    placed = re.search(r"\(c : (?:tie|lts)\.([^)\s]+)", line)
     if re.match(r"pub \S+-spec\b", line):
         at = None  # inline needs have a `c` of their own
     at = placed.group(1) if placed else needs.get(named.group(1), at) if named else at

@@ -1,7 +1,8 @@
-// Guesses where a clause stands, in a lent slice: each entry is 0, or 1 more than the index of a clause. Nothing is
-// promised of what it holds, so the functions that store guesses say nothing of it: who takes a guess compares, and a
-// wrong one costs a scan and never an answer. The guesses for a clause are 16 entries in a row, up to the first that is
-// 0.
+// Guesses where a clause stands: links in a lent slice, each 0 or 1 more than the index of a clause. Nothing is promised
+// of what they hold, so the functions that store guesses say nothing of it: who takes a guess compares, and a wrong one
+// costs a scan and never an answer. As in `point_index`, a hash chooses one of the head links, and each clause has two
+// links behind the heads, for the clauses of the same head that differ from it, by their next digit: so clauses whose
+// hashes fall together stand in a tree.
 use point_index::hash_of;
 use point_slices::clause_at;
 use point_slices::clause_count;
@@ -17,28 +18,45 @@ ghost use Rattle.point_slices.specs.Laws.Contracts.{lentClauses};
 ghost use Rattle.points.specs.Laws.Contracts.{clauseOf};
 ghost use Rattle.permutation_theory.specs.Permutations.{sameClause};
 
-// For how many clauses a small slice of guesses is made, and how many entries it and the large one have: at most half
-// of them hold a guess.
+// For how many clauses guesses are made, few or as many as there can be, and how many heads they have, so that few
+// share one; behind the heads there are as many links again.
 pub(crate) const FEW_CLAUSES: usize = 256;
 
-pub(crate) const FEW_ENTRIES: usize = 512;
+pub(crate) const FEW_HEADS: usize = 2 * FEW_CLAUSES;
 
-pub(crate) const MOST_ENTRIES: usize = 8192;
+const MOST_CLAUSES: usize = 4096;
 
-// How many entries in a row are for one clause.
-const TRIED: usize = 16;
+pub(crate) const MOST_HEADS: usize = 2 * MOST_CLAUSES;
 
-// Where the guesses for a clause begin in a slice of so many entries, by the hashes of its two sets: a product and a
-// quotient by a power of two bring their sum below the number of entries. The factor keeps clauses apart whose two sets
-// are exchanged.
-fn place_of(c: Clause, entries: usize) -> usize
-    ensures { λ r. ⌜ r ≤ 8192 ⌝ }
+// How many digits a clause has: those of its two sets.
+const DIGITS: u32 = 2 * points::DIGITS;
+
+// The head link of a clause, by the hashes of its two sets: a product and a quotient by a power of two bring their sum
+// below the number of heads. The factor keeps clauses apart whose two sets are exchanged.
+fn head_of(c: Clause, heads: usize) -> usize
+    requires { ⌜ heads ≤ 8192 ⌝ }
 {
     let p = hash_of(c.positive);
     let q = hash_of(c.negative);
     let hash = (p + 5 * q) % 4294967296;
-    let places = least(entries, MOST_ENTRIES);
-    hash * places / 4294967296
+    hash * heads / 4294967296
+}
+
+// A digit of a clause: those of the set of its positive literals come first.
+fn digit_of(c: Clause, d: u32) -> bool {
+    if d < points::DIGITS {
+        points::member(c.positive, d)
+    } else {
+        points::member(c.negative, d - points::DIGITS)
+    }
+}
+
+// The link of the clause at index i for a digit of c.
+fn link_behind(heads: usize, i: usize, c: Clause, d: u32) -> usize
+    requires { ⌜ (heads ≤ 8192) × (i ≤ 4294967296) ⌝ }
+{
+    let first = heads + 2 * i;
+    if digit_of(c, d) { first + 1 } else { first }
 }
 
 // Whether the clause at index i is the clause c.
@@ -54,59 +72,73 @@ fn stands_at(positive: &[u64], negative: &[u64], i: usize, c: Clause) -> bool
     crate::same_clause(c, d)
 }
 
-// Whether a guess for the clause is right: then it is among those of the slices. At most 16 comparisons, one where the
-// first is right.
-pub(crate) fn guessed(positive: &[u64], negative: &[u64], guesses: &[u32], c: Clause) -> bool
+// Where the way to a clause ended: whether at the clause itself, and the link.
+struct Spot {
+    held: bool,
+    link: usize,
+}
+
+// Goes the way to a clause, by its digits, until a guess is right or a link is 0. Where it is right, the clause is among
+// those of the slices. At most 129 comparisons, about one where hashes differ.
+fn way_to(positive: &[u64], negative: &[u64], guesses: &[u32], heads: usize, c: Clause) -> Spot
+    requires { ⌜ heads ≤ 8192 ⌝ }
+    ensures { λ r. ⌜ (r .held ≡ true → any (sameClause (clauseOf c))
+        (lentClauses (now (positive .entry)) (now (negative .entry))) ≡ true) ⌝ }
+{
+    let mut link = head_of(c, heads);
+    let mut d = 0;
+    while d <= DIGITS {
+        let number = number_at(guesses, link);
+        if number == 0 {
+            break;
+        }
+        let i = number as usize - 1;
+        if stands_at(positive, negative, i, c) {
+            return Spot { held: true, link };
+        }
+        link = link_behind(heads, i, c, d);
+        d += 1;
+    }
+    Spot { held: false, link }
+}
+
+// Whether a guess for the clause is right: then it is among those of the slices.
+pub(crate) fn guessed(
+    positive: &[u64],
+    negative: &[u64],
+    guesses: &[u32],
+    heads: usize,
+    c: Clause,
+) -> bool
+    requires { ⌜ heads ≤ 8192 ⌝ }
     ensures { λ r. ⌜ (r ≡ true → any (sameClause (clauseOf c))
         (lentClauses (now (positive .entry)) (now (negative .entry))) ≡ true) ⌝ }
 {
-    let mut i = place_of(c, guesses.len());
-    let end = i + TRIED;
-    while i < end {
-        let number = number_at(guesses, i);
-        if number == 0 {
-            return false;
-        }
-        let at = number as usize - 1;
-        if stands_at(positive, negative, at, c) {
-            return true;
-        }
-        i += 1;
-    }
-    false
+    let spot = way_to(positive, negative, guesses, heads, c);
+    spot.held
 }
 
-// Stores a guess for the clause at index `number` - 1 at the first entry that is 0; where one of those before it is
-// right already, or none of the 16 is 0, nothing is stored.
-fn put_guess(positive: &[u64], negative: &[u64], guesses: &mut [u32], c: Clause, number: u32) {
-    let mut i = place_of(c, guesses.len());
-    let end = i + TRIED;
-    while i < end {
-        let held = number_at(guesses, i);
-        if held == 0 {
-            put_number(guesses, i, number);
-            return;
-        }
-        let at = held as usize - 1;
-        if stands_at(positive, negative, at, c) {
-            return;
-        }
-        i += 1;
+// Stores a guess for the clause at index i, unless one is right already.
+fn put_guess(positive: &[u64], negative: &[u64], guesses: &mut [u32], heads: usize, i: usize)
+    requires { ⌜ (heads ≤ 8192) × (i ≤ 4096) ⌝ }
+{
+    let c = clause_at(positive, negative, i);
+    let spot = way_to(positive, negative, guesses, heads, c);
+    if !spot.held {
+        put_number(guesses, spot.link, i as u32 + 1);
     }
 }
 
-// For how many clauses guesses are stored; those behind them are found by the scan.
-const GUESSED: usize = MOST_ENTRIES / 2;
-
-// Stores a guess for each of the first clauses: at most 16 steps a clause.
-pub(crate) fn make_guesses(positive: &[u64], negative: &[u64], guesses: &mut [u32]) {
+// Stores guesses for as many of the first clauses as there can be; `guesses` is 0 throughout before. For each clause the
+// way to it.
+pub(crate) fn make_guesses(positive: &[u64], negative: &[u64], guesses: &mut [u32], heads: usize)
+    requires { ⌜ heads ≤ 8192 ⌝ }
+{
     let held = clause_count(positive, negative);
-    let end = least(held, GUESSED);
+    let end = least(held, MOST_CLAUSES);
     let mut i = 0;
     while i < end {
-        let c = clause_at(positive, negative, i);
-        let number = i as u32 + 1;
-        put_guess(positive, negative, guesses, c, number);
+        put_guess(positive, negative, guesses, heads, i);
         i += 1;
     }
 }

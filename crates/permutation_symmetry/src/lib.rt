@@ -1,7 +1,7 @@
 // Whether a permutation keeps the clauses and so is a symmetry of the formula, with guesses where an image may stand.
 use crate::guesses::FEW_CLAUSES;
-use crate::guesses::FEW_ENTRIES;
-use crate::guesses::MOST_ENTRIES;
+use crate::guesses::FEW_HEADS;
+use crate::guesses::MOST_HEADS;
 use crate::guesses::guessed;
 use crate::guesses::make_guesses;
 use permutation_images::fixed;
@@ -12,7 +12,7 @@ use point_slices::clause_count;
 use points::Clause;
 use points::Point;
 ghost use mathlib.Core.Path.{_≡_};
-ghost use Prim.Native.Nat.{_<_};
+ghost use Prim.Native.Nat.{_≤_, _<_};
 ghost use lib.ListN.{length, getD};
 ghost use Rattle.math.specs.Lists.{any, firstFailing};
 ghost use Rattle.point_slices.specs.Laws.Contracts.{lentClauses};
@@ -35,10 +35,11 @@ pub fn same_clause(c: Clause, d: Clause) -> bool
 }
 
 // Whether a clause is among those of the slices, whatever the guesses are. Where none is right, one step a clause.
-fn has_clause(positive: &[u64], negative: &[u64], guesses: &[u32], c: Clause) -> bool
+fn has_clause(positive: &[u64], negative: &[u64], guesses: &[u32], heads: usize, c: Clause) -> bool
+    requires { ⌜ heads ≤ 8192 ⌝ }
     ensures { λ r. ⌜ r ≡ any (sameClause (clauseOf c)) (lentClauses (now (positive .entry)) (now (negative .entry))) ⌝ }
 {
-    if guessed(positive, negative, guesses, c) {
+    if guessed(positive, negative, guesses, heads, c) {
         return true;
     }
     let end = clause_count(positive, negative);
@@ -61,10 +62,11 @@ fn image_stands(
     positive: &[u64],
     negative: &[u64],
     guesses: &[u32],
+    heads: usize,
     i: usize,
 ) -> bool
     requires { ⌜ Movable (now e) × Fixes (now e) (length (now e)) fixed
-        × (i < length (lentClauses (now positive) (now negative))) ⌝ }
+        × (i < length (lentClauses (now positive) (now negative))) × (heads ≤ 8192) ⌝ }
     ensures { λ r. ⌜ r ≡ imageAmong (lentClauses (now (positive .entry)) (now (negative .entry)))
         (record { images = now (e .entry) })
         (getD (lentClauses (now (positive .entry)) (now (negative .entry))) i emptyClause) ⌝ }
@@ -76,14 +78,14 @@ fn image_stands(
         return true;
     }
     let image = image_of_clause(e, fixed, c);
-    has_clause(positive, negative, guesses, image)
+    has_clause(positive, negative, guesses, heads, image)
 }
 
 // Whether the image of each clause is among the clauses: n steps for the permutation; then, for each clause that it
 // changes, one step for each literal moved, or 2n where these are many, and about one comparison where the guesses have
-// its image, never more than 16 and one a clause.
-fn keeps(e: &[u8], positive: &[u64], negative: &[u64], guesses: &[u32]) -> bool
-    requires { ⌜ Movable (now e) ⌝ }
+// its image, never more than 129 and one a clause.
+fn keeps(e: &[u8], positive: &[u64], negative: &[u64], guesses: &[u32], heads: usize) -> bool
+    requires { ⌜ Movable (now e) × (heads ≤ 8192) ⌝ }
     ensures { λ r. ⌜ r ≡ keeps (numbered (lentClauses (now (positive .entry)) (now (negative .entry))))
         (record { images = now (e .entry) }) ⌝ }
 {
@@ -91,7 +93,7 @@ fn keeps(e: &[u8], positive: &[u64], negative: &[u64], guesses: &[u32]) -> bool
     let end = clause_count(positive, negative);
     let mut i = 0;
     while i < end {
-        let kept = image_stands(e, still, positive, negative, guesses, i);
+        let kept = image_stands(e, still, positive, negative, guesses, heads, i);
         if !kept {
             return false;
         }
@@ -108,8 +110,9 @@ fn first_not_kept(
     positive: &[u64],
     negative: &[u64],
     guesses: &[u32],
+    heads: usize,
 ) -> usize
-    requires { ⌜ Listed n permutations (now images) ⌝ }
+    requires { ⌜ Listed n permutations (now images) × (heads ≤ 8192) ⌝ }
     ensures { λ r. ⌜ r ≡ firstFailing (keeps (numbered (lentClauses (now (positive .entry)) (now (negative .entry)))))
         (permutationsIn n permutations (now (images .entry))) ⌝ }
 {
@@ -118,7 +121,7 @@ fn first_not_kept(
     let mut j = 0;
     while j < end {
         let e = permutation_at(size, images, j);
-        let kept = keeps(e, positive, negative, guesses);
+        let kept = keeps(e, positive, negative, guesses, heads);
         if !kept {
             return j + 1;
         }
@@ -127,7 +130,7 @@ fn first_not_kept(
     0
 }
 
-// The same, with guesses for few clauses: 2 KiB of the stack.
+// The same, with guesses for few clauses: 4 KiB of the stack.
 fn with_few_guesses(
     n: u32,
     permutations: u32,
@@ -139,12 +142,20 @@ fn with_few_guesses(
     ensures { λ r. ⌜ r ≡ firstFailing (keeps (numbered (lentClauses (now (positive .entry)) (now (negative .entry)))))
         (permutationsIn n permutations (now (images .entry))) ⌝ }
 {
-    let mut guesses = [0u32; FEW_ENTRIES];
-    make_guesses(positive, negative, &mut guesses);
-    first_not_kept(n, permutations, images, positive, negative, &guesses)
+    let mut guesses = [0u32; 2 * FEW_HEADS];
+    make_guesses(positive, negative, &mut guesses, FEW_HEADS);
+    first_not_kept(
+        n,
+        permutations,
+        images,
+        positive,
+        negative,
+        &guesses,
+        FEW_HEADS,
+    )
 }
 
-// The same, with guesses for as many clauses as there can be: 32 KiB of the stack.
+// The same, with guesses for as many clauses as there can be: 64 KiB of the stack.
 fn with_most_guesses(
     n: u32,
     permutations: u32,
@@ -156,9 +167,17 @@ fn with_most_guesses(
     ensures { λ r. ⌜ r ≡ firstFailing (keeps (numbered (lentClauses (now (positive .entry)) (now (negative .entry)))))
         (permutationsIn n permutations (now (images .entry))) ⌝ }
 {
-    let mut guesses = [0u32; MOST_ENTRIES];
-    make_guesses(positive, negative, &mut guesses);
-    first_not_kept(n, permutations, images, positive, negative, &guesses)
+    let mut guesses = [0u32; 2 * MOST_HEADS];
+    make_guesses(positive, negative, &mut guesses, MOST_HEADS);
+    first_not_kept(
+        n,
+        permutations,
+        images,
+        positive,
+        negative,
+        &guesses,
+        MOST_HEADS,
+    )
 }
 
 // E3: the number, from 1, of the first of the listed permutations that does not keep the clauses; 0 if all do. Guesses

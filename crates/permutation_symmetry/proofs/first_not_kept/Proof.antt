@@ -10,11 +10,11 @@ use Rattle.permutation_symmetry.proofs.first_not_kept.Statement.{statem
 use Rattle.permutation_symmetry.proofs.first_not_kept.Tie as tie
 
 abbrev Inv-loop : tie.InvT-loop
-Inv-loop n permutations images positive negative guesses size end j₀ j =
+Inv-loop n permutations images positive negative guesses heads size end j₀ j =
     Testing (keeps (numbered (lentClauses positive negative))) n permutations images j
 
 abbrev μ-loop : tie.MeasureT-loop
-μ-loop n permutations images positive negative guesses size end j₀ j = permutations - j
+μ-loop n permutations images positive negative guesses heads size end j₀ j = permutations - j
 
 permutation-at-requires : tie.Need-permutation-at-requires Inv-loop μ-loop
 permutation-at-requires c κs = search (needs, testing-whole)

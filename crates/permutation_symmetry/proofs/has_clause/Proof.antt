@@ -15,12 +15,12 @@ use Rattle.permutation_symmetry.proofs.has_clause.Statement.{statement}
 use Rattle.permutation_symmetry.proofs.has_clause.Tie as tie
 
 abbrev Inv-loop : tie.InvT-loop
-Inv-loop positive negative guesses c end at₀ at =
+Inv-loop positive negative guesses heads c end at₀ at =
     (end ≡ length (lentClauses positive negative))
     × (any (sameClause (clauseOf c)) (lentClauses positive negative) ≡ any (sameClause (clauseOf c)) (drop at (lentClauses positive negative)))
 
 abbrev μ-loop : tie.MeasureT-loop
-μ-loop positive negative guesses c end at₀ at = end - at
+μ-loop positive negative guesses heads c end at₀ at = end - at
 
 guessed-requires : tie.Need-guessed-requires Inv-loop μ-loop
 guessed-requires c κs = search needs

@@ -16,13 +16,13 @@ use Rattle.permutation_symmetry.proofs.keeps.Statement.{statement}
 use Rattle.permutation_symmetry.proofs.keeps.Tie as tie
 
 abbrev Inv-loop : tie.InvT-loop
-Inv-loop e positive negative guesses still end i₀ i =
+Inv-loop e positive negative guesses heads still end i₀ i =
     (end ≡ length (lentClauses positive negative))
     × (all (imageAmong (lentClauses positive negative) (record { images = e })) (lentClauses positive negative)
     ≡ all (imageAmong (lentClauses positive negative) (record { images = e })) (drop i (lentClauses positive negative)))
 
 abbrev μ-loop : tie.MeasureT-loop
-μ-loop e positive negative guesses still end i₀ i = end - i
+μ-loop e positive negative guesses heads still end i₀ i = end - i
 
 clause-count-requires : tie.Need-clause-count-requires Inv-loop μ-loop
 clause-count-requires c κs = search needs
@@ -31,7 +31,7 @@ loop-holds : tie.Need-loop-holds Inv-loop μ-loop
 loop-holds c = (c .clause-count .ensures, refl)
 
 image-stands-requires : tie.Need-image-stands-requires Inv-loop μ-loop
-image-stands-requires c κs = (c .before .before .before .before .before .before .before .before .pre, c .before .before .before .fixed .ensures, omega (arith, c .before .loop .inv .0))
+image-stands-requires c κs = (c .before .before .before .before .before .before .before .before .pre .0, c .before .before .before .fixed .ensures, omega (arith, c .before .loop .inv .0), c .before .before .before .before .before .before .before .before .pre .1)
 
 returns : tie.Need-returns Inv-loop μ-loop
 returns c =

@@ -19,7 +19,7 @@ use Rattle.formula.specs.Laws.ReplyLaws.{written-not-refused, satisfiable-not-r
 use Rattle.formula.specs.Laws.ReplyLaws.{unknown-not-refused}
 use Rattle.point_slices.specs.Laws.SliceLaws.{points-blank, clauses-blank}
 use Rattle.dimacs_format.specs.Laws.ReaderLaws.{parsed-accepts}
-use Rattle.dimacs_format.specs.Laws.RoomLaws.{reads-alike, stored-room}
+use Rattle.dimacs_format.specs.Laws.RoomLaws.{reads-alike, stored-room, room-enough}
 use Rattle.dimacs_format.specs.Input.{Input, formulaOf}
 use Rattle.dimacs_format.specs.Reader.{Step, goes, refuses, replyTo, reading, readReply, readFormula, readClauses}
 use Rattle.search.specs.Search.{searchReply, searchSlices}
@@ -461,3 +461,20 @@ pub other-not-4 : {a : Reply} (code place : ℕ) → refused code place ≡ a �
     → a ≡ refused 4 place′ → ⊥
 other-not-4 code place e ne place′ h =
     let both : refused code place ≡ refused 4 place′ = e ∙ h in let same : code ≡ 4 = cc in ne same
+
+-- no text has more clauses than the most
+pub most-not-4 : (text : List ℕ) (clauses : ClauseSlices) → maxClauses ≤ clauseRoom clauses → (place : ℕ)
+    → readReply text clauses ≡ refused 4 place → ⊥
+unfolding readReply replyTo
+most-not-4 text clauses le place h = by (reading text (clauseRoom clauses)) refl h
+  where
+    by : (r : Step Input) → reading text (clauseRoom clauses) ≡ r → replyTo r ≡ refused 4 place → ⊥
+    by (goes d) e h = parsed-not-4 refl place h
+    by (refuses code at) e h =
+        let same : code ≡ 4 = cc in
+        let there : at ≡ place = cc in
+        room-enough text (clauseRoom clauses) le place (e ∙ λ i. refuses (same i) (there i))
+
+-- arrays of 0 for the most clauses have room for them
+pub blank-room : (k : ℕ) → clauseRoom (clauseSlices (replicate k 0) (replicate k 0)) ≡ k
+blank-room k = rw (points-blank k, length-replicate {A = ℕ} k 0) (omega arith)

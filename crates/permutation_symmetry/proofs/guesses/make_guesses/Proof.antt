@@ -8,10 +8,10 @@ use Rattle.permutation_symmetry.proofs.guesses.make_guesses.Statement.{
 use Rattle.permutation_symmetry.proofs.guesses.make_guesses.Tie as tie
 
 abbrev Inv-loop : tie.InvT-loop
-Inv-loop positive negative guesses₀ held end i₀ guesses i = (length guesses ≡ length guesses₀) × (end ≤ 4096)
+Inv-loop positive negative guesses₀ heads held end i₀ guesses i = (length guesses ≡ length guesses₀) × (end ≤ 4096)
 
 abbrev μ-loop : tie.MeasureT-loop
-μ-loop positive negative guesses₀ held end i₀ guesses i = end - i
+μ-loop positive negative guesses₀ heads held end i₀ guesses i = end - i
 
 clause-count-requires : tie.Need-clause-count-requires Inv-loop μ-loop
 clause-count-requires c κs = search needs
@@ -21,9 +21,6 @@ least-requires c κs = search needs
 
 loop-holds : tie.Need-loop-holds Inv-loop μ-loop
 loop-holds c = (refl, omega (arith, c .least .ensures))
-
-clause-at-requires : tie.Need-clause-at-requires Inv-loop μ-loop
-clause-at-requires c κs = search needs
 
 put-guess-requires : tie.Need-put-guess-requires Inv-loop μ-loop
 put-guess-requires c κs = search needs
@@ -37,9 +34,6 @@ make-guesses-spec =
     clause-count-requires
     least-requires
     loop-holds
-    clause-at-requires
-    (λ c. search needs)
-    (λ c. search needs)
     put-guess-requires
     (λ c. search needs)
     (λ c. search needs)

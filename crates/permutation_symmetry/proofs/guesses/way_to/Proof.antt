@@ -1,0 +1,40 @@
+-- `permutation_symmetry::guesses::way_to` meets its contract: it says so only where the comparison does. Assumes
+-- nothing.
+use mathlib.Core.Bool.{false≢true}
+use Prim.Native.Nat.{_-_}
+use native.Mathlib.Omega.{arith}
+use borrow.Author.Needs.{needs}
+use Rattle.permutation_symmetry.proofs.guesses.way_to.Statement.{statement}
+use Rattle.permutation_symmetry.proofs.guesses.way_to.Tie as tie
+
+abbrev Inv-loop : tie.InvT-loop
+Inv-loop positive negative guesses heads c link₀ d₀ link d = Unit {0}
+
+abbrev μ-loop : tie.MeasureT-loop
+μ-loop positive negative guesses heads c link₀ d₀ link d = 129 - d
+
+returns : tie.Need-returns Inv-loop μ-loop
+returns c e = c .before .stands-at .ensures (c .if2 .taken)
+
+link-behind-requires : tie.Need-link-behind-requires Inv-loop μ-loop
+link-behind-requires c κs = search needs
+
+pub way-to-spec : {M : Type 1} → statement M
+way-to-spec =
+    tie.close
+    (tie.spec
+    Inv-loop
+    μ-loop
+    (λ c κs. search needs)
+    (λ c. tt)
+    (λ c κs. search needs)
+    (λ c. search needs)
+    (λ c. search needs)
+    (λ c κs. search needs)
+    returns
+    link-behind-requires
+    (λ c. search needs)
+    (λ c. search needs)
+    (λ c. tt)
+    (λ c e. absurd (false≢true e))
+    (λ c e. absurd (false≢true e)))
