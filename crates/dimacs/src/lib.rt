@@ -8,6 +8,7 @@ use dimacs_words::Class;
 use dimacs_words::Cursor;
 use dimacs_words::Number;
 use dimacs_words::begins;
+use dimacs_words::line_end;
 use dimacs_words::read_number;
 use dimacs_words::run_end;
 use formula::Formula;
@@ -139,14 +140,14 @@ fn is_skipped(line: &[u8]) -> bool
     end == line.len()
 }
 
-// S11: "The first other line that isn't all blanks must be the problem line". A byte before it is visited at most three
-// times.
+// S11: "The first other line that isn't all blanks must be the problem line". A byte before it is visited at most four
+// times, twice of them to find its line's end.
 pub fn find_problem(text: &[u8]) -> Located
     ensures { λ r. ⌜ ProblemFound (now (text .entry)) r ⌝ }
 {
     let mut start = 0;
     loop {
-        let stop = run_end(text, start, Class::Line);
+        let stop = line_end(text, start);
         let skipped = is_skipped(&text[start..stop]);
         if !skipped {
             return Located::Line { start, stop };
@@ -197,7 +198,7 @@ fn read_sized(
 }
 
 // D2.1: "A sheet is read as DIMACS CNF, as document 01 fixes it." The work is linear in the text: a byte before the
-// problem line is visited at most three times, one of that line at most six times, one behind it at most nineteen times
+// problem line is visited at most four times, one of that line at most nine times, one behind it at most twenty times
 // (`read_lines`).
 pub fn read(text: &[u8], positive: &mut [u64], negative: &mut [u64]) -> Parsed
     ensures { λ r. ⌜ Read (now (text .entry)) (clauseSlices (now (positive .entry)) (now (negative .entry))) r

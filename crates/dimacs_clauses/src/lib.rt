@@ -1,19 +1,20 @@
 // The words of the lines that are no comments: literals, and the zeros that close clauses.
 use dimacs_format::Sizes;
-use dimacs_words::Class;
 use dimacs_words::Cursor;
 use dimacs_words::Word;
+use dimacs_words::ends_word;
 use dimacs_words::read_word;
-use dimacs_words::run_end;
 use formula::Checked;
 use point_slices::put_point;
 use points::Point;
 use points::with_variable;
+ghost use mathlib.Core.Bool.{false};
 ghost use mathlib.Core.Path.{_≡_};
-ghost use Prim.Native.Nat.{_<_};
-ghost use lib.ListN.{length};
+ghost use Prim.Native.Nat.{_≤_, _<_};
+ghost use lib.ListN.{length, getD};
 ghost use Rattle.point_slices.specs.Slices.{clauseSlices};
-ghost use Rattle.dimacs_clauses.specs.Laws.ClauseScans.{noneBegun, Room, Taking, stoppedWith, Ready, Inside};
+ghost use Rattle.dimacs_format.specs.Text.{endsLine};
+ghost use Rattle.dimacs_clauses.specs.Laws.ClauseScans.{noneBegun, Room, Taking, stoppedWith, Ready};
 ghost use Rattle.dimacs_clauses.specs.Laws.ClauseScans.{Stepping, Scanning};
 
 // How many clauses are closed, and the one begun.
@@ -40,7 +41,7 @@ pub struct Taken {
     pub begun: Begun,
 }
 
-// What one word of a line leads to, and the place where the line is to be read on.
+// What a part of a text leads to, and the place where the text is to be read on.
 pub struct Stepped {
     pub taken: Taken,
     pub next: Cursor,
@@ -96,47 +97,49 @@ fn take_number(
     }
 }
 
-// A refusal, and nothing left to be read.
-fn stopped(code: u32, place: usize, begun: Begun, end: Cursor) -> Stepped
-    ensures { λ r. ⌜ r ≡ stoppedWith code place begun end ⌝ }
+// A refusal; nothing is read on.
+fn stopped(code: u32, place: usize, begun: Begun, next: Cursor) -> Stepped
+    ensures { λ r. ⌜ r ≡ stoppedWith code place begun next ⌝ }
 {
     let taken = Taken {
         answer: Checked::Refused { code, place },
         begun,
     };
-    Stepped { taken, next: end }
+    Stepped { taken, next }
 }
 
-// N3: "7 precedes 5 and 6 at a word". The word behind the blanks at the cursor, which stands before the line's end.
+// N3: "7 precedes 5 and 6 at a word". The word at the cursor, or the one blank there; the line does not end there.
 fn clause_word(
-    line: &[u8],
-    start: usize,
+    text: &[u8],
     cursor: Cursor,
     sizes: Sizes,
     begun: Begun,
     positive: &mut [u64],
     negative: &mut [u64],
 ) -> Stepped
-    requires { ⌜ Ready sizes (begun .closed) (clauseSlices (now positive) (now negative)) × Inside start (now line)
-        × (cursor .at < length (now line)) ⌝ }
-    ensures { λ r. ⌜ Stepping sizes start (now (line .entry)) (cursor .at)
+    requires { ⌜ Ready sizes (begun .closed) (clauseSlices (now positive) (now negative))
+        × (cursor .at < length (now text)) × (endsLine (getD (now text) (cursor .at) 0) ≡ false) ⌝ }
+    ensures { λ r. ⌜ Stepping sizes (now (text .entry)) (cursor .at)
         (clauseSlices (now (positive .entry)) (now (negative .entry))) begun r
         (clauseSlices (now (positive .exit)) (now (negative .exit))) ⌝ }
 {
-    let at = cursor.at;
-    let end = Cursor { at: line.len() };
-    let from = run_end(line, at, Class::Blank);
-    if line.len() <= from {
+    let place = cursor.at;
+    let after = place + 1;
+    let behind = Cursor { at: after };
+    let parted = ends_word(text[place]);
+    if parted {
         let taken = Taken {
             answer: Checked::Passed,
             begun,
         };
-        return Stepped { taken, next: end };
+        return Stepped {
+            taken,
+            next: behind,
+        };
     }
-    let place = start + from;
-    let word = read_word(line, Cursor { at: from });
+    let word = read_word(text, cursor);
     if sizes.total <= begun.closed {
-        return stopped(7, place, begun, end);
+        return stopped(7, place, begun, behind);
     }
     let Word::Read {
         negated,
@@ -144,7 +147,7 @@ fn clause_word(
         next,
     } = word
     else {
-        return stopped(5, place, begun, end);
+        return stopped(5, place, begun, behind);
     };
     let taken = take_number(
         sizes.variables,
@@ -158,35 +161,51 @@ fn clause_word(
     Stepped { taken, next }
 }
 
-// The words of a line. A byte of the line is visited at most three times: to skip it as a blank, or to find its word's
-// end and to read it. `dimacs_lines::read_line` sees to what it requires.
+// The words of the line that begins at `start`, and where it ends: a byte of the line is visited at most twice, to test
+// whether its word ends there and to read it. `dimacs_lines::read_line` sees to what it requires.
 pub fn clause_line(
-    line: &[u8],
+    text: &[u8],
     start: usize,
     sizes: Sizes,
     begun: Begun,
     positive: &mut [u64],
     negative: &mut [u64],
-) -> Taken
-    requires { ⌜ Ready sizes (begun .closed) (clauseSlices (now positive) (now negative)) × Inside start (now line) ⌝ }
-    ensures { λ r. ⌜ Scanning sizes start (now (line .entry))
+) -> Stepped
+    requires { ⌜ Ready sizes (begun .closed) (clauseSlices (now positive) (now negative))
+        × (start ≤ length (now text)) ⌝ }
+    ensures { λ r. ⌜ Scanning sizes (now (text .entry)) start
         (clauseSlices (now (positive .entry)) (now (negative .entry))) begun r
         (clauseSlices (now (positive .exit)) (now (negative .exit))) ⌝ }
 {
     let mut state = begun;
-    let mut cursor = Cursor { at: 0 };
-    while cursor.at < line.len() {
-        let step = clause_word(line, start, cursor, sizes, state, positive, negative);
+    let mut cursor = Cursor { at: start };
+    while cursor.at < text.len() {
+        let at = cursor.at;
+        if text[at] == 10 {
+            let taken = Taken {
+                answer: Checked::Passed,
+                begun: state,
+            };
+            return Stepped {
+                taken,
+                next: cursor,
+            };
+        }
+        let step = clause_word(text, cursor, sizes, state, positive, negative);
         let taken = step.taken;
         let answer = taken.answer;
         let Checked::Passed = answer else {
-            return taken;
+            return step;
         };
         state = taken.begun;
         cursor = step.next;
     }
-    Taken {
+    let taken = Taken {
         answer: Checked::Passed,
         begun: state,
+    };
+    Stepped {
+        taken,
+        next: cursor,
     }
 }

@@ -2,9 +2,9 @@
 // more, and the readers of their contents. They are handed what stands behind the head of the line.
 use dimacs_words::Class;
 use dimacs_words::Cursor;
-use dimacs_words::Word;
+use dimacs_words::Number;
 use dimacs_words::is_blank;
-use dimacs_words::read_word;
+use dimacs_words::read_number;
 use dimacs_words::run_end;
 use formula::Checked;
 use formula::Formula;
@@ -108,22 +108,18 @@ fn next_image(bytes: &[u8], cursor: Cursor, n: u32) -> Image
     if bytes.len() <= from {
         return Image::End;
     }
-    let word = read_word(bytes, Cursor { at: from });
-    let Word::Read {
-        negated,
-        value,
-        next,
-    } = word
-    else {
+    let to = run_end(bytes, from, Class::Word);
+    let number = read_number(&bytes[from..to]);
+    let Number::Value(value) = number else {
         return Image::Malformed;
     };
-    if negated {
-        return Image::Malformed;
-    }
     if n < value {
         return Image::Malformed;
     }
-    Image::Variable { value, next }
+    Image::Variable {
+        value,
+        next: Cursor { at: to },
+    }
 }
 
 // The numbers of a permutation line, into a part of n bytes; whether they are n numbers. A byte of the line is visited

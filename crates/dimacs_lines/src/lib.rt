@@ -1,6 +1,7 @@
 // The lines behind the problem line, one after the other, and the reader's answer to them: clauses are collected
 // apart until the text is accepted.
 use dimacs_clauses::Begun;
+use dimacs_clauses::Stepped;
 use dimacs_clauses::clause_line;
 use dimacs_clauses::none_begun;
 use dimacs_comments::Wanted;
@@ -8,15 +9,14 @@ use dimacs_comments::no_target;
 use dimacs_comments::permutation_line;
 use dimacs_comments::target_line;
 use dimacs_format::Sizes;
-use dimacs_words::Class;
 use dimacs_words::begins;
-use dimacs_words::run_end;
+use dimacs_words::line_end;
 use formula::Checked;
 use formula::Formula;
 use point_slices::point_at;
 use point_slices::put_point;
 use points::Point;
-ghost use mathlib.Core.Bool.{true};
+ghost use mathlib.Core.Bool.{true, false};
 ghost use mathlib.Core.Option.{Option·getD};
 ghost use mathlib.Core.Path.{_≡_};
 ghost use Prim.Native.Nat.{_≤_};
@@ -26,10 +26,10 @@ ghost use Rattle.dimacs_format.specs.Text.{maxText, piece, isComment};
 ghost use Rattle.dimacs_format.specs.Reader.{andThen, atEnd, textSays};
 ghost use Rattle.dimacs_format.specs.Laws.AnswerLaws.{stepTo, WherePassed};
 ghost use Rattle.dimacs_words.specs.Laws.Scans.{linesBehind};
-ghost use Rattle.dimacs_clauses.specs.Laws.ClauseScans.{Inside};
+ghost use Rattle.dimacs_clauses.specs.Laws.ClauseScans.{Ready};
 ghost use Rattle.dimacs_comments.specs.Laws.CommentScans.{wantedOf};
 ghost use Rattle.dimacs_lines.specs.Laws.LineScans.{nothingSaid, progressFrom, Kept, Standing, CommentRead};
-ghost use Rattle.dimacs_lines.specs.Laws.LineScans.{Advancing, LinesRead};
+ghost use Rattle.dimacs_lines.specs.Laws.LineScans.{opensComment, Following, Advancing, LinesRead};
 ghost use Rattle.dimacs_lines.specs.Laws.ParsedAs.{Copied, refusedWith, fewClauses, Limited, HasRoom, ParsedAs};
 
 // What the lines have said so far, beside the slices of the clauses and the images: a part for each kind of line.
@@ -47,7 +47,7 @@ pub struct Advanced {
 
 // S17: "After the problem line two comments have meaning, also inside a rule." F2: the heads are fixed byte strings. A
 // comment behind the problem line: each kind replaces its own part of what was said. The heads are at most fourteen
-// bytes to compare. `read_line` sees to what it requires.
+// bytes to compare. `read_part` sees to what it requires.
 fn read_comment(
     line: &[u8],
     start: usize,
@@ -93,36 +93,101 @@ fn read_comment(
     }
 }
 
-// One line behind the problem line: words, or a comment. The heads are at most fifteen bytes to compare, and each
-// handler says how often it visits a byte.
-fn read_line(
-    line: &[u8],
+// S10: "A line whose first byte is `c` is a comment.": whether one begins at the place.
+fn opens_comment(text: &[u8], at: usize) -> bool
+    ensures { λ r. ⌜ r ≡ opensComment (now (text .entry)) at ⌝ }
+{
+    if text.len() <= at {
+        return false;
+    }
+    text[at] == 99
+}
+
+// The lines of words from the one that begins at `start` up to the next comment or the end of the text, and where the
+// last of them ends. One step a line, and a byte of a line is visited at most twice (`clause_line`). `read_part` sees
+// to what it requires.
+fn clause_lines(
+    text: &[u8],
+    start: usize,
+    sizes: Sizes,
+    begun: Begun,
+    positive: &mut [u64],
+    negative: &mut [u64],
+) -> Stepped
+    requires { ⌜ Ready sizes (begun .closed) (clauseSlices (now positive) (now negative)) × (start ≤ length (now text))
+        × (opensComment (now text) start ≡ false) ⌝ }
+    ensures { λ r. ⌜ Following sizes (now (text .entry)) start
+        (clauseSlices (now (positive .entry)) (now (negative .entry))) begun r
+        (clauseSlices (now (positive .exit)) (now (negative .exit))) ⌝ }
+{
+    let mut state = begun;
+    let mut first = start;
+    loop {
+        let step = clause_line(text, first, sizes, state, positive, negative);
+        let taken = step.taken;
+        let answer = taken.answer;
+        let Checked::Passed = answer else {
+            return step;
+        };
+        let end = step.next;
+        let stop = end.at;
+        if text.len() <= stop {
+            return step;
+        }
+        let next = stop + 1;
+        let comment = opens_comment(text, next);
+        if comment {
+            return step;
+        }
+        state = taken.begun;
+        first = next;
+    }
+}
+
+// What a comment or lines of words lead to, and where the last line ends.
+pub struct Lined {
+    pub advanced: Advanced,
+    pub stop: usize,
+}
+
+// A comment, or lines of words: what begins at `start` decides. The heads are at most fourteen bytes to compare, and
+// each handler says how often it visits a byte.
+fn read_part(
+    text: &[u8],
     start: usize,
     sizes: Sizes,
     state: State,
     positive: &mut [u64],
     negative: &mut [u64],
     images: &mut [u8],
-) -> Advanced
+) -> Lined
     requires { ⌜ Standing sizes state (clauseSlices (now positive) (now negative)) (now images)
-        × Inside start (now line) ⌝ }
-    ensures { λ r. ⌜ Advancing sizes start (now (line .entry)) state
+        × (start ≤ length (now text)) ⌝ }
+    ensures { λ r. ⌜ Advancing sizes (now (text .entry)) start state
         (clauseSlices (now (positive .entry)) (now (negative .entry))) (now (images .entry)) r
         (clauseSlices (now (positive .exit)) (now (negative .exit))) (now (images .exit)) ⌝ }
 {
-    let comment = begins(b"c", line);
+    let comment = opens_comment(text, start);
     if comment {
-        return read_comment(line, start, sizes, state, images);
+        let stop = line_end(text, start);
+        let advanced = read_comment(&text[start..stop], start, sizes, state, images);
+        return Lined { advanced, stop };
     }
     let mut more = state;
     let begun = state.begun;
-    let taken = clause_line(line, start, sizes, begun, positive, negative);
+    let step = clause_lines(text, start, sizes, begun, positive, negative);
+    let taken = step.taken;
     let answer = taken.answer;
     let begun = taken.begun;
     more.begun = begun;
-    Advanced {
+    let end = step.next;
+    let advanced = Advanced {
         answer,
         state: more,
+    };
+    Lined {
+        advanced,
+        stop: end.at,
     }
 }
 
@@ -139,10 +204,10 @@ fn begin() -> State
     }
 }
 
-// N3: "then the first fault in text order": the lines behind the one that ends at `end`. A byte of the text is visited
-// once to find its line's end, at most fifteen times as part of a head, and at most three times more, so the work is
-// linear in the text. `dimacs_lines::collect` sees to what it requires: refusals 1 and 3, slices with room for C
-// clauses, images of zeros.
+// N3: "then the first fault in text order": the lines behind the one that ends at `end`. A byte of a comment is visited
+// at most twice to find its line's end, at most fifteen times as part of a head, and at most three times more; one of
+// another line at most three times. So the work is linear in the text. `dimacs_lines::collect` sees to what it
+// requires: refusals 1 and 3, slices with room for C clauses, images of zeros.
 pub fn read_lines(
     text: &[u8],
     end: usize,
@@ -160,22 +225,14 @@ pub fn read_lines(
     let mut last = end;
     while last < text.len() {
         let start = last + 1;
-        let stop = run_end(text, start, Class::Line);
-        let step = read_line(
-            &text[start..stop],
-            start,
-            sizes,
-            state,
-            positive,
-            negative,
-            images,
-        );
+        let part = read_part(text, start, sizes, state, positive, negative, images);
+        let step = part.advanced;
         let answer = step.answer;
         let Checked::Passed = answer else {
             return step;
         };
         state = step.state;
-        last = stop;
+        last = part.stop;
     }
     Advanced {
         answer: Checked::Passed,

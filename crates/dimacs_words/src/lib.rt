@@ -3,8 +3,10 @@ ghost use mathlib.Core.Path.{_≡_};
 ghost use Prim.Native.Nat.{_≤_, _<_};
 ghost use lib.ListN.{length, getD};
 ghost use mathlib.Core.Bool.{false};
-ghost use Rattle.dimacs_format.specs.Text.{isBlank, isDigit, numberIn, tokenIn, begins};
-ghost use Rattle.dimacs_words.specs.Laws.Scans.{belongs, Stretch, numberOf, tokenOf, WordRead};
+ghost use Rattle.math.specs.Lists.{any};
+ghost use Rattle.dimacs_format.specs.Text.{endsLine, isBlank, isDigit, numberIn, begins};
+ghost use Rattle.dimacs_words.specs.Laws.Scans.{belongs, Stretch, endsWord, numberOf, wordMade};
+ghost use Rattle.dimacs_words.specs.Laws.Scans.{DigitsRead, WordRead};
 
 // The runs of bytes that the reader goes along: blanks, the bytes of a word, the bytes of a line.
 pub enum Class {
@@ -19,13 +21,7 @@ pub enum Number {
     Malformed,
 }
 
-// What a word is: a number with its sign, or malformed.
-pub enum Token {
-    Signed { negated: bool, value: u32 },
-    Malformed,
-}
-
-// A place in a line.
+// A place in a line or a text.
 pub struct Cursor {
     pub at: usize,
 }
@@ -50,6 +46,17 @@ fn is_digit(b: u8) -> bool
     ensures { λ r. ⌜ r ≡ isDigit b ⌝ }
 {
     (48 <= b) & (b <= 57)
+}
+
+// Whether a word of a text ends before the byte: a blank, or the end of its line. Most bytes of a text are above 32.
+pub fn ends_word(b: u8) -> bool
+    ensures { λ r. ⌜ r ≡ endsWord b ⌝ }
+{
+    if 32 < b {
+        return false;
+    }
+    let blank = is_blank(b);
+    blank | (b == 10)
 }
 
 // Whether a byte belongs to a run of the class.
@@ -81,6 +88,40 @@ pub fn run_end(bytes: &[u8], from: usize, class: Class) -> usize
     i
 }
 
+// How many bytes are tested at once for the end of a line.
+const BLOCK: usize = 32;
+
+// Whether a line ends in the bytes. One step a byte, none of them left out, so that a compiler tests many bytes at once.
+fn ends_inside(bytes: &[u8]) -> bool
+    ensures { λ r. ⌜ r ≡ any endsLine (now (bytes .entry)) ⌝ }
+{
+    let mut found = false;
+    let mut i = 0;
+    while i < bytes.len() {
+        found = found | (bytes[i] == 10);
+        i += 1;
+    }
+    found
+}
+
+// Where the line ends that begins at `from`: one step a block without its end, then one a byte. A byte is visited at
+// most twice. Callers begin at 0, or where another line has ended within the text.
+pub fn line_end(text: &[u8], from: usize) -> usize
+    requires { ⌜ from ≤ length (now text) ⌝ }
+    ensures { λ r. ⌜ Stretch (belongs Class.Line) (now (text .entry)) from r ⌝ }
+{
+    let mut i = from;
+    while BLOCK <= text.len() - i {
+        let next = i + BLOCK;
+        let ended = ends_inside(&text[i..next]);
+        if ended {
+            return run_end(text, i, Class::Line);
+        }
+        i = next;
+    }
+    run_end(text, i, Class::Line)
+}
+
 // S13: "one to four digits, leading zeros allowed". At most four steps.
 pub fn read_number(w: &[u8]) -> Number
     ensures { λ r. ⌜ numberOf r ≡ numberIn (now (w .entry)) ⌝ }
@@ -108,53 +149,69 @@ pub fn read_number(w: &[u8]) -> Number
     Number::Value(v)
 }
 
-// S13: "an optional minus, one to four digits, leading zeros allowed, a minus before value 0 malformed".
-fn read_token(w: &[u8]) -> Token
-    ensures { λ r. ⌜ tokenOf r ≡ tokenIn (now (w .entry)) ⌝ }
+// What the digits between two places make with their sign, of this value: S13, "a minus before value 0 malformed".
+fn made_word(negated: bool, value: u32, from: usize, at: usize) -> Word
+    ensures { λ r. ⌜ r ≡ wordMade negated value from at ⌝ }
 {
-    if w.len() < 1 {
-        return Token::Malformed;
-    }
-    if w[0] == 45 {
-        let behind = read_number(&w[1..]);
-        let Number::Value(size) = behind else {
-            return Token::Malformed;
-        };
-        if size == 0 {
-            return Token::Malformed;
+    if value == 0 {
+        if from == at {
+            return Word::Malformed;
         }
-        return Token::Signed {
-            negated: true,
-            value: size,
-        };
+        if negated {
+            return Word::Malformed;
+        }
     }
-    let whole = read_number(w);
-    let Number::Value(value) = whole else {
-        return Token::Malformed;
-    };
-    Token::Signed {
-        negated: false,
-        value,
-    }
-}
-
-// F7: the word that begins at the cursor. Two steps a byte of the word at most. `dimacs_clauses::clause_word` and
-// `dimacs_comments::next_image` have skipped the blanks before it and found a byte there.
-pub fn read_word(line: &[u8], cursor: Cursor) -> Word
-    requires { ⌜ (cursor .at < length (now line)) × (isBlank (getD (now line) (cursor .at) 0) ≡ false) ⌝ }
-    ensures { λ r. ⌜ WordRead (now (line .entry)) (cursor .at) r ⌝ }
-{
-    let at = cursor.at;
-    let end = run_end(line, at, Class::Word);
-    let read = read_token(&line[at..end]);
-    let Token::Signed { negated, value } = read else {
-        return Word::Malformed;
-    };
     Word::Read {
         negated,
         value,
-        next: Cursor { at: end },
+        next: Cursor { at },
     }
+}
+
+// S13: "one to four digits, leading zeros allowed": the rest of a word, behind its sign. Its value is read in the pass
+// that finds its end: at most five steps. `read_word` stands within the text.
+fn read_digits(text: &[u8], negated: bool, from: usize) -> Word
+    requires { ⌜ from ≤ length (now text) ⌝ }
+    ensures { λ r. ⌜ DigitsRead (now (text .entry)) negated from r ⌝ }
+{
+    let mut v: u32 = 0;
+    let mut i = from;
+    while i < text.len() {
+        let b = text[i];
+        let digit = is_digit(b);
+        if !digit {
+            let ended = ends_word(b);
+            if !ended {
+                return Word::Malformed;
+            }
+            return made_word(negated, v, from, i);
+        }
+        let passed = i - from;
+        if 4 <= passed {
+            return Word::Malformed;
+        }
+        let shifted = v * 10;
+        let d = b - 48;
+        let low = d as u32;
+        v = shifted + low;
+        i += 1;
+    }
+    made_word(negated, v, from, i)
+}
+
+// F7; S13: "an optional minus, one to four digits": the word that begins at the cursor and goes up to a blank, the end
+// of its line or that of the text. One step a byte of the word, six at most. `dimacs_clauses::clause_word` has found a
+// byte there that ends no word.
+pub fn read_word(text: &[u8], cursor: Cursor) -> Word
+    requires { ⌜ (cursor .at < length (now text)) × (endsWord (getD (now text) (cursor .at) 0) ≡ false) ⌝ }
+    ensures { λ r. ⌜ WordRead (now (text .entry)) (cursor .at) r ⌝ }
+{
+    let at = cursor.at;
+    if text[at] == 45 {
+        let from = at + 1;
+        return read_digits(text, true, from);
+    }
+    read_digits(text, false, at)
 }
 
 // Whether the bytes begin with the head. At most as many steps as the head has bytes.

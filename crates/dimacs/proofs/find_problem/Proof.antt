@@ -22,25 +22,25 @@ abbrev μ-loop : tie.MeasureT-loop
 loop-holds : tie.Need-loop-holds Inv-loop μ-loop
 loop-holds c = (zero-le, refl)
 
-run-end-requires : tie.Need-run-end-requires Inv-loop μ-loop
-run-end-requires c κs = c .loop .inv .0
+line-end-requires : tie.Need-line-end-requires Inv-loop μ-loop
+line-end-requires c κs = c .loop .inv .0
 
 is-skipped-requires : tie.Need-is-skipped-requires Inv-loop μ-loop
 is-skipped-requires c κs = search needs
 
 returns : tie.Need-returns Inv-loop μ-loop
-returns c = (c .before .before .before .run-end .ensures, c .before .before .before .before .loop .inv .1 ∙ preamble-stops (c .before .before .before .before .before .before .args .text .now) _ _ (c .before .before .before .run-end .ensures) (sym (c .before .is-skipped .ensures) ∙ not-true _ (c .if1 .taken)))
+returns c = (c .before .before .before .line-end .ensures, c .before .before .before .before .loop .inv .1 ∙ preamble-stops (c .before .before .before .before .before .before .args .text .now) _ _ (c .before .before .before .line-end .ensures) (sym (c .before .is-skipped .ensures) ∙ not-true _ (c .if1 .taken)))
 
 -- a line that is skipped leaves the lines behind it
 passed : (c : tie.After-is-skipped Inv-loop μ-loop) → not (c .is-skipped .result) ≡ false
-    → fromProblem (lines 0 (c .before .before .before .before .before .args .text .now)) ≡ fromProblem (linesBehind (c .before .before .before .before .before .args .text .now) (c .before .before .run-end .result))
-passed c e = c .before .before .before .loop .inv .1 ∙ preamble-skips (c .before .before .before .before .before .args .text .now) _ _ (c .before .before .run-end .ensures) (sym (c .is-skipped .ensures) ∙ not-false _ e)
+    → fromProblem (lines 0 (c .before .before .before .before .before .args .text .now)) ≡ fromProblem (linesBehind (c .before .before .before .before .before .args .text .now) (c .before .before .line-end .result))
+passed c e = c .before .before .before .loop .inv .1 ∙ preamble-skips (c .before .before .before .before .before .args .text .now) _ _ (c .before .before .line-end .ensures) (sym (c .is-skipped .ensures) ∙ not-false _ e)
 
 returns-2 : tie.Need-returns-2 Inv-loop μ-loop
 returns-2 c = passed (c .before .before) (c .before .if1 .left) ∙ preamble-ends (c .before .before .before .before .before .before .before .args .text .now) _ (c .if2 .taken)
 
 loop-less : tie.Need-loop-less Inv-loop μ-loop
-loop-less c = let o = c .before .before .before .before .run-end .ensures .ordered in omega (arith, c .if2 .left)
+loop-less c = let o = c .before .before .before .before .line-end .ensures .ordered in omega (arith, c .if2 .left)
 
 loop-again : tie.Need-loop-again Inv-loop μ-loop
 loop-again c = (omega (arith, c .if2 .left), passed (c .before .before) (c .before .if1 .left) ∙ preamble-goes-on (c .before .before .before .before .before .before .before .args .text .now) _ (c .if2 .left))
@@ -52,7 +52,7 @@ find-problem-spec =
     Inv-loop
     μ-loop
     loop-holds
-    run-end-requires
+    line-end-requires
     (λ c. search needs)
     (λ c. search needs)
     (λ c. search needs)

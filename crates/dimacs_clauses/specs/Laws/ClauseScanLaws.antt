@@ -1,15 +1,16 @@
 -- Laws of reading clause words into numbers and slices: what one number does, and what a word does to the walk. Assumes
 -- nothing.
-use mathlib.Core.Bool.{Bool, true, false}
+use mathlib.Core.Bool.{Bool, true, false, not, _||_, true≢false}
 use mathlib.Core.List.{List, [], _∷_, _++_}
 use mathlib.Core.Path.{_≡_, refl, sym, ap, ap₂, _∙_, subst}
-use Prim.Native.Nat.{ℕ, zero, suc, _+_, _-_, _^_, _≤_, _<_, min, zero-le}
-use native.Mathlib.Nat.{add-zero, not-suc-le-zero, le-of-suc-le-suc, le-trans}
+use Prim.Native.Nat.{ℕ, zero, suc, _+_, _-_, _^_, _≤_, _<_, min}
+use native.Mathlib.Nat.{zero-add, not-suc-le-zero, le-of-suc-le-suc, le-trans}
+use native.Mathlib.Decide.{decLt}
 use native.Mathlib.Numerals.{add-one}
 use native.Mathlib.Omega.{arith}
 use lib.Bits.{bitOr}
-use lib.ListN.{length, take, drop, set, length-set}
-use lib.Seq.{take-suc-set, length-take-le}
+use lib.ListN.{length, getD, take, drop, set, length-set}
+use lib.Seq.{getD-take, take-suc-set, length-take-le}
 use borrow.Author.Tests.{le-leb, lt-leb, lt-ltb, le-ltb}
 use Rattle.point_slices.specs.Laws.SliceLaws.{length-clauses}
 use Rattle.point_slices.specs.Slices.{ClauseSlices, beside, clausesOf, clauseRoom}
@@ -17,19 +18,20 @@ use Rattle.formula.specs.declared.Checked.the-variants.{Passed, Refused}
 use Rattle.dimacs_clauses.specs.declared.Begun.{Begun}
 use Rattle.dimacs_clauses.specs.declared.Taken.{Taken}
 use Rattle.dimacs_clauses.specs.declared.Stepped.{Stepped}
-use Rattle.dimacs_words.specs.declared.Class.the-variants.{Blank}
+use Rattle.dimacs_words.specs.declared.Class.the-variants.{Line}
 use Rattle.dimacs_words.specs.declared.Cursor.{Cursor}
 use Rattle.dimacs_words.specs.declared.Word.{Word as WordAnswer}
 use Rattle.dimacs_words.specs.declared.Word.the-variants.{Read, Malformed}
-use Rattle.dimacs_format.specs.Text.{piece, words, Token, malformed}
+use Rattle.dimacs_format.specs.Text.{isBlank, endsLine, piece, words, Token, malformed}
 use Rattle.dimacs_format.specs.Reader.{goes, refuses, andThen, walk, Sizes, Clauses, tokenStep, wordStep}
-use Rattle.dimacs_format.specs.Laws.AnswerLaws.{then-passed, then-refused}
-use Rattle.dimacs_words.specs.Laws.Scans.{belongs, Stretch, signed, WordAt, WordRead}
-use Rattle.dimacs_clauses.specs.Laws.ClauseScans.{clausesFrom, noneBegun, stoppedWith, Taking, Ready, Inside}
+use Rattle.dimacs_format.specs.Laws.AnswerLaws.{WherePassed, then-passed, then-refused}
+use Rattle.dimacs_words.specs.Laws.Scans.{belongs, endsWord, Stretch, signed, Spelt, WordAt, WordRead}
+use Rattle.dimacs_words.specs.Laws.ScanLaws.{run-begins, run-exists, run-later, run-rest, cut, word-in-line, word-skip}
+use Rattle.dimacs_words.specs.Laws.ScanLaws.{words-end}
+use Rattle.dimacs_clauses.specs.Laws.ClauseScans.{clausesFrom, noneBegun, stoppedWith, Taking, Ready}
 use Rattle.dimacs_clauses.specs.Laws.ClauseScans.{wordsFrom}
 use Rattle.dimacs_clauses.specs.Laws.ClauseScans.{Stepping}
 use Rattle.dimacs_clauses.specs.Laws.ClauseScans.{Scanning, Along}
-use Rattle.dimacs_words.specs.Laws.ScanLaws.{words-skip, words-end}
 
 -- ---- one number
 
@@ -134,145 +136,192 @@ pub closed-length : (clauses : ClauseSlices) (b : Begun) → b .closed ≤ claus
 closed-length clauses b le = length-take-le (b .closed) (clausesOf clauses)
     (subst (λ j. b .closed ≤ j) (sym (length-clauses (clauses .positive) (clauses .negative))) le)
 
-module _ (z : Sizes) (s : Clauses) (start : ℕ) (line : List ℕ) (at next : ℕ) (t : Token) (w : WordAt line at next t)
-  where
-    -- the walk takes the word's step first
-    word-first : wordsFrom z start line at s
-        ≡ andThen (wordStep z s (piece (start + at) (take (next - at) (drop at line)))) (wordsFrom z start line next)
-    unfolding walk
-    word-first = ap (walk (wordStep z) s) (w .parts start)
+module _ (z : Sizes) (s : Clauses) (line : List ℕ) (at next : ℕ) (t : Token) (w : WordAt line at next t) where
+  -- the walk takes the word's step first
+  word-first : wordsFrom z line at s
+      ≡ andThen (wordStep z s (piece (0 + at) (take (next - at) (drop at line)))) (wordsFrom z line next)
+  unfolding walk
+  word-first = ap (walk (wordStep z) s) (w .parts 0)
 
-    -- R7: behind C closed clauses any word is refused
-    word-over : z .total ≤ length (s .closed) → wordsFrom z start line at s ≡ refuses 7 (start + at)
-    unfolding wordStep andThen
-    word-over h = word-first ∙ rw (le-ltb (length (s .closed)) (z .total) h)
+  -- R7: behind C closed clauses any word is refused
+  word-over : z .total ≤ length (s .closed) → wordsFrom z line at s ≡ refuses 7 at
+  unfolding wordStep andThen
+  word-over h = word-first ∙ rw (le-ltb (length (s .closed)) (z .total) h) (ap (refuses 7) (zero-add at))
 
-    -- before that the word's token takes its step
-    word-token : length (s .closed) < z .total
-        → wordsFrom z start line at s
-        ≡ andThen (tokenStep (z .variables) s (start + at) t) (wordsFrom z start line next)
-    unfolding wordStep
-    word-token h = word-first ∙ rw (lt-ltb (length (s .closed)) (z .total) h, w .token)
+  -- before that the word's token takes its step
+  word-token : length (s .closed) < z .total
+      → wordsFrom z line at s ≡ andThen (tokenStep (z .variables) s at t) (wordsFrom z line next)
+  unfolding wordStep
+  word-token h =
+      word-first ∙ rw (lt-ltb (length (s .closed)) (z .total) h, w .token)
+      (ap (λ j. andThen (tokenStep (z .variables) s j t) (wordsFrom z line next)) (zero-add at))
 
--- ---- from a place of the line on, where the blanks end at `from`
+-- ---- at a place of the text where the line does not end
 
--- the line's end, where nothing is left to be read
-abbrev endOf : List ℕ → Cursor
-endOf line = record { at = length line }
+-- the line goes on behind a byte that does not end it
+on-behind : (text : List ℕ) {at stop : ℕ} → at < length text → endsLine (getD text at 0) ≡ false
+    → Stretch (belongs Line) text at stop → at < stop
+unfolding belongs
+on-behind text h n line = run-later line (ap not n) h
 
-module _ (z : Sizes) (start : ℕ) (line : List ℕ) (at from : ℕ) (clauses : ClauseSlices) (b : Begun)
-    (run : Stretch (belongs Blank) line at from) (ready : Ready z (b .closed) clauses) where
-  -- the walk from the word on
-  skipped : wordsFrom z start line at (clausesFrom clauses b) ≡ wordsFrom z start line from (clausesFrom clauses b)
-  skipped = ap (walk (wordStep z) (clausesFrom clauses b)) (words-skip line start run)
+-- as many clauses are closed as the number says, where the slices are ready
+closed-size : (z : Sizes) (clauses : ClauseSlices) (b : Begun) → Ready z (b .closed) clauses
+    → length (clausesFrom clauses b .closed) ≡ b .closed
+closed-size z clauses b ready = closed-length clauses b (le-trans (ready .closed) (ready .room))
 
-  size : length (clausesFrom clauses b .closed) ≡ b .closed
-  size = closed-length clauses b (le-trans (ready .closed) (ready .room))
-
-  -- a refusal ends it
-  stops : at < length line → (code place : ℕ) (r : Stepped) → r ≡ stoppedWith code place b (endOf line)
-      → wordsFrom z start line from (clausesFrom clauses b) ≡ refuses code place
-      → Stepping z start line at clauses b r clauses
-  unfolding andThen
-  stops lt code place r f e =
-      subst (λ t. Stepping z start line at clauses b t clauses) (sym f)
-      (record { later = lt; within = omega arith; left = skipped ∙ e; ready = ready })
-
-module _ {z : Sizes} {start : ℕ} {line : List ℕ} {at from : ℕ} {clauses : ClauseSlices} {b : Begun}
-    (run : Stretch (belongs Blank) line at from) (ready : Ready z (b .closed) clauses) where
-  pub line-ends : length line ≤ from → at < length line
-      → Stepping z start line at clauses b
-      (record { taken = record { answer = Passed; begun = b }; next = endOf line }) clauses
-  unfolding andThen
-  line-ends h lt =
-      record {
-        later = lt;
-        within = omega arith;
-        left = skipped z start line at from clauses b run ready
-            ∙ ap (λ j. wordsFrom z start line j (clausesFrom clauses b))
-            (let w = run .within in let e : from ≡ length line = omega arith in e);
-        ready = ready;
-      }
-
-  pub line-over : (w : WordAnswer) {r : Stepped} → WordRead line from w → z .total ≤ b .closed → at < length line
-      → r ≡ stoppedWith 7 (start + from) b (endOf line) → Stepping z start line at clauses b r clauses
-  line-over (Read negated v c) {r} w h lt f = stops z start line at from clauses b run ready lt 7 (start + from) r f
-      (word-over z (clausesFrom clauses b) start line from (c .at) (signed negated v) w
-      (omega (arith, size z start line at from clauses b run ready)))
-  line-over Malformed {r} (next, w) h lt f = stops z start line at from clauses b run ready lt 7 (start + from) r f
-      (word-over z (clausesFrom clauses b) start line from next malformed w
-      (omega (arith, size z start line at from clauses b run ready)))
-
-  pub line-malformed : {w : WordAnswer} {r : Stepped} → WordRead line from w → w ≡ Malformed → b .closed < z .total
-      → at < length line → r ≡ stoppedWith 5 (start + from) b (endOf line)
-      → Stepping z start line at clauses b r clauses
-  unfolding tokenStep andThen
-  line-malformed {w = Read negated v c} w e h lt f = absurd (let x : _≡_ {A = ℕ} 0 1 = cc in omega arith)
-  line-malformed {w = Malformed} {r} (next, w) e h lt f =
-      stops z start line at from clauses b run ready lt 5 (start + from) r f
-      (word-token z (clausesFrom clauses b) start line from next malformed w
-      (omega (arith, size z start line at from clauses b run ready)))
-
-  pub line-taken : {r : WordAnswer} {negated : Bool} {v : ℕ} {next : Cursor} {t : Taken} {clauses₁ : ClauseSlices}
-      → WordRead line from r → r ≡ Read negated v next → b .closed < z .total
-      → Taking (z .variables) (start + from) clauses b negated v t clauses₁
-      → Stepping z start line at clauses b (record { taken = t; next = next }) clauses₁
-  line-taken {negated = negated} {v} {next} {t} {clauses₁} w e h k =
-      let word : WordAt line from (next .at) (signed negated v) = subst (WordRead line from) e w in
-      let o = run .ordered in
-      let l = word .later in
+module _ {z : Sizes} {text : List ℕ} {at : ℕ} {clauses : ClauseSlices} {b : Begun} (ready : Ready z (b .closed) clauses)
+    (h : at < length text) where
+  -- a blank is skipped
+  pub step-blank : endsLine (getD text at 0) ≡ false → endsWord (getD text at 0) ≡ true
+      → Stepping z text at clauses b
+      (record { taken = record { answer = Passed; begun = b }; next = record { at = at + 1 } }) clauses
+  unfolding andThen endsWord
+  step-blank n e =
       record {
         later = omega arith;
-        within = word .within;
         left =
-            skipped z start line at from clauses b run ready
-            ∙ word-token z (clausesFrom clauses b) start line from (next .at) (signed negated v) word
-            (omega (arith, size z start line at from clauses b run ready))
-            ∙ ap (λ m. andThen m (wordsFrom z start line (next .at))) (sym (k .step));
-        ready = k .kept z ready h;
+            λ stop line.
+            let lt = on-behind text h n line in
+            let size = length-take-le stop text (line .within) in (
+              omega arith,
+              ap (walk (wordStep z) (clausesFrom clauses b))
+                  (word-skip (take stop text) 0 at (omega arith)
+                  (ap isBlank (getD-take stop text at 0 lt)
+                  ∙ first-of (isBlank (getD text at 0)) (endsLine (getD text at 0)) e n)),
+            );
+        ready = ready;
       }
+    where
+      first-of : (p q : Bool) → (p || q) ≡ true → q ≡ false → p ≡ true
+      first-of true q e f = refl
+      first-of false q e f = absurd (true≢false (sym e ∙ f))
+
+  module _ (n : endsLine (getD text at 0) ≡ false) (m : endsWord (getD text at 0) ≡ false) where
+    -- a refusal ends the walk
+    stops : (code place : ℕ) (r : Stepped) → r ≡ stoppedWith code place b (record { at = at + 1 })
+        → ((stop : ℕ) → Stretch (belongs Line) text at stop
+        → wordsFrom z (take stop text) at (clausesFrom clauses b) ≡ refuses code place)
+        → Stepping z text at clauses b r clauses
+    unfolding andThen
+    stops code place r f e =
+        subst (λ t. Stepping z text at clauses b t clauses) (sym f)
+        (record { later = omega arith; left = λ stop line. (let lt = on-behind text h n line in omega arith, e stop line); ready = ready })
+
+    pub step-over : (w : WordAnswer) {r : Stepped} → WordRead text at w → z .total ≤ b .closed
+        → r ≡ stoppedWith 7 at b (record { at = at + 1 }) → Stepping z text at clauses b r clauses
+    step-over w {r} k over f = stops 7 at r f (λ stop line. by w k stop line)
+      where
+        refusal : {next : ℕ} {t : Token} → Spelt text at next t → (stop : ℕ) → Stretch (belongs Line) text at stop
+            → wordsFrom z (take stop text) at (clausesFrom clauses b) ≡ refuses 7 at
+        refusal {next} {t} k stop line = word-over z (clausesFrom clauses b) (take stop text) at next t
+            (word-in-line line k h m) (omega (arith, closed-size z clauses b ready))
+
+        by : (w : WordAnswer) → WordRead text at w → (stop : ℕ) → Stretch (belongs Line) text at stop
+            → wordsFrom z (take stop text) at (clausesFrom clauses b) ≡ refuses 7 at
+        by (Read negated v c) k stop line = refusal k stop line
+        by Malformed (next, k) stop line = refusal k stop line
+
+    pub step-malformed : {w : WordAnswer} {r : Stepped} → WordRead text at w → w ≡ Malformed → b .closed < z .total
+        → r ≡ stoppedWith 5 at b (record { at = at + 1 }) → Stepping z text at clauses b r clauses
+    unfolding tokenStep andThen
+    step-malformed {w = Read negated v c} k e under f = absurd (let x : _≡_ {A = ℕ} 0 1 = cc in omega arith)
+    step-malformed {w = Malformed} {r} (next, k) e under f = stops 5 at r f
+        (λ stop line. word-token z (clausesFrom clauses b) (take stop text) at next malformed (word-in-line line k h m)
+        (omega (arith, closed-size z clauses b ready)))
+
+    pub step-taken : {w : WordAnswer} {negated : Bool} {v : ℕ} {next : Cursor} {t : Taken} {clauses₁ : ClauseSlices}
+        → WordRead text at w → w ≡ Read negated v next → b .closed < z .total
+        → Taking (z .variables) at clauses b negated v t clauses₁
+        → Stepping z text at clauses b (record { taken = t; next = next }) clauses₁
+    step-taken {negated = negated} {v} {next} {t} {clauses₁} k e under taking =
+        let word : Spelt text at (next .at) (signed negated v) = subst (WordRead text at) e k in
+        record {
+          later = run-later (word .run) (ap not m) h;
+          left =
+              λ stop line.
+              let found = word-in-line line word h m in
+              let w = found .within in (
+                omega (arith, length-take-le stop text (line .within)),
+                word-token z (clausesFrom clauses b) (take stop text) at (next .at) (signed negated v) found
+                    (omega (arith, closed-size z clauses b ready))
+                    ∙ ap (λ s. andThen s (wordsFrom z (take stop text) (next .at))) (sym (taking .step)),
+              );
+          ready = taking .kept z ready under;
+        }
 
 -- ---- the loop over the words of a line
 
-module _ {z : Sizes} {start : ℕ} {line : List ℕ} {clauses₀ : ClauseSlices} {b₀ : Begun} where
-  pub along-begins : Ready z (b₀ .closed) clauses₀ → Inside start line → Along z start line clauses₀ b₀ clauses₀ b₀ 0
-  along-begins ready inside =
+module _ {z : Sizes} {text : List ℕ} {start : ℕ} {clauses₀ : ClauseSlices} {b₀ : Begun} where
+  pub along-begins : Ready z (b₀ .closed) clauses₀ → start ≤ length text
+      → Along z text start clauses₀ b₀ clauses₀ b₀ start
+  along-begins ready h =
+      let run = run-exists (belongs Line) text start start (omega arith) h (run-begins (belongs Line) text start) in
       record {
         ready = ready;
-        inside = inside;
-        within = zero-le;
-        left = ap (λ j. walk (wordStep z) (clausesFrom clauses₀ b₀) (words j line)) (sym (add-zero start));
+        stop = run .0;
+        line = run .2;
+        lower = omega arith;
+        upper = run .1;
+        left = ap₂ (λ j l. walk (wordStep z) (clausesFrom clauses₀ b₀) (words j l)) (sym (zero-add start))
+            (sym (cut text start (run .0) (run .1)));
       }
 
-  module _ {clauses : ClauseSlices} {b : Begun} {at : ℕ} (a : Along z start line clauses₀ b₀ clauses b at) where
-    pub along-ends : length line ≤ at
-        → Scanning z start line clauses₀ b₀ (record { answer = Passed; begun = b }) clauses
+  module _ {clauses : ClauseSlices} {b : Begun} {at : ℕ} (a : Along z text start clauses₀ b₀ clauses b at) where
+    done : at ≡ a .stop → Scanning z text start clauses₀ b₀
+        (record { taken = record { answer = Passed; begun = b }; next = record { at = at } }) clauses
     unfolding walk
-    along-ends h =
+    done e =
         record {
+          stop = a .stop;
+          line = a .line;
+          ended = e;
           step = sym (a .left ∙ ap (walk (wordStep z) (clausesFrom clauses b))
-              (words-end line start at (let w = a .within in omega arith)));
+              (words-end (take (a .stop) text) 0 at (e ∙ sym (length-take-le (a .stop) text (a .line .within)))));
           ready = a .ready;
         }
 
-    module _ {r : Stepped} {clauses₁ : ClauseSlices} (k : Stepping z start line at clauses b r clauses₁) where
+    -- the text ends there, or the line
+    pub along-ends : length text ≤ at → Scanning z text start clauses₀ b₀
+        (record { taken = record { answer = Passed; begun = b }; next = record { at = at } }) clauses
+    along-ends h = done (let u = a .upper in let w = a .line .within in omega arith)
+
+    pub along-over : endsLine (getD text at 0) ≡ true → Scanning z text start clauses₀ b₀
+        (record { taken = record { answer = Passed; begun = b }; next = record { at = at } }) clauses
+    unfolding belongs
+    along-over e = done (by (decLt at (a .stop)))
+      where
+        by : Dec (at < a .stop) → at ≡ a .stop
+        by (yes lt) = absurd (true≢false (sym (a .line .passes at (a .lower) lt) ∙ ap not e))
+        by (no ge) = let u = a .upper in omega arith
+
+    -- the line from there on
+    rest : Stretch (belongs Line) text at (a .stop)
+    rest = run-rest (a .lower) (a .upper) (a .line)
+
+    module _ {r : Stepped} {clauses₁ : ClauseSlices} (k : Stepping z text at clauses b r clauses₁) where
       pub along-stops : {code place : ℕ} → r .taken .answer ≡ Refused code place
-          → Scanning z start line clauses₀ b₀ (r .taken) clauses₁
+          → Scanning z text start clauses₀ b₀ r clauses₁
       along-stops {code = code} {place} e =
           record {
-            step = sym (a .left ∙ k .left ∙ then-refused (r .taken .answer) code place
+            stop = a .stop;
+            line = a .line;
+            ended = subst (λ x. WherePassed x (r .next .at ≡ a .stop)) (sym e) tt;
+            step = sym (a .left ∙ k .left (a .stop) rest .1 ∙ then-refused (r .taken .answer) code place
                 (clausesFrom clauses₁ (r .taken .begun)) (clausesFrom clauses₁ (r .taken .begun))
-                (wordsFrom z start line (r .next .at)) e);
+                (wordsFrom z (take (a .stop) text) (r .next .at)) e);
             ready = k .ready;
           }
 
       pub along-goes-on : r .taken .answer ≡ Passed
-          → Along z start line clauses₀ b₀ clauses₁ (r .taken .begun) (r .next .at)
+          → Along z text start clauses₀ b₀ clauses₁ (r .taken .begun) (r .next .at)
       along-goes-on e =
           record {
             ready = k .ready;
-            inside = a .inside;
-            within = k .within;
-            left = a .left ∙ k .left ∙ then-passed (r .taken .answer) (clausesFrom clauses₁ (r .taken .begun))
-                (wordsFrom z start line (r .next .at)) e;
+            stop = a .stop;
+            line = a .line;
+            lower = let l = k .later in let o = a .lower in omega arith;
+            upper = k .left (a .stop) rest .0;
+            left = a .left ∙ k .left (a .stop) rest .1
+                ∙ then-passed (r .taken .answer) (clausesFrom clauses₁ (r .taken .begun))
+                (wordsFrom z (take (a .stop) text) (r .next .at)) e;
           }

@@ -3,19 +3,20 @@
 use mathlib.Core.Bool.{Bool}
 use mathlib.Core.List.{List}
 use mathlib.Core.Path.{_≡_}
-use Prim.Native.Nat.{ℕ, _+_, _≤_, _<_}
+use Prim.Native.Nat.{ℕ, _+_, _-_, _≤_, _<_}
 use lib.ListN.{length, take, drop}
 use Rattle.point_slices.specs.Slices.{ClauseSlices, clausesOf, clauseRoom}
 use Rattle.formula.specs.Limits.{maxVariables, maxClauses}
 use Rattle.formula.specs.declared.Checked.the-variants.{Refused}
+use Rattle.dimacs_words.specs.declared.Class.the-variants.{Line}
 use Rattle.dimacs_words.specs.declared.Cursor.{Cursor}
 use Rattle.dimacs_clauses.specs.declared.Begun.{Begun}
 use Rattle.dimacs_clauses.specs.declared.Taken.{Taken}
 use Rattle.dimacs_clauses.specs.declared.Stepped.{Stepped}
-use Rattle.dimacs_format.specs.Text.{maxText, words}
+use Rattle.dimacs_format.specs.Text.{words}
 use Rattle.dimacs_format.specs.Reader.{Step, andThen, walk, Sizes, Clauses, tokenStep, wordStep}
-use Rattle.dimacs_format.specs.Laws.AnswerLaws.{stepTo}
-use Rattle.dimacs_words.specs.Laws.Scans.{signed}
+use Rattle.dimacs_format.specs.Laws.AnswerLaws.{stepTo, WherePassed}
+use Rattle.dimacs_words.specs.Laws.Scans.{belongs, Stretch, signed}
 
 -- the clauses closed lie at the front of the slices
 abbrev pub clausesFrom : ClauseSlices → Begun → Clauses
@@ -48,41 +49,46 @@ pub record Room (n k : ℕ) (clauses : ClauseSlices) : Type 0 where
   pub few : k < maxClauses
   pub room : k < clauseRoom clauses
 
--- a line lies within a text of the size that refusal 1 lets pass
-abbrev pub Inside : ℕ → List ℕ → Type 0
-Inside start line = start + length line ≤ maxText
+-- the walk over the words of a line from a place on, the line being cut from its text at its end
+abbrev pub wordsFrom : Sizes → List ℕ → ℕ → Clauses → Step Clauses
+wordsFrom z line at s = walk (wordStep z) s (words (0 + at) (drop at line))
 
--- the walk over the words of a line from a place on
-abbrev pub wordsFrom : Sizes → ℕ → List ℕ → ℕ → Clauses → Step Clauses
-wordsFrom z start line at s = walk (wordStep z) s (words (start + at) (drop at line))
+-- the walk over the words of the line between two places
+abbrev pub wordsBetween : Sizes → List ℕ → ℕ → ℕ → Clauses → Step Clauses
+wordsBetween z text start stop s = walk (wordStep z) s (words start (take (stop - start) (drop start text)))
 
--- a refusal, and nothing left to be read
+-- a refusal
 abbrev pub stoppedWith : ℕ → ℕ → Begun → Cursor → Stepped
-stoppedWith code place b end = record { taken = record { answer = Refused code place; begun = b }; next = end }
+stoppedWith code place b next = record { taken = record { answer = Refused code place; begun = b }; next = next }
 
--- what one word leads to, from a place of the line on: the walk is refused, or goes on from a later place
-pub record Stepping (z : Sizes) (start : ℕ) (line : List ℕ) (at : ℕ) (clauses₀ : ClauseSlices) (b : Begun) (r : Stepped)
+-- what one word or blank leads to, wherever its line ends: the walk is refused, or goes on from a later place
+pub record Stepping (z : Sizes) (text : List ℕ) (at : ℕ) (clauses₀ : ClauseSlices) (b : Begun) (r : Stepped)
     (clauses₁ : ClauseSlices) : Type 0 where
   pub later : at < r .next .at
-  pub within : r .next .at ≤ length line
-  pub left : wordsFrom z start line at (clausesFrom clauses₀ b)
+  pub left : (stop : ℕ) → Stretch (belongs Line) text at stop
+      → (r .next .at ≤ stop) × (wordsFrom z (take stop text) at (clausesFrom clauses₀ b)
       ≡ andThen (stepTo (r .taken .answer) (clausesFrom clauses₁ (r .taken .begun)))
-      (wordsFrom z start line (r .next .at))
+      (wordsFrom z (take stop text) (r .next .at)))
   pub ready : Ready z (r .taken .begun .closed) clauses₁
 
--- what a line of words leads to
-pub record Scanning (z : Sizes) (start : ℕ) (line : List ℕ) (clauses₀ : ClauseSlices) (b : Begun) (r : Taken)
+-- what a line of words leads to, and where it ends
+pub record Scanning (z : Sizes) (text : List ℕ) (start : ℕ) (clauses₀ : ClauseSlices) (b : Begun) (r : Stepped)
     (clauses₁ : ClauseSlices) : Type 0 where
-  pub step : stepTo (r .answer) (clausesFrom clauses₁ (r .begun))
-      ≡ walk (wordStep z) (clausesFrom clauses₀ b) (words start line)
-  pub ready : Ready z (r .begun .closed) clauses₁
+  pub stop : ℕ
+  pub line : Stretch (belongs Line) text start stop
+  pub ended : WherePassed (r .taken .answer) (r .next .at ≡ stop)
+  pub step : stepTo (r .taken .answer) (clausesFrom clauses₁ (r .taken .begun))
+      ≡ wordsBetween z text start stop (clausesFrom clauses₀ b)
+  pub ready : Ready z (r .taken .begun .closed) clauses₁
 
 -- the loop over the words of a line: what is left of the walk, with the slices and the clause begun as they are, is the
 -- whole walk
-pub record Along (z : Sizes) (start : ℕ) (line : List ℕ) (clauses₀ : ClauseSlices) (b₀ : Begun) (clauses : ClauseSlices)
+pub record Along (z : Sizes) (text : List ℕ) (start : ℕ) (clauses₀ : ClauseSlices) (b₀ : Begun) (clauses : ClauseSlices)
     (b : Begun) (at : ℕ) : Type 0 where
   pub ready : Ready z (b .closed) clauses
-  pub inside : Inside start line
-  pub within : at ≤ length line
-  pub left : walk (wordStep z) (clausesFrom clauses₀ b₀) (words start line)
-      ≡ wordsFrom z start line at (clausesFrom clauses b)
+  pub stop : ℕ
+  pub line : Stretch (belongs Line) text start stop
+  pub lower : start ≤ at
+  pub upper : at ≤ stop
+  pub left : wordsBetween z text start stop (clausesFrom clauses₀ b₀)
+      ≡ wordsFrom z (take stop text) at (clausesFrom clauses b)

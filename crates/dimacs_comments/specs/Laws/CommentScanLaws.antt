@@ -20,18 +20,16 @@ use Rattle.math.specs.Lists.{_∈_, all}
 use Rattle.permutation_theory.specs.Laws.PermutationLaws.{isPermutation-sound, permutation-within}
 use Rattle.permutation_theory.specs.Permutations.{Permutation, isPermutation}
 use Rattle.formula.specs.Limits.{maxVariables}
-use Rattle.dimacs_words.specs.declared.Class.the-variants.{Blank}
+use Rattle.dimacs_words.specs.declared.Class.the-variants.{Blank, Word}
 use Rattle.dimacs_words.specs.declared.Cursor.{Cursor}
-use Rattle.dimacs_words.specs.declared.Word.{Word as WordAnswer}
-use Rattle.dimacs_words.specs.declared.Word.the-variants.{Read, Malformed as no-word}
 use Rattle.dimacs_comments.specs.declared.Image.{Image}
 use Rattle.dimacs_comments.specs.declared.Image.the-variants.{End, Variable, Malformed as Other}
 use Rattle.dimacs_format.specs.Text.{isBlank, isDigit, allBlank, words, spelled, decimal, isNumber, numberIn, tokenIn}
 use Rattle.dimacs_format.specs.Text.{unsigned, negated, literal, malformed, neg, Token}
 use Rattle.dimacs_format.specs.Reader.{isBinary, binary, targetIn, beginsWord, bothNumbers, numbersIn, permuting}
 use Rattle.dimacs_format.specs.Reader.{permutationIn}
-use Rattle.dimacs_words.specs.Laws.Scans.{belongs, Stretch, signed, WordAt, WordRead}
-use Rattle.dimacs_words.specs.Laws.ScanLaws.{here-on, part-end, run-all, words-skip, words-end}
+use Rattle.dimacs_words.specs.Laws.Scans.{belongs, Stretch, WordAt}
+use Rattle.dimacs_words.specs.Laws.ScanLaws.{here-on, part-end, run-all, words-skip, words-end, word-at, blanks-stop}
 use Rattle.dimacs_comments.specs.Laws.CommentScans.{withDigit, binaryIn, prepended, numbersFrom, Spoiled, Imaging}
 use Rattle.dimacs_comments.specs.Laws.CommentScans.{Storing}
 use Rattle.dimacs_comments.specs.Laws.CommentScans.{Collecting, Permuting}
@@ -168,84 +166,6 @@ module _ (n : ℕ) (bytes : List ℕ) where
       by true a b = rw (a, b)
       by false a b = rw a
 
--- ---- numbers and tokens
-
--- a word that is a number with its sign: without a minus it is that number, with one it is none or 0
-pub plain-word : (w : List ℕ) (v : ℕ) → tokenIn w ≡ signed false v → numberIn w ≡ some v
-unfolding tokenIn numberIn unsigned negated
-plain-word [] v e = absurd (no-token v e)
-  where
-    no-token : (v : ℕ) → malformed ≡ signed false v → ⊥
-    no-token zero e = let z : _≡_ {A = ℕ} 0 1 = cc in omega arith
-    no-token (suc v) e = let z : _≡_ {A = ℕ} 0 1 = cc in omega arith
-plain-word (b ∷ bs) v e = by (eqb b 45) refl e
-  where
-    minus : (o : Option ℕ) (v : ℕ) → negated o ≡ signed false v → ⊥
-    minus none zero e = let z : _≡_ {A = ℕ} 0 1 = cc in omega arith
-    minus none (suc v) e = let z : _≡_ {A = ℕ} 0 1 = cc in omega arith
-    minus (some zero) zero e = let z : _≡_ {A = ℕ} 0 1 = cc in omega arith
-    minus (some zero) (suc v) e = let z : _≡_ {A = ℕ} 0 1 = cc in omega arith
-    minus (some (suc u)) zero e = let z : _≡_ {A = ℕ} 0 1 = cc in omega arith
-    minus (some (suc u)) (suc v) e = let z : _≡_ {A = ℕ} 0 1 = cc in omega arith
-
-    plain : (o : Option ℕ) (v : ℕ) → unsigned o ≡ signed false v → o ≡ some v
-    plain none zero e = cc
-    plain none (suc v) e = cc
-    plain (some zero) zero e = refl
-    plain (some zero) (suc v) e = cc
-    plain (some (suc u)) zero e = cc
-    plain (some (suc u)) (suc v) e = cc
-
-    by : (t : Bool) → eqb b 45 ≡ t → cond t (negated (numberIn bs)) (unsigned (numberIn (b ∷ bs))) ≡ signed false v
-        → numberIn (b ∷ bs) ≡ some v
-    by true m e = absurd (minus (numberIn bs) v e)
-    by false m e = plain (numberIn (b ∷ bs)) v e
-
--- a minus in front: no number without sign
-minus-first : (b : ℕ) (bs : List ℕ) → eqb b 45 ≡ true → numberIn (b ∷ bs) ≡ none
-unfolding numberIn isNumber all isDigit
-minus-first b bs e = by (leb 1 (length (b ∷ bs)) && leb (length (b ∷ bs)) 4) (leb 48 b)
-    (lt-leb 48 b (let z = eqb-true b 45 e in omega arith))
-  where
-    by : (t u : Bool) → u ≡ false → cond (t && (u && leb b 57 && all isDigit bs)) (some (decimal 0 (b ∷ bs))) none
-        ≡ none
-    by true u f = rw f
-    by false u f = refl
-
--- a malformed word is no number
-pub bad-word : (w : List ℕ) → tokenIn w ≡ malformed → numberIn w ≡ none
-unfolding tokenIn numberIn unsigned isNumber
-bad-word [] e = refl
-bad-word (b ∷ bs) e = by (eqb b 45) refl e
-  where
-    plain : (o : Option ℕ) → unsigned o ≡ malformed → o ≡ none
-    plain none e = refl
-    plain (some zero) e = cc
-    plain (some (suc u)) e = cc
-
-    by : (t : Bool) → eqb b 45 ≡ t → cond t (negated (numberIn bs)) (unsigned (numberIn (b ∷ bs))) ≡ malformed
-        → numberIn (b ∷ bs) ≡ none
-    by true m e = minus-first b bs m
-    by false m e = plain (numberIn (b ∷ bs)) e
-
--- a number with a minus is none without sign, or 0
-pub minus-word : (w : List ℕ) (v : ℕ) → tokenIn w ≡ signed true v → (numberIn w ≡ none) ⊎ (numberIn w ≡ some 0)
-unfolding tokenIn numberIn unsigned
-minus-word w zero e = inr (plain-word w 0 e)
-minus-word [] (suc v) e = absurd (let z : _≡_ {A = ℕ} 0 1 = cc in omega arith)
-minus-word (b ∷ bs) (suc v) e = by (eqb b 45) refl e
-  where
-    plain : (o : Option ℕ) → unsigned o ≡ literal (neg (suc v)) → ⊥
-    plain none e = let z : _≡_ {A = ℕ} 0 1 = cc in omega arith
-    plain (some zero) e = let z : _≡_ {A = ℕ} 0 1 = cc in omega arith
-    plain (some (suc u)) e = let z : _≡_ {A = ℕ} 0 1 = cc in omega arith
-
-    by : (t : Bool) → eqb b 45 ≡ t → cond t (negated (numberIn bs)) (unsigned (numberIn (b ∷ bs)))
-        ≡ literal (neg (suc v))
-        → (numberIn (b ∷ bs) ≡ none) ⊎ (numberIn (b ∷ bs) ≡ some 0)
-    by true m e = inl (minus-first b bs m)
-    by false m e = absurd (plain (numberIn (b ∷ bs)) e)
-
 -- ---- what spoils a permutation
 
 spoiled-none : (n : ℕ) (o : Option (List ℕ)) → Spoiled n (bothNumbers none o)
@@ -281,46 +201,31 @@ module _ (n : ℕ) (bytes : List ℕ) (at from : ℕ) (run : Stretch (belongs Bl
   unfolding numbersIn
   images-end h = skipped ∙ ap (λ l. numbersIn (spelled l)) (words-end bytes 0 from (let w = run .within in omega arith))
 
-  -- the word there, and the numbers behind it
-  first : {next : ℕ} {t : Token} → WordAt bytes from next t
-      → numbersFrom bytes at ≡ bothNumbers (numberIn (take (next - from) (drop from bytes))) (numbersFrom bytes next)
-  unfolding numbersIn
-  first w = skipped ∙ ap (λ l. numbersIn (spelled l)) (w .parts 0)
+  module _ (to : ℕ) (word : Stretch (belongs Word) bytes from to) (inside : from < length bytes) where
+    there : WordAt bytes from to (tokenIn (take (to - from) (drop from bytes)))
+    there = word-at bytes (tokenIn (take (to - from) (drop from bytes))) word inside (blanks-stop bytes run inside) refl
 
-  pub image-bad : (r : WordAnswer) → WordRead bytes from r → r ≡ no-word → Spoiled n (numbersFrom bytes at)
-  image-bad (Read negated v c) w e = absurd (let x : _≡_ {A = ℕ} 0 1 = cc in omega arith)
-  image-bad no-word (next, w) e =
-      subst (Spoiled n) (sym (first w
-      ∙ ap (λ o. bothNumbers o (numbersFrom bytes next)) (bad-word (take (next - from) (drop from bytes)) (w .token))))
-      (spoiled-none n (numbersFrom bytes next))
+    -- the number there, and those behind it
+    first : {o : Option ℕ} → numberIn (take (to - from) (drop from bytes)) ≡ o
+        → numbersFrom bytes at ≡ bothNumbers o (numbersFrom bytes to)
+    unfolding numbersIn
+    first e = skipped ∙ ap (λ l. numbersIn (spelled l)) (there .parts 0)
+        ∙ ap (λ o. bothNumbers o (numbersFrom bytes to)) e
 
-  module _ (r : WordAnswer) (w : WordRead bytes from r) (negated : Bool) (v next : ℕ)
-      (e : r ≡ Read negated v (record { at = next })) where
-    word : WordAt bytes from next (signed negated v)
-    word = subst (WordRead bytes from) e w
+    pub image-bad : numberIn (take (to - from) (drop from bytes)) ≡ none → Spoiled n (numbersFrom bytes at)
+    image-bad e = subst (Spoiled n) (sym (first e)) (spoiled-none n (numbersFrom bytes to))
 
-    pub image-negated : negated ≡ true → Spoiled n (numbersFrom bytes at)
-    image-negated m =
-        ⊎-elim
-        (λ f. subst (Spoiled n) (sym (first word ∙ ap (λ o. bothNumbers o (numbersFrom bytes next)) f))
-        (spoiled-none n (numbersFrom bytes next)))
-        (λ f. subst (Spoiled n) (sym (first word ∙ ap (λ o. bothNumbers o (numbersFrom bytes next)) f))
-        (spoiled-value n 0 (numbersFrom bytes next) (λ h. let low = h .0 in let z : ⊥ = omega arith in z)))
-        (minus-word (take (next - from) (drop from bytes)) v (word .token ∙ ap (λ b. signed b v) m))
+    pub image-above : (v : ℕ) → numberIn (take (to - from) (drop from bytes)) ≡ some v → n < v
+        → Spoiled n (numbersFrom bytes at)
+    image-above v e above = subst (Spoiled n) (sym (first e))
+        (spoiled-value n v (numbersFrom bytes to) (λ h. let high = h .1 in let z : ⊥ = omega arith in z))
 
-    value : negated ≡ false → numbersFrom bytes at ≡ bothNumbers (some v) (numbersFrom bytes next)
-    value m = first word ∙ ap (λ o. bothNumbers o (numbersFrom bytes next))
-        (plain-word (take (next - from) (drop from bytes)) v (word .token ∙ ap (λ b. signed b v) m))
-
-    pub image-above : negated ≡ false → n < v → Spoiled n (numbersFrom bytes at)
-    image-above m above = subst (Spoiled n) (sym (value m))
-        (spoiled-value n v (numbersFrom bytes next) (λ h. let high = h .1 in let z : ⊥ = omega arith in z))
-
-    pub image-next : negated ≡ false → v ≤ n → Imaging n bytes at (Variable v (record { at = next }))
-    image-next m le =
+    pub image-next : (v : ℕ) → numberIn (take (to - from) (drop from bytes)) ≡ some v → v ≤ n
+        → Imaging n bytes at (Variable v (record { at = to }))
+    image-next v e le =
         let o = run .ordered in
-        let later = word .later in
-        (omega arith, word .within, le, value m)
+        let later = there .later in
+        (omega arith, there .within, le, first e)
 
 -- ---- the loop over the numbers
 

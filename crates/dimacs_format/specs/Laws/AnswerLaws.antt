@@ -1,5 +1,5 @@
 -- The code answers by `formula::Checked` beside a value: a step that may refuse. Assumes nothing.
-use mathlib.Core.Path.{_≡_, sym, ap, _∙_}
+use mathlib.Core.Path.{_≡_, refl, sym, ap, _∙_, subst}
 use Prim.Native.Nat.{ℕ}
 use Rattle.formula.specs.declared.Checked.{Checked}
 use Rattle.formula.specs.declared.Checked.the-variants.{Passed, Refused}
@@ -32,6 +32,16 @@ module _ {S T : Type 0} where
       → andThen (stepTo a s) k ≡ stepTo a t
   unfolding andThen
   then-refused a code place s t k e = ap (λ b. andThen (stepTo b s) k) e ∙ sym (ap (λ b. stepTo b t) e)
+
+  -- what follows a refusal may be anything
+  pub then-alike : (a : Checked) (s : S) (m n : ℕ) (k : ℕ → S → Step T) → WherePassed a (m ≡ n)
+      → andThen (stepTo a s) (k n) ≡ andThen (stepTo a s) (k m)
+  unfolding andThen
+  then-alike Passed s m n k e = ap (λ j. k j s) (sym e)
+  then-alike (Refused code place) s m n k e = refl
+
+pub where-told : (A : Type 0) {a : Checked} → a ≡ Passed → WherePassed a A → A
+where-told A e h = subst (λ x. WherePassed x A) e h
 
 pub where-passed : {A : Type 0} (a : Checked) → A → WherePassed a A
 where-passed Passed h = h

@@ -6,7 +6,7 @@ use native.Mathlib.Omega.{arith}
 use lib.ListN.{length}
 use borrow.Author.Needs.{needs}
 use Rattle.point_slices.specs.Slices.{clauseSlices}
-use Rattle.dimacs_lines.specs.Laws.LineScanLaws.{passing-begins, passing-ends, passing-inside, passing-stops}
+use Rattle.dimacs_lines.specs.Laws.LineScanLaws.{passing-begins, passing-ends, passing-stops, passing-later}
 use Rattle.dimacs_lines.specs.Laws.LineScanLaws.{passing-goes-on}
 use Rattle.dimacs_lines.specs.Laws.LineScans.{Passing}
 use Rattle.dimacs_lines.proofs.read_lines.Statement.{statement}
@@ -26,21 +26,23 @@ begin-requires c κs = search needs
 add-start : tie.Need-add-start Inv-loop μ-loop
 add-start c = let w = c .before .loop .inv .0 .size in omega (arith, c .loop-test .taken)
 
-run-end-requires : tie.Need-run-end-requires Inv-loop μ-loop
-run-end-requires c κs = omega (arith, c .loop-test .taken)
+read-part-requires : tie.Need-read-part-requires Inv-loop μ-loop
+read-part-requires c κs = (c .before .before .before .before .loop .inv .0 .standing, omega (arith, c .before .before .before .loop-test .taken))
 
-read-line-requires : tie.Need-read-line-requires Inv-loop μ-loop
-read-line-requires c κs = (c .before .before .before .before .before .before .loop .inv .0 .standing, passing-inside (c .before .before .before .before .before .before .loop .inv .0) (c .before .before .before .before .run-end .ensures))
+returns : tie.Need-returns Inv-loop μ-loop
+returns c = passing-stops (c .before .before .before .before .before .before .before .before .before .before .before .before .before .before .loop .inv .0) (c .before .before .before .before .before .before .before .before .before .before .before .before .before .loop-test .taken) (c .before .before .before .before .before .before .before .before .before .read-part .ensures) (c .enum-told2 .given .1)
 
 loop-less : tie.Need-loop-less Inv-loop μ-loop
-loop-less c = let o = c .before .before .before .before .before .before .before .before .before .before .before .before .before .before .run-end .ensures .ordered in omega (arith, c .before .before .before .before .before .before .before .before .before .before .before .before .before .before .before .loop-test .taken)
+loop-less c =
+    let l = passing-later (c .before .before .before .before .before .before .before .before .before .before .before .before .before .before .before .loop .inv .0) (c .before .before .before .before .before .before .before .before .before .before .before .before .before .before .loop-test .taken) (c .before .before .before .before .before .before .before .before .before .before .read-part .ensures) (c .before .enum-told .given .1) in
+    omega (arith, c .before .before .before .before .before .before .before .before .before .before .before .before .before .before .loop-test .taken)
 
 loop-again : tie.Need-loop-again Inv-loop μ-loop
 loop-again c = (
-  passing-goes-on (c .before .before .before .before .before .before .before .before .before .before .before .before .before .before .before .before .loop .inv .0) (c .before .before .before .before .before .before .before .before .before .before .before .before .before .before .before .loop-test .taken) (c .before .before .before .before .before .before .before .before .before .before .before .before .before .before .run-end .ensures) (c .before .before .before .before .before .before .before .before .before .read-line .ensures) (c .before .enum-told .given .1),
-  c .before .before .before .before .before .before .before .before .before .read-line .kept .1 .1 .1 .1 .0 ∙ c .before .before .before .before .before .before .before .before .before .before .before .before .before .before .before .before .loop .inv .1,
-  c .before .before .before .before .before .before .before .before .before .read-line .kept .1 .1 .1 .1 .1 .0 ∙ c .before .before .before .before .before .before .before .before .before .before .before .before .before .before .before .before .loop .inv .2,
-  c .before .before .before .before .before .before .before .before .before .read-line .kept .1 .1 .1 .1 .1 .1 .0 ∙ c .before .before .before .before .before .before .before .before .before .before .before .before .before .before .before .before .loop .inv .3,
+  passing-goes-on (c .before .before .before .before .before .before .before .before .before .before .before .before .before .before .before .loop .inv .0) (c .before .before .before .before .before .before .before .before .before .before .before .before .before .before .loop-test .taken) (c .before .before .before .before .before .before .before .before .before .before .read-part .ensures) (c .before .enum-told .given .1),
+  c .before .before .before .before .before .before .before .before .before .before .read-part .kept .1 .1 .1 .1 .0 ∙ c .before .before .before .before .before .before .before .before .before .before .before .before .before .before .before .loop .inv .1,
+  c .before .before .before .before .before .before .before .before .before .before .read-part .kept .1 .1 .1 .1 .1 .0 ∙ c .before .before .before .before .before .before .before .before .before .before .before .before .before .before .before .loop .inv .2,
+  c .before .before .before .before .before .before .before .before .before .before .read-part .kept .1 .1 .1 .1 .1 .1 .0 ∙ c .before .before .before .before .before .before .before .before .before .before .before .before .before .before .before .loop .inv .3,
 )
 
 pub read-lines-spec : {M : Type 1} → statement M
@@ -52,17 +54,13 @@ read-lines-spec =
     begin-requires
     (λ c. search (needs, passing-begins))
     add-start
-    run-end-requires
-    (λ c. search needs)
-    (λ c. search needs)
-    (λ c. search needs)
-    read-line-requires
+    read-part-requires
     (λ c. search needs)
     (λ c. search needs)
     (λ c. search needs)
     (λ c. search needs)
     (λ c. search needs)
-    (λ c. search (needs, passing-stops))
+    returns
     loop-less
     loop-again
     (λ c. search needs)

@@ -1,36 +1,42 @@
 -- Laws of the lines behind the problem line, as the code goes along them. Assumes nothing.
-use mathlib.Core.Bool.{true, false}
-use mathlib.Core.List.{List}
+use mathlib.Core.Bool.{Bool, true, false, not, _&&_}
+use mathlib.Core.List.{List, [], _∷_}
 use mathlib.Core.Path.{_≡_, refl, sym, ap, _∙_, subst}
-use Prim.Native.Nat.{ℕ, _+_, _-_, _≤_, _<_}
+use Prim.Native.Nat.{ℕ, suc, _+_, _-_, _≤_, _<_}
+use native.Mathlib.Decide.{decLt, ℕ-discrete}
 use native.Mathlib.Omega.{arith}
-use lib.ListN.{length, take, drop, length-append}
+use lib.Dec.{eqb, ltb}
+use lib.ListN.{length, getD, take, drop, length-append}
+use borrow.Author.Tests.{lt-ltb, le-ltb, eq-eqb, ne-eqb, eqb-true, not-false}
 use Rattle.permutation_theory.specs.Permutations.{permutationsIn}
 use Rattle.point_slices.specs.Slices.{ClauseSlices}
 use Rattle.formula.specs.declared.Checked.the-variants.{Passed, Refused}
 use Rattle.dimacs_words.specs.declared.Class.the-variants.{Line as LineBytes}
-use Rattle.dimacs_clauses.specs.declared.Taken.{Taken}
+use Rattle.dimacs_clauses.specs.declared.Begun.{Begun}
+use Rattle.dimacs_clauses.specs.declared.Stepped.{Stepped}
 use Rattle.dimacs_comments.specs.declared.TargetTaken.{TargetTaken}
 use Rattle.dimacs_comments.specs.declared.PermutationTaken.{PermutationTaken}
 use Rattle.dimacs_lines.specs.declared.State.{State}
 use Rattle.dimacs_lines.specs.declared.Advanced.{Advanced}
-use Rattle.dimacs_format.specs.Text.{maxText, piece, begins, isComment, targetHead, permutationHead, isTargetLine}
-use Rattle.dimacs_format.specs.Text.{isPermutationLine}
+use Rattle.dimacs_lines.specs.declared.Lined.{Lined}
+use Rattle.dimacs_format.specs.Text.{maxText, endsLine, Line, piece, sameBytes, begins, isComment, targetHead}
+use Rattle.dimacs_format.specs.Text.{permutationHead, isTargetLine, isPermutationLine}
 use Rattle.dimacs_format.specs.Reader.{andThen, walk, Sizes, Progress, withPart, lineStep, linesSay}
 use Rattle.dimacs_format.specs.Reader.{clause-line, target-line, permutation-line}
 use Rattle.dimacs_format.specs.Laws.AnswerLaws.{stepTo, WherePassed, where-passed, where-both, step-within}
-use Rattle.dimacs_format.specs.Laws.AnswerLaws.{then-passed, then-refused}
+use Rattle.dimacs_format.specs.Laws.AnswerLaws.{where-told, then-passed, then-refused, then-alike}
 use Rattle.dimacs_format.specs.Laws.LineLaws.{kind-clauses, kind-target, kind-permutation, kind-remark, line-remark}
 use Rattle.dimacs_format.specs.Laws.LineLaws.{line-of-kind}
 use Rattle.dimacs_format.specs.Laws.TextLaws.{begins-split}
 use Rattle.dimacs_words.specs.Laws.Scans.{belongs, Stretch, linesBehind}
-use Rattle.dimacs_words.specs.Laws.ScanLaws.{run-length, part-end, behind-none, behind-some, lines-from}
-use Rattle.dimacs_clauses.specs.Laws.ClauseScans.{clausesFrom, Ready, Inside, Scanning}
+use Rattle.dimacs_words.specs.Laws.ScanLaws.{here-on, part-end, behind-none, behind-some, lines-from}
+use Rattle.dimacs_clauses.specs.Laws.ClauseScans.{clausesFrom, Ready, Scanning}
 use Rattle.dimacs_comments.specs.Laws.CommentScans.{wantedOf}
 use Rattle.dimacs_comments.specs.Laws.HandlerScans.{TargetRead, PermutationRead}
 use Rattle.dimacs_lines.specs.Laws.LineScans.{nothingSaid, withBegun, withWanted, withPermutations, progressWith}
 use Rattle.dimacs_lines.specs.Laws.LineScans.{progressFrom, Kept, Standing}
 use Rattle.dimacs_lines.specs.Laws.LineScans.{CommentRead}
+use Rattle.dimacs_lines.specs.Laws.LineScans.{opensComment, linesFrom, linesAfter, Following, Going}
 use Rattle.dimacs_lines.specs.Laws.LineScans.{Advancing, LinesRead, Passing}
 
 -- ---- a line of any kind
@@ -94,43 +100,163 @@ module _ {z : Sizes} {start : ℕ} {line : List ℕ} {s : State} {images : List 
         kept = kept;
       }
 
-  module _ {clauses : ClauseSlices} (st : Standing z s clauses images) where
-    -- a comment leaves the clauses as they are
-    pub line-comment : {r : Advanced} {images₁ : List ℕ} → CommentRead z start line s images r images₁
-        → Advancing z start line s clauses images r clauses images₁
-    line-comment {r = r} {images₁} k =
-        record {
-          step =
-              ap (λ b. stepTo (r .answer) (progressWith (z .variables) (clausesFrom clauses b) images₁ (r .state)))
-              (k .same-clauses)
-              ∙ k .step (clausesFrom clauses (s .begun));
-          stands =
-              where-both (r .answer)
-              (λ h. record {
-                ready = subst (λ b. Ready z (b .closed) clauses) (sym (k .same-clauses)) (st .ready);
-                kept = h;
-              })
-              (k .kept);
-        }
+-- ---- what begins at a place
 
-    -- a line of words replaces the clauses
-    pub line-words : {r : Taken} {clauses₁ : ClauseSlices} → isComment (piece start line) ≡ false
-        → Scanning z start line clauses (s .begun) r clauses₁
-        → Advancing z start line s clauses images (record { answer = r .answer; state = withBegun s (r .begun) })
-        clauses₁ images
-    line-words {r = r} {clauses₁} c k =
-        let p : Progress = progressFrom (z .variables) clauses images s in
-        record {
-          step =
-              step-within (r .answer) (clausesFrom clauses₁ (r .begun)) (withPart clause-line p) (k .step)
-              ∙ sym (line-of-kind z p (piece start line) clause-line (kind-clauses (piece start line) c));
-          stands =
-              where-passed (r .answer)
-              (record {
-                ready = k .ready;
-                kept = record { variables = st .kept .variables; images-kept = st .kept .images-kept };
-              });
-        }
+-- the line that begins at a place is a comment as its first byte says
+pub comment-there : (text : List ℕ) {at stop : ℕ} → Stretch (belongs LineBytes) text at stop
+    → isComment (piece at (take (stop - at) (drop at text))) ≡ opensComment text at
+unfolding isComment begins sameBytes opensComment belongs endsLine
+comment-there text {at} {stop} line = by (decLt at (length text))
+  where
+    empty : {n : ℕ} → n ≡ 0 → sameBytes (99 ∷ []) (take 1 (take n (drop at text))) ≡ false
+    empty e = ap (λ j. sameBytes (99 ∷ []) (take 1 (take j (drop at text)))) e
+
+    symmetric : (b : ℕ) → (eqb 99 b && true) ≡ eqb b 99
+    symmetric b = same (ℕ-discrete 99 b)
+      where
+        same : Dec (99 ≡ b) → (eqb 99 b && true) ≡ eqb b 99
+        same (yes e) = rw (eq-eqb 99 b e, eq-eqb b 99 (sym e))
+        same (no ne) = rw (ne-eqb 99 b ne, ne-eqb b 99 (λ e. ne (sym e)))
+
+    by : Dec (at < length text) → sameBytes (99 ∷ []) (take 1 (take (stop - at) (drop at text)))
+        ≡ (ltb at (length text) && eqb (getD text at 0) 99)
+    by (yes lt) = rw (lt-ltb at (length text) lt) (inside (decLt at stop))
+      where
+        inside : Dec (at < stop) → sameBytes (99 ∷ []) (take 1 (take (stop - at) (drop at text)))
+            ≡ eqb (getD text at 0) 99
+        inside (yes on) =
+            ap (λ j. sameBytes (99 ∷ []) (take 1 (take j (drop at text))))
+            (let z : stop - at ≡ suc (stop - at - 1) = omega arith in z)
+            ∙ ap (λ l. sameBytes (99 ∷ []) (take 1 (take (suc (stop - at - 1)) l))) (here-on text at lt)
+            ∙ symmetric (getD text at 0)
+        inside (no off) =
+            let o = line .ordered in
+            let end : stop ≡ at = omega arith in
+            let ten : getD text at 0 ≡ 10 = eqb-true (getD text at 0) 10 (not-false (eqb (getD text at 0) 10)
+            (ap (λ j. not (eqb (getD text j 0) 10)) (sym end) ∙ line .stops (omega arith))) in
+            empty (let z : stop - at ≡ 0 = omega arith in z)
+            ∙ sym (ne-eqb (getD text at 0) 99 (λ e. let z : ⊥ = omega arith in z))
+    by (no ge) =
+        let o = line .ordered in
+        let w = line .within in
+        empty (let z : stop - at ≡ 0 = omega arith in z) ∙ sym (rw (le-ltb at (length text) (let z : length text ≤ at = omega arith in z)))
+
+-- the line that begins at a place comes first
+line-first : (z : Sizes) (text : List ℕ) {at stop : ℕ} → Stretch (belongs LineBytes) text at stop → (p : Progress)
+    → linesFrom z text at p
+    ≡ andThen (lineStep z p (piece at (take (stop - at) (drop at text)))) (linesAfter z text stop)
+unfolding walk
+line-first z text {at} {stop} line p = ap (walk (lineStep z) p) (lines-from text at stop line)
+
+-- ---- lines of words
+
+module _ {z : Sizes} {text : List ℕ} where
+  -- a line of words replaces the clauses
+  pub words-follow : {first : ℕ} {clauses : ClauseSlices} {b : Begun} {r : Stepped} {clauses₁ : ClauseSlices}
+      → opensComment text first ≡ false → Scanning z text first clauses b r clauses₁
+      → Following z text first clauses b r clauses₁
+  words-follow {first} {clauses} {b} {r} {clauses₁} c k =
+      let line : Line = piece first (take (k .stop - first) (drop first text)) in
+      record {
+        within = where-both (r .taken .answer)
+            (λ e. (subst (λ j. first ≤ j) (sym e) (k .line .ordered), subst (λ j. j ≤ length text) (sym e) (k .line .within)))
+            (k .ended);
+        step =
+            λ p.
+            let q : Progress = withPart clause-line p (clausesFrom clauses b) in
+            line-first z text (k .line) q
+            ∙ ap (λ m. andThen m (linesAfter z text (k .stop)))
+            (line-of-kind z q line clause-line (kind-clauses line (comment-there text (k .line) ∙ c))
+            ∙ sym (step-within (r .taken .answer) (clausesFrom clauses₁ (r .taken .begun)) (withPart clause-line q) (k .step)))
+            ∙ then-alike (r .taken .answer) (withPart clause-line p (clausesFrom clauses₁ (r .taken .begun)))
+            (r .next .at) (k .stop) (linesAfter z text) (k .ended);
+        ready = k .ready;
+      }
+
+  module _ {start : ℕ} {clauses₀ : ClauseSlices} {b₀ : Begun} where
+    pub going-begins : Ready z (b₀ .closed) clauses₀ → start ≤ length text → opensComment text start ≡ false
+        → Going z text start clauses₀ b₀ clauses₀ b₀ start
+    going-begins ready within c =
+        record { ready = ready; lower = omega arith; within = within; words-there = c; left = λ p. refl }
+
+    module _ {clauses : ClauseSlices} {b : Begun} {first : ℕ} (a : Going z text start clauses₀ b₀ clauses b first)
+        {r : Stepped} {clauses₁ : ClauseSlices} (k : Scanning z text first clauses b r clauses₁) where
+      follows : Following z text first clauses b r clauses₁
+      follows = words-follow (a .words-there) k
+
+      -- the last of them
+      pub going-ends : Following z text start clauses₀ b₀ r clauses₁
+      going-ends =
+          record {
+            within = where-both (r .taken .answer) (λ w. (let l = a .lower in let m = w .0 in omega arith, w .1))
+                (follows .within);
+            step = λ p. a .left p ∙ follows .step p;
+            ready = k .ready;
+          }
+
+      pub going-later : r .taken .answer ≡ Passed → first ≤ r .next .at
+      going-later e = where-told ((first ≤ r .next .at) × (r .next .at ≤ length text)) e (follows .within) .0
+
+      pub going-goes-on : r .taken .answer ≡ Passed → r .next .at < length text
+          → opensComment text (r .next .at + 1) ≡ false
+          → Going z text start clauses₀ b₀ clauses₁ (r .taken .begun) (r .next .at + 1)
+      going-goes-on e lt c =
+          record {
+            ready = k .ready;
+            lower = let l = a .lower in let w = going-later e in omega arith;
+            within = omega arith;
+            words-there = c;
+            left =
+                λ p.
+                a .left p ∙ follows .step p
+                ∙ then-passed (r .taken .answer) (withPart clause-line p (clausesFrom clauses₁ (r .taken .begun)))
+                (linesAfter z text (r .next .at)) e
+                ∙ ap (walk (lineStep z) (withPart clause-line p (clausesFrom clauses₁ (r .taken .begun))))
+                (behind-some text (r .next .at) lt);
+          }
+
+-- ---- a comment, or lines of words
+
+module _ {z : Sizes} {text : List ℕ} {start : ℕ} {s : State} {clauses : ClauseSlices} {images : List ℕ}
+    (st : Standing z s clauses images) where
+  -- a comment leaves the clauses as they are
+  pub part-comment : {stop : ℕ} {r : Advanced} {images₁ : List ℕ} → Stretch (belongs LineBytes) text start stop
+      → CommentRead z start (take (stop - start) (drop start text)) s images r images₁
+      → Advancing z text start s clauses images (record { advanced = r; stop = stop }) clauses images₁
+  part-comment {stop} {r} {images₁} line k =
+      record {
+        within = where-passed (r .answer) (line .ordered, line .within);
+        step =
+            line-first z text line (progressFrom (z .variables) clauses images s)
+            ∙ ap (λ m. andThen m (linesAfter z text stop))
+            (sym (ap (λ b. stepTo (r .answer) (progressWith (z .variables) (clausesFrom clauses b) images₁ (r .state)))
+            (k .same-clauses)
+            ∙ k .step (clausesFrom clauses (s .begun))));
+        stands =
+            where-both (r .answer)
+            (λ h. record {
+              ready = subst (λ b. Ready z (b .closed) clauses) (sym (k .same-clauses)) (st .ready);
+              kept = h;
+            })
+            (k .kept);
+      }
+
+  -- lines of words replace the clauses
+  pub part-words : {r : Stepped} {clauses₁ : ClauseSlices} → Following z text start clauses (s .begun) r clauses₁
+      → Advancing z text start s clauses images
+      (record { advanced = record { answer = r .taken .answer; state = withBegun s (r .taken .begun) }; stop = r .next .at })
+      clauses₁ images
+  part-words {r} k =
+      record {
+        within = k .within;
+        step = k .step (progressFrom (z .variables) clauses images s);
+        stands =
+            where-passed (r .taken .answer)
+            (record {
+              ready = k .ready;
+              kept = record { variables = st .kept .variables; images-kept = st .kept .images-kept };
+            });
+      }
 
 -- ---- the lines one after the other
 
@@ -154,46 +280,37 @@ module _ {z : Sizes} {text : List ℕ} {end : ℕ} where
           stands = a .standing;
         }
 
-    -- the line lies within the text
-    pub passing-inside : {stop : ℕ} → Stretch (belongs LineBytes) text (last + 1) stop
-        → Inside (last + 1) (take (stop - (last + 1)) (drop (last + 1) text))
-    passing-inside {stop = stop} line =
-        let o = line .ordered in
-        let w = line .within in
-        let b = a .size in
-        omega (arith, run-length (belongs LineBytes) text (last + 1) stop line)
-
-    module _ {stop : ℕ} {r : Advanced} {clauses₁ : ClauseSlices} {images₁ : List ℕ} (inside : last < length text)
-        (line : Stretch (belongs LineBytes) text (last + 1) stop)
-        (k : Advancing z (last + 1) (take (stop - (last + 1)) (drop (last + 1) text)) s clauses images r clauses₁
-        images₁)
+    module _ {r : Lined} {clauses₁ : ClauseSlices} {images₁ : List ℕ} (inside : last < length text)
+        (k : Advancing z text (last + 1) s clauses images r clauses₁ images₁)
       where
-        -- the line's step comes first
+        -- the steps of these lines come first
         stepped : linesSay z (linesBehind text end)
-            ≡ andThen (stepTo (r .answer) (progressFrom (z .variables) clauses₁ images₁ (r .state)))
-            (λ t. walk (lineStep z) t (linesBehind text stop))
-        unfolding walk
+            ≡ andThen (stepTo (r .advanced .answer) (progressFrom (z .variables) clauses₁ images₁ (r .advanced .state)))
+            (linesAfter z text (r .stop))
         stepped =
             a .left ∙ ap (walk (lineStep z) (progressFrom (z .variables) clauses images s))
-            (behind-some text last inside ∙ lines-from text (last + 1) stop line)
-            ∙ ap (λ m. andThen m (λ t. walk (lineStep z) t (linesBehind text stop))) (sym (k .step))
+            (behind-some text last inside) ∙ k .step
 
-        pub passing-stops : {code place : ℕ} → r .answer ≡ Refused code place → LinesRead z text end r clauses₁ images₁
+        pub passing-stops : {code place : ℕ} → r .advanced .answer ≡ Refused code place
+            → LinesRead z text end (r .advanced) clauses₁ images₁
         passing-stops {code = code} {place} e =
             record {
-              step = sym (stepped ∙ then-refused (r .answer) code place
-                  (progressFrom (z .variables) clauses₁ images₁ (r .state))
-                  (progressFrom (z .variables) clauses₁ images₁ (r .state))
-                  (λ t. walk (lineStep z) t (linesBehind text stop)) e);
+              step = sym (stepped ∙ then-refused (r .advanced .answer) code place
+                  (progressFrom (z .variables) clauses₁ images₁ (r .advanced .state))
+                  (progressFrom (z .variables) clauses₁ images₁ (r .advanced .state))
+                  (linesAfter z text (r .stop)) e);
               stands = k .stands;
             }
 
-        pub passing-goes-on : r .answer ≡ Passed → Passing z text end clauses₁ images₁ (r .state) stop
+        pub passing-later : r .advanced .answer ≡ Passed → (last < r .stop) × (r .stop ≤ length text)
+        passing-later e = let w = where-told ((last + 1 ≤ r .stop) × (r .stop ≤ length text)) e (k .within) in (let l = w .0 in omega arith, w .1)
+
+        pub passing-goes-on : r .advanced .answer ≡ Passed → Passing z text end clauses₁ images₁ (r .advanced .state) (r .stop)
         passing-goes-on e =
             record {
-              standing = subst (λ x. WherePassed x (Standing z (r .state) clauses₁ images₁)) e (k .stands);
+              standing = where-told (Standing z (r .advanced .state) clauses₁ images₁) e (k .stands);
               size = a .size;
-              within = line .within;
-              left = stepped ∙ then-passed (r .answer) (progressFrom (z .variables) clauses₁ images₁ (r .state))
-                  (λ t. walk (lineStep z) t (linesBehind text stop)) e;
+              within = passing-later e .1;
+              left = stepped ∙ then-passed (r .advanced .answer)
+                  (progressFrom (z .variables) clauses₁ images₁ (r .advanced .state)) (linesAfter z text (r .stop)) e;
             }

@@ -1,18 +1,23 @@
 -- How what the lines have said lies in the code's numbers, slices and images, and what the functions on lines promise.
 -- Assumes nothing.
+use mathlib.Core.Bool.{Bool, false, _&&_}
 use mathlib.Core.List.{List}
 use mathlib.Core.Path.{_≡_}
 use Prim.Native.Nat.{ℕ, _≤_}
-use lib.ListN.{length}
+use lib.Dec.{eqb, ltb}
+use lib.ListN.{length, getD, drop}
 use Rattle.point_slices.specs.Slices.{ClauseSlices}
 use Rattle.permutation_theory.specs.Permutations.{permutationsIn}
 use Rattle.formula.specs.Limits.{maxVariables}
 use Rattle.dimacs_clauses.specs.declared.Begun.{Begun}
+use Rattle.dimacs_clauses.specs.declared.Stepped.{Stepped}
 use Rattle.dimacs_comments.specs.declared.Wanted.{Wanted}
 use Rattle.dimacs_lines.specs.declared.State.{State}
 use Rattle.dimacs_lines.specs.declared.Advanced.{Advanced}
-use Rattle.dimacs_format.specs.Text.{piece, maxText}
-use Rattle.dimacs_format.specs.Reader.{walk, Sizes, Clauses, Progress, lineStep, linesSay}
+use Rattle.dimacs_lines.specs.declared.Lined.{Lined}
+use Rattle.dimacs_format.specs.Text.{piece, lines, maxText}
+use Rattle.dimacs_format.specs.Reader.{Step, andThen, walk, Sizes, Clauses, Progress, withPart, clause-line, lineStep}
+use Rattle.dimacs_format.specs.Reader.{linesSay}
 use Rattle.dimacs_format.specs.Laws.AnswerLaws.{stepTo, WherePassed}
 use Rattle.dimacs_words.specs.Laws.Scans.{linesBehind}
 use Rattle.dimacs_clauses.specs.Laws.ClauseScans.{noneBegun, clausesFrom, Ready}
@@ -63,12 +68,45 @@ pub record CommentRead (z : Sizes) (start : ℕ) (line : List ℕ) (s : State) (
   pub same-clauses : r .state .begun ≡ s .begun
   pub kept : WherePassed (r .answer) (Kept z (r .state) images₁)
 
--- what a line leads to
-pub record Advancing (z : Sizes) (start : ℕ) (line : List ℕ) (s : State) (clauses : ClauseSlices) (images : List ℕ)
-    (r : Advanced) (clauses₁ : ClauseSlices) (images₁ : List ℕ) : Type 0 where
-  pub step : stepTo (r .answer) (progressFrom (z .variables) clauses₁ images₁ (r .state))
-      ≡ lineStep z (progressFrom (z .variables) clauses images s) (piece start line)
-  pub stands : WherePassed (r .answer) (Standing z (r .state) clauses₁ images₁)
+-- S10: a comment begins at a place of a text
+unfoldable pub opensComment : List ℕ → ℕ → Bool
+opensComment text at = ltb at (length text) && eqb (getD text at 0) 99
+
+-- the lines from one that begins at a place on
+abbrev pub linesFrom : Sizes → List ℕ → ℕ → Progress → Step Progress
+linesFrom z text start p = walk (lineStep z) p (lines start (drop start text))
+
+-- those behind one that ends at a place
+abbrev pub linesAfter : Sizes → List ℕ → ℕ → Progress → Step Progress
+linesAfter z text end p = walk (lineStep z) p (linesBehind text end)
+
+-- what lines of words lead to, whatever else was said, and the lines behind them
+pub record Following (z : Sizes) (text : List ℕ) (start : ℕ) (clauses : ClauseSlices) (b : Begun) (r : Stepped)
+    (clauses₁ : ClauseSlices) : Type 0 where
+  pub within : WherePassed (r .taken .answer) ((start ≤ r .next .at) × (r .next .at ≤ length text))
+  pub step : (p : Progress) → linesFrom z text start (withPart clause-line p (clausesFrom clauses b))
+      ≡ andThen (stepTo (r .taken .answer) (withPart clause-line p (clausesFrom clauses₁ (r .taken .begun))))
+      (linesAfter z text (r .next .at))
+  pub ready : Ready z (r .taken .begun .closed) clauses₁
+
+-- the loop over lines of words: what is left of the walk, from the line that begins at a place on, is the whole walk
+pub record Going (z : Sizes) (text : List ℕ) (start : ℕ) (clauses₀ : ClauseSlices) (b₀ : Begun) (clauses : ClauseSlices)
+    (b : Begun) (first : ℕ) : Type 0 where
+  pub ready : Ready z (b .closed) clauses
+  pub lower : start ≤ first
+  pub within : first ≤ length text
+  pub words-there : opensComment text first ≡ false
+  pub left : (p : Progress) → linesFrom z text start (withPart clause-line p (clausesFrom clauses₀ b₀))
+      ≡ linesFrom z text first (withPart clause-line p (clausesFrom clauses b))
+
+-- what a comment or lines of words lead to, and the lines behind them
+pub record Advancing (z : Sizes) (text : List ℕ) (start : ℕ) (s : State) (clauses : ClauseSlices) (images : List ℕ)
+    (r : Lined) (clauses₁ : ClauseSlices) (images₁ : List ℕ) : Type 0 where
+  pub within : WherePassed (r .advanced .answer) ((start ≤ r .stop) × (r .stop ≤ length text))
+  pub step : linesFrom z text start (progressFrom (z .variables) clauses images s)
+      ≡ andThen (stepTo (r .advanced .answer) (progressFrom (z .variables) clauses₁ images₁ (r .advanced .state)))
+      (linesAfter z text (r .stop))
+  pub stands : WherePassed (r .advanced .answer) (Standing z (r .advanced .state) clauses₁ images₁)
 
 -- ---- the lines one after the other
 
@@ -86,4 +124,4 @@ pub record Passing (z : Sizes) (text : List ℕ) (end : ℕ) (clauses : ClauseSl
   pub size : length text ≤ maxText
   pub within : last ≤ length text
   pub left : linesSay z (linesBehind text end)
-      ≡ walk (lineStep z) (progressFrom (z .variables) clauses images s) (linesBehind text last)
+      ≡ linesAfter z text last (progressFrom (z .variables) clauses images s)
