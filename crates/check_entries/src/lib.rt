@@ -73,8 +73,8 @@ fn copied_refusal(
     count: usize,
 ) -> Checked
     requires { ⌜ Decodable (g .variables) (g .permutations) (now images) (lentClauses (now positive) (now negative))
-        (now points) (now falsified) count (g .heads)
-        × Lent (g .heads) (pointsOf (now held)) (now named) (now links) ⌝ }
+        (now points) (now falsified) count maxSlots
+        × Lent (g .heads) count (pointsOf (now held)) (now named) (now links) ⌝ }
     ensures { λ r. ⌜ faultOf r ≡ entriesFault (g .variables) (g .permutations) (now (images .entry))
         (lentClauses (now (positive .entry)) (now (negative .entry))) (now (points .entry))
         (now (falsified .entry)) count ⌝ }
@@ -162,7 +162,11 @@ fn many_refusal(
     )
 }
 
-// The same of as many entries as there can be: 1.5 MiB of the stack.
+// The heads of the index of as many entries as there can be: with twice as many, most look-ups that find nothing end
+// at once.
+const MOST_HEADS: usize = 2 * MOST_POINTS;
+
+// The same of as many entries as there can be: 1.75 MiB of the stack.
 fn most_refusal(
     n: u32,
     permutations: u32,
@@ -182,11 +186,11 @@ fn most_refusal(
     let g = Lookup {
         variables: n,
         permutations,
-        heads: MOST_POINTS,
+        heads: MOST_HEADS,
     };
     let mut held = [0u64; MOST_POINTS];
     let mut named = [0u32; MOST_POINTS];
-    let mut links = [0u32; 3 * MOST_POINTS];
+    let mut links = [0u32; MOST_HEADS + 2 * MOST_POINTS];
     copied_refusal(
         g,
         images,

@@ -53,7 +53,7 @@ fn explore_with(
     requires { ⌜ Searchable g (now images) (lentClauses (now positive) (now negative))
         × Lends (g .room) (slotSlices (now points) (now falsified) (now depths))
         × Midway (framed g (now images) (lentClauses (now positive) (now negative))) (g .room)
-        (slotSlices (now points) (now falsified) (now depths)) from × Links heads (now links) ⌝ }
+        (slotSlices (now points) (now falsified) (now depths)) from × Links heads heads (now links) ⌝ }
     ensures { λ r. ⌜ Explores (headedBy heads g) (now (images .entry))
         (lentClauses (now (positive .entry)) (now (negative .entry)))
         (slotSlices (now (points .entry)) (now (falsified .entry)) (now (depths .entry))) from (r .stage) (r .point)

@@ -10,7 +10,7 @@ slice-aggregate-points-refusal : tie.Need-slice-aggregate-points-refusal
 slice-aggregate-points-refusal c = refl
 
 points-refusal-requires : tie.Need-points-refusal-requires
-points-refusal-requires c κs = links-indexable (zeros-links fewPoints (3 * fewPoints) refl) (c .before .before .pre)
+points-refusal-requires c κs = links-indexable (zeros-links fewPoints fewPoints (3 * fewPoints) refl) (c .before .before .pre)
 
 returns : tie.Need-returns
 returns c = c .before .points-refusal .ensures .tells

@@ -11,7 +11,7 @@ slice-aggregate-points-refusal : tie.Need-slice-aggregate-points-refusal
 slice-aggregate-points-refusal c = sym (length-replicate {A = ℕ} (3 * maxSlots) 0)
 
 points-refusal-requires : tie.Need-points-refusal-requires
-points-refusal-requires c κs = links-indexable (zeros-links maxSlots (3 * maxSlots) refl) (c .before .before .pre)
+points-refusal-requires c κs = links-indexable (zeros-links maxSlots maxSlots (3 * maxSlots) refl) (c .before .before .pre)
 
 returns : tie.Need-returns
 returns c = c .before .points-refusal .ensures .tells

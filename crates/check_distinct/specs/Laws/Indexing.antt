@@ -66,13 +66,13 @@ pub record Counted (room n count : ℕ) (points : List ℕ) : Type 0 where
   pub enough : count ≤ length points
   pub most : count ≤ room
 
--- links that are all 0, for so many points: as many heads, and two for each
-pub record Links (size : ℕ) (links : List ℕ) : Type 0 where
-  pub headed : 1 ≤ size
-  pub most : size ≤ maxSlots
-  pub room : size + 2 * size ≤ length links
+-- links that are all 0, for at most so many points: so many heads, and two for each point
+pub record Links (heads most : ℕ) (links : List ℕ) : Type 0 where
+  pub headed : HasHeads heads
+  pub most-slots : most ≤ maxSlots
+  pub room : heads + 2 * most ≤ length links
   pub zeros : AllZero links
 
--- whether k links are what so many points need
-abbrev pub suits : ℕ → ℕ → Bool
-suits size k = leb 1 size && leb size maxSlots && eqb (size + 2 * size) k
+-- whether k links are what so many heads and points need
+abbrev pub suits : ℕ → ℕ → ℕ → Bool
+suits heads most k = leb 1 heads && leb heads 4294967296 && leb most maxSlots && eqb (heads + 2 * most) k

@@ -140,27 +140,28 @@ module _ {heads n count limit : ℕ} {points : List ℕ} (links : List ℕ) wher
 
 -- ---- links in an array of zeros
 
-pub zeros-links : (size k : ℕ) → suits size k ≡ true → Links size (replicate k 0)
-zeros-links size k h =
-    let outer = and-split (leb 1 size && leb size maxSlots) (eqb (size + 2 * size) k) h in
-    let inner = and-split (leb 1 size) (leb size maxSlots) (outer .0) in
+pub zeros-links : (heads most k : ℕ) → suits heads most k ≡ true → Links heads most (replicate k 0)
+zeros-links heads most k h =
+    let outer = and-split (leb 1 heads && leb heads 4294967296 && leb most maxSlots) (eqb (heads + 2 * most) k) h in
+    let middle = and-split (leb 1 heads && leb heads 4294967296) (leb most maxSlots) (outer .0) in
+    let inner = and-split (leb 1 heads) (leb heads 4294967296) (middle .0) in
     record {
-      headed = leb-true 1 size (inner .0);
-      most = leb-true size maxSlots (inner .1);
-      room = le-of-eq (eqb-true (size + 2 * size) k (outer .1) ∙ sym (length-replicate {A = ℕ} k 0));
+      headed = (leb-true 1 heads (inner .0), leb-true heads 4294967296 (inner .1));
+      most-slots = leb-true most maxSlots (middle .1);
+      room = le-of-eq (eqb-true (heads + 2 * most) k (outer .1) ∙ sym (length-replicate {A = ℕ} k 0));
       zeros = zeros-replicate k;
     }
 
 -- points for which there is room can be indexed
-pub links-indexable : {size n count : ℕ} {points links : List ℕ} → Links size links → Counted size n count points
-    → Indexable size n count points links
+pub links-indexable : {heads most n count : ℕ} {points links : List ℕ} → Links heads most links
+    → Counted most n count points → Indexable heads n count points links
 links-indexable l c =
     let room = l .room in
     let under = c .most in
-    let most = l .most in
+    let few = l .most-slots in
     record {
       few = c .few;
-      headed = (l .headed, omega arith);
+      headed = l .headed;
       enough = c .enough;
       small = omega arith;
       room = omega arith;

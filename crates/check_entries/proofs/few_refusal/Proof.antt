@@ -2,7 +2,9 @@
 use mathlib.Core.Path.{refl}
 use Prim.Native.Nat.{_*_}
 use Rattle.check_distinct.specs.Laws.Indexing.{fewPoints}
-use Rattle.check_entries.specs.Laws.EntryLaws.{zeros-lent}
+use borrow.Author.Tests.{leb-true}
+use Rattle.formula.specs.Limits.{maxSlots}
+use Rattle.check_entries.specs.Laws.EntryLaws.{zeros-lent, decodable-within}
 use Rattle.check_entries.proofs.few_refusal.Statement.{statement}
 use Rattle.check_entries.proofs.few_refusal.Tie as tie
 
@@ -16,7 +18,7 @@ slice-aggregate-copied-refusal-3 : tie.Need-slice-aggregate-copied-refusal-3
 slice-aggregate-copied-refusal-3 c = refl
 
 copied-refusal-requires : tie.Need-copied-refusal-requires
-copied-refusal-requires c κs = (c .before .before .before .before .before .before .before .before .pre, zeros-lent fewPoints (3 * fewPoints) refl)
+copied-refusal-requires c κs = let pre = c .before .before .before .before .before .before .before .before .pre in (decodable-within pre (leb-true fewPoints maxSlots refl), zeros-lent fewPoints fewPoints (3 * fewPoints) _ refl (pre .most))
 
 returns : tie.Need-returns
 returns c = c .before .before .before .copied-refusal .ensures

@@ -3,7 +3,9 @@ use mathlib.Core.Path.{refl, sym}
 use Prim.Native.Nat.{ℕ, _*_}
 use lib.ListN.{length-replicate}
 use Rattle.check_distinct.specs.Laws.Indexing.{manyPoints}
-use Rattle.check_entries.specs.Laws.EntryLaws.{zeros-lent}
+use borrow.Author.Tests.{leb-true}
+use Rattle.formula.specs.Limits.{maxSlots}
+use Rattle.check_entries.specs.Laws.EntryLaws.{zeros-lent, decodable-within}
 use Rattle.check_entries.proofs.many_refusal.Statement.{statement}
 use Rattle.check_entries.proofs.many_refusal.Tie as tie
 
@@ -17,7 +19,7 @@ slice-aggregate-copied-refusal-3 : tie.Need-slice-aggregate-copied-refusal-3
 slice-aggregate-copied-refusal-3 c = sym (length-replicate {A = ℕ} (3 * manyPoints) 0)
 
 copied-refusal-requires : tie.Need-copied-refusal-requires
-copied-refusal-requires c κs = (c .before .before .before .before .before .before .before .before .pre, zeros-lent manyPoints (3 * manyPoints) refl)
+copied-refusal-requires c κs = let pre = c .before .before .before .before .before .before .before .before .pre in (decodable-within pre (leb-true manyPoints maxSlots refl), zeros-lent manyPoints manyPoints (3 * manyPoints) _ refl (pre .most))
 
 returns : tie.Need-returns
 returns c = c .before .before .before .copied-refusal .ensures

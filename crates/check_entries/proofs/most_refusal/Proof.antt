@@ -1,6 +1,6 @@
 -- `check_entries::most_refusal` meets its contract: arrays of zeros are what the test is to be lent. Assumes nothing.
 use mathlib.Core.Path.{refl, sym}
-use Prim.Native.Nat.{ℕ, _*_}
+use Prim.Native.Nat.{ℕ, _+_, _*_}
 use lib.ListN.{length-replicate}
 use Rattle.formula.specs.Limits.{maxSlots}
 use Rattle.check_entries.specs.Laws.EntryLaws.{zeros-lent}
@@ -14,10 +14,10 @@ slice-aggregate-copied-refusal-2 : tie.Need-slice-aggregate-copied-refusal-2
 slice-aggregate-copied-refusal-2 c = sym (length-replicate {A = ℕ} maxSlots 0)
 
 slice-aggregate-copied-refusal-3 : tie.Need-slice-aggregate-copied-refusal-3
-slice-aggregate-copied-refusal-3 c = sym (length-replicate {A = ℕ} (3 * maxSlots) 0)
+slice-aggregate-copied-refusal-3 c = sym (length-replicate {A = ℕ} (2 * maxSlots + 2 * maxSlots) 0)
 
 copied-refusal-requires : tie.Need-copied-refusal-requires
-copied-refusal-requires c κs = (c .before .before .before .before .before .before .before .before .pre, zeros-lent maxSlots (3 * maxSlots) refl)
+copied-refusal-requires c κs = let pre = c .before .before .before .before .before .before .before .before .pre in (pre, zeros-lent (2 * maxSlots) maxSlots (2 * maxSlots + 2 * maxSlots) _ refl (pre .most))
 
 returns : tie.Need-returns
 returns c = c .before .before .before .copied-refusal .ensures

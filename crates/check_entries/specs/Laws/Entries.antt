@@ -38,8 +38,8 @@ pub record Decodable (n permutations : ℕ) (images : List ℕ) (clauses : List 
   pub points-long : count * pointWidth ≤ length points
   pub numbers-long : count * numberWidth ≤ length falsified
 
--- slices for so many points, their numbers and their links
-pub record Lent (limit : ℕ) (held named links : List ℕ) : Type 0 where
-  pub held-long : limit ≤ length held
-  pub named-long : limit ≤ length named
-  pub linked : Links limit links
+-- slices for so many points, their numbers, and links of so many heads
+pub record Lent (heads count : ℕ) (held named links : List ℕ) : Type 0 where
+  pub held-long : count ≤ length held
+  pub named-long : count ≤ length named
+  pub linked : Links heads count links

@@ -4,7 +4,7 @@ use mathlib.Core.Bool.{true}
 use mathlib.Core.List.{List}
 use mathlib.Core.Path.{_≡_, sym, ap, _∙_}
 use Prim.Native.Nat.{ℕ, _≤_, _<_}
-use native.Mathlib.Nat.{le-of-eq, le-trans}
+use native.Mathlib.Nat.{le-of-eq, le-trans, le-refl}
 use native.Mathlib.Omega.{arith}
 use lib.ListN.{length, take, replicate, length-replicate}
 use lib.Seq.{length-take-le}
@@ -78,16 +78,15 @@ copied w count body old new e = ap (take count) e
 
 -- the first entries, copied to a slice as long as the one lent, can be indexed
 pub lent-ready : {g : Lookup} {images : List ℕ} {clauses : List Clause} {points falsified held named links : List ℕ}
-    {count : ℕ} → Decodable (g .variables) (g .permutations) images clauses points falsified count (g .heads)
-    → Lent (g .heads) held named links → (filled : List ℕ) → length filled ≡ length held
+    {count limit : ℕ} → Decodable (g .variables) (g .permutations) images clauses points falsified count limit
+    → Lent (g .heads) count held named links → (filled : List ℕ) → length filled ≡ length held
     → Ready g images clauses filled links count
 lent-ready d l filled same =
-    let under = d .most in
     let long = l .held-long in
     record {
       given = d .given;
       indexable = links-indexable (l .linked)
-          (record { few = d .given .few; enough = omega arith; most = under });
+          (record { few = d .given .few; enough = omega arith; most = le-refl _ });
     }
 
 -- where row 16 finds nothing it has left an index of the points
@@ -100,15 +99,34 @@ ready-testable r w e =
 
 -- ---- arrays of zeros
 
-pub zeros-lent : (limit k : ℕ) → suits limit k ≡ true
-    → Lent limit (pointsOf (replicate limit 0)) (replicate limit 0) (replicate k 0)
-zeros-lent limit k h =
-    let long : limit ≤ length (replicate {A = ℕ} limit 0) = le-of-eq (sym (length-replicate {A = ℕ} limit 0)) in
+pub zeros-lent : (heads limit k count : ℕ) → suits heads limit k ≡ true → count ≤ limit
+    → Lent heads count (pointsOf (replicate limit 0)) (replicate limit 0) (replicate k 0)
+zeros-lent heads limit k count h few =
+    let long : count ≤ length (replicate {A = ℕ} limit 0) =
+    le-trans few (le-of-eq (sym (length-replicate {A = ℕ} limit 0))) in
+    let all = zeros-links heads limit k h in
+    let room = all .room in
     record {
-      held-long = le-trans long (le-of-eq (sym (ap length
-          (points-blank limit))));
+      held-long = le-trans long (le-of-eq (sym (ap length (points-blank limit))));
       named-long = long;
-      linked = zeros-links limit k h;
+      linked = record {
+        headed = all .headed;
+        most-slots = le-trans few (all .most-slots);
+        room = omega arith;
+        zeros = all .zeros;
+      };
+    }
+
+-- the numbers of entries that there may be is of no account once there are no more
+pub decodable-within : {n permutations : ℕ} {images : List ℕ} {clauses : List Clause} {points falsified : List ℕ}
+    {count limit : ℕ} → Decodable n permutations images clauses points falsified count limit → limit ≤ maxSlots
+    → Decodable n permutations images clauses points falsified count maxSlots
+decodable-within d few =
+    record {
+      given = d .given;
+      most = le-trans (d .most) few;
+      points-long = d .points-long;
+      numbers-long = d .numbers-long;
     }
 
 -- each number takes a byte at least

@@ -91,7 +91,7 @@ pub +resume-spec : {M : Type 1} → statement M
     (given-at t)
     resume.Post
     (λ c. search needs)
-    (λ c κs. let pre = c .before .before .before .before .before .before .before .before .before .before .pre .1 in (pre .0, pre .1, pre .2, zeros-links manyHeads (3 * manyHeads) refl))
+    (λ c κs. let pre = c .before .before .before .before .before .before .before .before .before .before .pre .1 in (pre .0, pre .1, pre .2, zeros-links manyHeads manyHeads (3 * manyHeads) refl))
     (λ c. search needs)
     (λ c. search needs)
     (λ c κs. absurd (never t c))

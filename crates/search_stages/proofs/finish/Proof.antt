@@ -11,7 +11,7 @@ use Rattle.search_stages.proofs.finish.Statement.{statement}
 use Rattle.search_stages.proofs.finish.Tie as tie
 
 explore-with-requires : tie.Need-explore-with-requires
-explore-with-requires c κs = let pre = c .before .before .before .before .before .before .before .before .before .before .pre in (pre .0, pre .1, pre .2, zeros-links maxSlots (3 * maxSlots) refl)
+explore-with-requires c κs = let pre = c .before .before .before .before .before .before .before .before .before .before .pre in (pre .0, pre .1, pre .2, zeros-links maxSlots maxSlots (3 * maxSlots) refl)
 
 returns : tie.Need-returns
 returns c = stage-answered _ _ _ (c .before .before .before .before .before .before .before .before .before .before .before .before .before .before .before .before .before .before .before .before .before .pre .0) _ _ _ _ _ _ (c .before .before .before .before .before .before .before .before .before .before .explore-with .ensures) _ (c .before .stage .given .1)

@@ -29,7 +29,7 @@ explore-with-requires : tie.Need-explore-with-requires
 explore-with-requires c κs =
     let pre = c .before .before .before .before .before .before .before .before .before .before .before .before .before .before .before .before .before .before .before .before .pre in
     let first = stored (c .before .before .before .before .before .before .before .before .before .before) in
-    (pre .0, first .1, begun-midway _ _ _ (pre .0) (first .0), zeros-links fewHeads (3 * fewHeads) refl)
+    (pre .0, first .1, begun-midway _ _ _ (pre .0) (first .0), zeros-links fewHeads fewHeads (3 * fewHeads) refl)
 
 resume-requires : tie.Need-resume-requires
 resume-requires c κs =

@@ -74,7 +74,7 @@ module _ (g : Frame) (images : List ℕ) (clauses : List Clause) (ok : Searchabl
   -- ---- the index of the filled points
 
   module _ {heads : ℕ} {m : SlotSlices} {q : Position} {links : List ℕ} (at : Midway pb (g .room) m q)
-      (room : Lends (g .room) m) (blank : Links heads links) (few : q .filled ≤ heads) where
+      (room : Lends (g .room) m) (blank : Links heads heads links) (few : q .filled ≤ heads) where
     enough : q .filled ≤ length (m .points)
     enough = le-trans (midway-room at) (room .points-room)
 
