@@ -1,8 +1,8 @@
 // What a file can cost whoever checks it, and a sheet whoever searches: each ordinary case beside the worst that was
 // found, in one run, for the library and for the baseline. The index takes a tree by a hash of the point and goes down
 // by its lowest digits, so hostile points have the hash of one of a few trees and the same 30 lowest digits; a hostile
-// sheet repeats one clause, whose image is the last and is looked for where the repeated one stands. Prints a table;
-// 'times' says how many times the ordinary time the hostile one is.
+// sheet repeats one clause, or has clauses that are all guessed in a few trees. Prints a table; 'times' says how many
+// times the ordinary time the hostile one is.
 mod baseline;
 mod beside;
 mod clock;
@@ -24,18 +24,18 @@ const TOP: u64 = 1 << 63;
 const FIRST: u64 = 1 << 61;
 const SECOND: u64 = 1 << 62;
 
-// The tree of a point in an index with so many heads, as crates/point_index has it.
+// How many heads the checker's index of so many points has, and the guesses of 4,096 clauses.
+const HEADS: u64 = 131072;
+const GUESSES: u64 = 8192;
+
+// The tree of a point, or of a clause of positive literals, among so many, as crates/point_index and
+// crates/permutation_symmetry have it.
 fn head(x: u64, heads: u64) -> u64 {
-    ((x % (1 << 32)) * 1640531527 + (x >> 32) * 1779033703) / (1 << 32) % heads
+    ((x % (1 << 32)) * 1640531527 + (x >> 32) * 1779033703) % (1 << 32) * heads >> 32
 }
 
 fn tree(x: u64) -> usize {
-    head(x, 65536) as usize
-}
-
-// Where crates/permutation_symmetry looks for a clause of positive literals first.
-fn place(positive: u64) -> u64 {
-    1031 * head(positive, 1 << 32) % 8177
+    head(x, HEADS) as usize
 }
 
 // Half as many points as a file holds, at random.
@@ -45,12 +45,12 @@ fn ordinary() -> Vec<u64> {
 
 // The same number, hostile: a tree's points have their flips in the next tree.
 fn chosen() -> Vec<u64> {
-    let mut wanted = vec![TREES; 65536];
-    (0..TREES).for_each(|k| wanted[k * tree(TOP) % 65536] = k);
+    let mut wanted = vec![TREES; HEADS as usize];
+    (0..TREES).for_each(|k| wanted[k * tree(TOP) % HEADS as usize] = k);
     let mut found = vec![Vec::new(); TREES];
     for x in (0..1u64 << 31).map(|c| c << SHARED | FIRST) {
         let k = wanted[tree(x)];
-        if k < TREES && tree(x ^ TOP) == (k + 1) * tree(TOP) % 65536 && found[k].len() < POINTS / 2 / TREES {
+        if k < TREES && tree(x ^ TOP) == (k + 1) * tree(TOP) % HEADS as usize && found[k].len() < POINTS / 2 / TREES {
             found[k].push(x);
         }
     }
@@ -91,11 +91,17 @@ fn kept(clauses: &[(u64, u64)], point: u64) -> (Sheet, Vec<u8>) {
     (Sheet { target: TOP, ..sheets::sheet(64, &with, &permutations) }, file)
 }
 
-// One clause 4,095 times and the one to which the permutations send it, which is looked for where all are.
+// One clause 4,095 times and the one to which the permutations send it.
 fn repeated() -> Vec<(u64, u64)> {
-    let meets = |others: &u64| place(others | TOP | 1) == place(others | TOP | 2);
-    let others = (0..1 << 32).map(|k| k << 2).find(meets).expect("places are few");
-    [vec![(others | 1, 0); 4095], vec![(others | 2, 0)]].concat()
+    [vec![(1, 0); 4095], vec![(2, 0)]].concat()
+}
+
+// Clauses of variable 1 or 2 and others, as the permutations exchange them: at random, or such that those of variable 1
+// share a tree of guesses, and so, nearly, do those of variable 2.
+fn paired(crowded: bool) -> Vec<(u64, u64)> {
+    let fits = |others: &u64| !crowded || head(others | TOP | 1, GUESSES) == 17;
+    let others = files::random(88172645463325252).map(|x| x % TOP & !3).filter(fits).take(2048);
+    others.flat_map(|x| [(x | 1, 0), (x | 2, 0)]).collect()
 }
 
 // The clauses of a cube of 16 variables, the lowest or the highest of 64, with 16 permutations that move nothing, so
@@ -165,4 +171,11 @@ fn main() {
     );
     let refused = [REFUSED, 18, 1, 0];
     row("check, the same sheet", checked(&distinct, refused), checked(&repeated, refused));
+    let (spread, crowded) = (kept(&paired(false), 0), kept(&paired(true), 0));
+    row(
+        "search, 4,096 clauses guessed in a few trees, 16 permutations",
+        searched(&spread.0, satisfied),
+        searched(&crowded.0, satisfied),
+    );
+    row("check, the same sheet", checked(&spread, refused), checked(&crowded, refused));
 }

@@ -197,7 +197,8 @@ fn solve_many(
     match answer {
         Parse::Accepted => solve_read(f, &positive, &negative, points, falsified, depths, out),
         Parse::Refused { code, place } => {
-            if code == 4 {
+            let short = code == 4;
+            if short {
                 return solve_many(text, points, falsified, depths, out);
             }
             refused(code, place)
