@@ -23,14 +23,15 @@ ghost use Prim.Native.Nat.{_≤_};
 ghost use lib.ListN.{length};
 ghost use Rattle.point_slices.specs.Slices.{pointsOf, clauseSlices};
 ghost use Rattle.dimacs_format.specs.Text.{maxText, piece, isComment};
-ghost use Rattle.dimacs_format.specs.Reader.{andThen, atEnd, textSays};
-ghost use Rattle.dimacs_format.specs.Laws.AnswerLaws.{stepTo, WherePassed};
+ghost use Rattle.dimacs_format.specs.Reader.{textSays};
 ghost use Rattle.dimacs_words.specs.Laws.Scans.{linesBehind};
 ghost use Rattle.dimacs_clauses.specs.Laws.ClauseScans.{Ready};
 ghost use Rattle.dimacs_comments.specs.Laws.CommentScans.{wantedOf};
-ghost use Rattle.dimacs_lines.specs.Laws.LineScans.{nothingSaid, progressFrom, Kept, Standing, CommentRead};
+ghost use Rattle.dimacs_lines.specs.Laws.LineScans.{nothingSaid, Kept, Standing, CommentRead};
 ghost use Rattle.dimacs_lines.specs.Laws.LineScans.{opensComment, Following, Advancing, LinesRead};
-ghost use Rattle.dimacs_lines.specs.Laws.ParsedAs.{Copied, refusedWith, fewClauses, Limited, HasRoom, ParsedAs};
+ghost use Rattle.dimacs_lines.specs.Laws.ParsedAs.{Copied, refusedWith, toldRefused, parsedWith, noImages};
+ghost use Rattle.dimacs_lines.specs.Laws.ParsedAs.{tinyClauses, fewClauses, someClauses, Limited, HasRoom};
+ghost use Rattle.dimacs_lines.specs.Laws.ParsedAs.{Collectable, ParsedAs, Accepting};
 
 // What the lines have said so far, beside the slices of the clauses and the images: a part for each kind of line.
 pub struct State {
@@ -287,6 +288,24 @@ fn wanted_or_0(wanted: Wanted) -> Point
     }
 }
 
+// What the lines lead to, beside the images: the answer and, where the text is accepted, the rest of its formula.
+pub struct Told {
+    pub answer: Parse,
+    pub target: Point,
+    pub permutations: u32,
+}
+
+// A refusal, with nothing beside it.
+fn told_refused(code: u32, place: usize) -> Told
+    ensures { λ r. ⌜ r ≡ toldRefused code place ⌝ }
+{
+    Told {
+        answer: Parse::Refused { code, place },
+        target: points::EMPTY,
+        permutations: 0,
+    }
+}
+
 // S15: "Exactly C rules are closed." Then, and not before, the clauses go to the lent slices. Refusals 3 and 4 see to
 // the room.
 fn accept(
@@ -295,67 +314,33 @@ fn accept(
     state: State,
     p: &[u64],
     q: &[u64],
-    images: [u8; Formula::MAX_IMAGES],
     positive: &mut [u64],
     negative: &mut [u64],
-) -> Parsed
-    requires { ⌜ Standing sizes state (clauseSlices (now p) (now q)) images
+) -> Told
+    requires { ⌜ Ready sizes (state .begun .closed) (clauseSlices (now p) (now q))
         × HasRoom sizes (clauseSlices (now positive) (now negative)) ⌝ }
-    ensures { λ r. ⌜ ParsedAs (atEnd size sizes (progressFrom (sizes .variables)
-        (clauseSlices (now (p .entry)) (now (q .entry))) images state))
+    ensures { λ r. ⌜ Accepting size sizes state (clauseSlices (now (p .entry)) (now (q .entry)))
         (clauseSlices (now (positive .entry)) (now (negative .entry))) r
         (clauseSlices (now (positive .exit)) (now (negative .exit))) ⌝ }
 {
     let begun = state.begun;
     if begun.closed < sizes.total {
-        return refused(7, size);
+        return told_refused(7, size);
     }
     let wanted = state.wanted;
     let target = wanted_or_0(wanted);
     let count = sizes.total as usize;
     copy(p, positive, count);
     copy(q, negative, count);
-    let formula = Formula {
-        variables: sizes.variables,
-        clauses: sizes.total,
+    Told {
+        answer: Parse::Accepted,
         target,
         permutations: state.permutations,
-        images: images,
-    };
-    Parsed {
-        formula,
-        answer: Parse::Accepted,
     }
 }
 
-// What the lines lead to. The lines' own function sees to what it requires.
-fn finish(
-    size: usize,
-    sizes: Sizes,
-    done: Advanced,
-    p: &[u64],
-    q: &[u64],
-    images: [u8; Formula::MAX_IMAGES],
-    positive: &mut [u64],
-    negative: &mut [u64],
-) -> Parsed
-    requires { ⌜ WherePassed (done .answer) (Standing sizes (done .state) (clauseSlices (now p) (now q)) images)
-        × HasRoom sizes (clauseSlices (now positive) (now negative)) ⌝ }
-    ensures { λ r. ⌜ ParsedAs (andThen (stepTo (done .answer) (progressFrom (sizes .variables)
-        (clauseSlices (now (p .entry)) (now (q .entry))) images (done .state))) (atEnd size sizes))
-        (clauseSlices (now (positive .entry)) (now (negative .entry))) r
-        (clauseSlices (now (positive .exit)) (now (negative .exit))) ⌝ }
-{
-    let answer = done.answer;
-    let state = done.state;
-    match answer {
-        Checked::Passed => accept(size, sizes, state, p, q, images, positive, negative),
-        Checked::Refused { code, place } => refused(code, place),
-    }
-}
-
-// N1: the clauses are collected in `p` and `q`, so that a later refusal finds the lent slices unchanged. `few_clauses`
-// and `many_clauses` see to what it requires. The images take 1 KiB of the stack.
+// N1: the clauses are collected in `p` and `q`, so that a later refusal finds the lent slices unchanged. The functions
+// that make these arrays see to what it requires.
 fn collect(
     text: &[u8],
     end: usize,
@@ -364,22 +349,49 @@ fn collect(
     q: &mut [u64],
     positive: &mut [u64],
     negative: &mut [u64],
-) -> Parsed
-    requires { ⌜ Limited sizes × HasRoom sizes (clauseSlices (now p) (now q))
-        × HasRoom sizes (clauseSlices (now positive) (now negative)) × (length (now text) ≤ maxText)
-        × (end ≤ length (now text)) ⌝ }
+    images: &mut [u8],
+) -> Told
+    requires { ⌜ Collectable sizes (clauseSlices (now positive) (now negative)) (now text) end (now images)
+        × HasRoom sizes (clauseSlices (now p) (now q)) ⌝ }
     ensures { λ r. ⌜ ParsedAs (textSays (length (now (text .entry))) sizes (linesBehind (now (text .entry)) end))
-        (clauseSlices (now (positive .entry)) (now (negative .entry))) r
+        (clauseSlices (now (positive .entry)) (now (negative .entry))) (parsedWith sizes r (now (images .exit)))
         (clauseSlices (now (positive .exit)) (now (negative .exit))) ⌝ }
 {
     let size = text.len();
-    let mut images = [0u8; Formula::MAX_IMAGES];
-    let done = read_lines(text, end, sizes, p, q, &mut images);
-    finish(size, sizes, done, p, q, images, positive, negative)
+    let done = read_lines(text, end, sizes, p, q, images);
+    let answer = done.answer;
+    let state = done.state;
+    match answer {
+        Checked::Passed => accept(size, sizes, state, p, q, positive, negative),
+        Checked::Refused { code, place } => told_refused(code, place),
+    }
 }
 
-// The most clauses for which small arrays are made.
+// How many clauses the smaller arrays have room for, since each array is made 0 first.
+const TINY_CLAUSES: usize = 32;
+
 pub const FEW_CLAUSES: usize = 256;
+
+const SOME_CLAUSES: usize = 1024;
+
+// Very few clauses, collected in local arrays of 256 bytes each.
+fn tiny_clauses(
+    text: &[u8],
+    end: usize,
+    sizes: Sizes,
+    positive: &mut [u64],
+    negative: &mut [u64],
+    images: &mut [u8],
+) -> Told
+    requires { ⌜ Collectable sizes (clauseSlices (now positive) (now negative)) (now text) end (now images) × (sizes .total ≤ tinyClauses) ⌝ }
+    ensures { λ r. ⌜ ParsedAs (textSays (length (now (text .entry))) sizes (linesBehind (now (text .entry)) end))
+        (clauseSlices (now (positive .entry)) (now (negative .entry))) (parsedWith sizes r (now (images .exit)))
+        (clauseSlices (now (positive .exit)) (now (negative .exit))) ⌝ }
+{
+    let mut p = [0u64; TINY_CLAUSES];
+    let mut q = [0u64; TINY_CLAUSES];
+    collect(text, end, sizes, &mut p, &mut q, positive, negative, images)
+}
 
 // Few clauses, collected in local arrays of 2 KiB each.
 fn few_clauses(
@@ -388,17 +400,35 @@ fn few_clauses(
     sizes: Sizes,
     positive: &mut [u64],
     negative: &mut [u64],
-) -> Parsed
-    requires { ⌜ Limited sizes × (sizes .total ≤ fewClauses)
-        × HasRoom sizes (clauseSlices (now positive) (now negative)) × (length (now text) ≤ maxText)
-        × (end ≤ length (now text)) ⌝ }
+    images: &mut [u8],
+) -> Told
+    requires { ⌜ Collectable sizes (clauseSlices (now positive) (now negative)) (now text) end (now images) × (sizes .total ≤ fewClauses) ⌝ }
     ensures { λ r. ⌜ ParsedAs (textSays (length (now (text .entry))) sizes (linesBehind (now (text .entry)) end))
-        (clauseSlices (now (positive .entry)) (now (negative .entry))) r
+        (clauseSlices (now (positive .entry)) (now (negative .entry))) (parsedWith sizes r (now (images .exit)))
         (clauseSlices (now (positive .exit)) (now (negative .exit))) ⌝ }
 {
     let mut p = [0u64; FEW_CLAUSES];
     let mut q = [0u64; FEW_CLAUSES];
-    collect(text, end, sizes, &mut p, &mut q, positive, negative)
+    collect(text, end, sizes, &mut p, &mut q, positive, negative, images)
+}
+
+// Some more clauses, collected in local arrays of 8 KiB each.
+fn some_clauses(
+    text: &[u8],
+    end: usize,
+    sizes: Sizes,
+    positive: &mut [u64],
+    negative: &mut [u64],
+    images: &mut [u8],
+) -> Told
+    requires { ⌜ Collectable sizes (clauseSlices (now positive) (now negative)) (now text) end (now images) × (sizes .total ≤ someClauses) ⌝ }
+    ensures { λ r. ⌜ ParsedAs (textSays (length (now (text .entry))) sizes (linesBehind (now (text .entry)) end))
+        (clauseSlices (now (positive .entry)) (now (negative .entry))) (parsedWith sizes r (now (images .exit)))
+        (clauseSlices (now (positive .exit)) (now (negative .exit))) ⌝ }
+{
+    let mut p = [0u64; SOME_CLAUSES];
+    let mut q = [0u64; SOME_CLAUSES];
+    collect(text, end, sizes, &mut p, &mut q, positive, negative, images)
 }
 
 // As many clauses as there can be, collected in local arrays of 32 KiB each.
@@ -408,20 +438,93 @@ fn many_clauses(
     sizes: Sizes,
     positive: &mut [u64],
     negative: &mut [u64],
-) -> Parsed
-    requires { ⌜ Limited sizes × HasRoom sizes (clauseSlices (now positive) (now negative))
-        × (length (now text) ≤ maxText) × (end ≤ length (now text)) ⌝ }
+    images: &mut [u8],
+) -> Told
+    requires { ⌜ Collectable sizes (clauseSlices (now positive) (now negative)) (now text) end (now images) ⌝ }
     ensures { λ r. ⌜ ParsedAs (textSays (length (now (text .entry))) sizes (linesBehind (now (text .entry)) end))
-        (clauseSlices (now (positive .entry)) (now (negative .entry))) r
+        (clauseSlices (now (positive .entry)) (now (negative .entry))) (parsedWith sizes r (now (images .exit)))
         (clauseSlices (now (positive .exit)) (now (negative .exit))) ⌝ }
 {
     let mut p = [0u64; Formula::MAX_CLAUSES as usize];
     let mut q = [0u64; Formula::MAX_CLAUSES as usize];
-    collect(text, end, sizes, &mut p, &mut q, positive, negative)
+    collect(text, end, sizes, &mut p, &mut q, positive, negative, images)
 }
 
-// The lines, with arrays to collect the clauses in whose size follows C, since each array is made 0 first.
-// `dimacs::read_sized` sees to what it requires, by refusals 1, 3 and 4.
+// More than few clauses. It never calls itself, since the lent slices have room for C clauses: the call is there so that
+// a compiler keeps this function and the large arrays below it out of the callers', and a small text takes little of the
+// stack.
+fn large_clauses(
+    text: &[u8],
+    end: usize,
+    sizes: Sizes,
+    positive: &mut [u64],
+    negative: &mut [u64],
+    images: &mut [u8],
+) -> Told
+    requires { ⌜ Collectable sizes (clauseSlices (now positive) (now negative)) (now text) end (now images) ⌝ }
+    ensures { λ r. ⌜ ParsedAs (textSays (length (now (text .entry))) sizes (linesBehind (now (text .entry)) end))
+        (clauseSlices (now (positive .entry)) (now (negative .entry))) (parsedWith sizes r (now (images .exit)))
+        (clauseSlices (now (positive .exit)) (now (negative .exit))) ⌝ }
+{
+    let total = sizes.total as usize;
+    if total <= SOME_CLAUSES {
+        return some_clauses(text, end, sizes, positive, negative, images);
+    }
+    if positive.len() < total {
+        return large_clauses(text, end, sizes, positive, negative, images);
+    }
+    many_clauses(text, end, sizes, positive, negative, images)
+}
+
+// The lines, with arrays to collect the clauses in whose size follows C.
+fn by_count(
+    text: &[u8],
+    end: usize,
+    sizes: Sizes,
+    positive: &mut [u64],
+    negative: &mut [u64],
+    images: &mut [u8],
+) -> Told
+    requires { ⌜ Collectable sizes (clauseSlices (now positive) (now negative)) (now text) end (now images) ⌝ }
+    ensures { λ r. ⌜ ParsedAs (textSays (length (now (text .entry))) sizes (linesBehind (now (text .entry)) end))
+        (clauseSlices (now (positive .entry)) (now (negative .entry))) (parsedWith sizes r (now (images .exit)))
+        (clauseSlices (now (positive .exit)) (now (negative .exit))) ⌝ }
+{
+    let total = sizes.total as usize;
+    if total <= TINY_CLAUSES {
+        return tiny_clauses(text, end, sizes, positive, negative, images);
+    }
+    if total <= FEW_CLAUSES {
+        return few_clauses(text, end, sizes, positive, negative, images);
+    }
+    large_clauses(text, end, sizes, positive, negative, images)
+}
+
+// The formula read, with the images that the lines left, beside the answer.
+fn with_images(sizes: Sizes, told: Told, images: [u8; Formula::MAX_IMAGES]) -> Parsed
+    ensures { λ r. ⌜ r ≡ parsedWith sizes told images ⌝ }
+{
+    let answer = told.answer;
+    match answer {
+        Parse::Refused { code, place } => refused(code, place),
+        Parse::Accepted => {
+            let formula = Formula {
+                variables: sizes.variables,
+                clauses: sizes.total,
+                target: told.target,
+                permutations: told.permutations,
+                images,
+            };
+            Parsed {
+                formula,
+                answer: Parse::Accepted,
+            }
+        }
+    }
+}
+
+// The lines, read into images that are made 0 first and take 1 KiB of the stack. `dimacs::read_sized` sees to what it
+// requires, by refusals 1, 3 and 4.
 pub fn read_clauses(
     text: &[u8],
     end: usize,
@@ -435,9 +538,7 @@ pub fn read_clauses(
         (clauseSlices (now (positive .entry)) (now (negative .entry))) r
         (clauseSlices (now (positive .exit)) (now (negative .exit))) ⌝ }
 {
-    let total = sizes.total as usize;
-    if total <= FEW_CLAUSES {
-        return few_clauses(text, end, sizes, positive, negative);
-    }
-    many_clauses(text, end, sizes, positive, negative)
+    let mut images = [0u8; Formula::MAX_IMAGES];
+    let told = by_count(text, end, sizes, positive, negative, &mut images);
+    with_images(sizes, told, images)
 }

@@ -48,12 +48,16 @@ fn is_digit(b: u8) -> bool
     (48 <= b) & (b <= 57)
 }
 
-// Whether a word of a text ends before the byte: a blank, or the end of its line. Most bytes of a text are above 32.
+// Whether a word of a text ends before the byte: a blank, or the end of its line. Most bytes of a text are above 32, and
+// most others are 32, so these are asked for first.
 pub fn ends_word(b: u8) -> bool
     ensures { λ r. ⌜ r ≡ endsWord b ⌝ }
 {
     if 32 < b {
         return false;
+    }
+    if b == 32 {
+        return true;
     }
     let blank = is_blank(b);
     blank | (b == 10)
@@ -149,14 +153,11 @@ pub fn read_number(w: &[u8]) -> Number
     Number::Value(v)
 }
 
-// What the digits between two places make with their sign, of this value: S13, "a minus before value 0 malformed".
-fn made_word(negated: bool, value: u32, from: usize, at: usize) -> Word
-    ensures { λ r. ⌜ r ≡ wordMade negated value from at ⌝ }
+// What digits up to a place make with their sign, of this value: S13, "a minus before value 0 malformed".
+fn made_word(negated: bool, value: u32, at: usize) -> Word
+    ensures { λ r. ⌜ r ≡ wordMade negated value at ⌝ }
 {
     if value == 0 {
-        if from == at {
-            return Word::Malformed;
-        }
         if negated {
             return Word::Malformed;
         }
@@ -174,8 +175,17 @@ fn read_digits(text: &[u8], negated: bool, from: usize) -> Word
     requires { ⌜ from ≤ length (now text) ⌝ }
     ensures { λ r. ⌜ DigitsRead (now (text .entry)) negated from r ⌝ }
 {
-    let mut v: u32 = 0;
-    let mut i = from;
+    if text.len() <= from {
+        return Word::Malformed;
+    }
+    let first = text[from];
+    let number = is_digit(first);
+    if !number {
+        return Word::Malformed;
+    }
+    let high = first - 48;
+    let mut v = high as u32;
+    let mut i = from + 1;
     while i < text.len() {
         let b = text[i];
         let digit = is_digit(b);
@@ -184,7 +194,7 @@ fn read_digits(text: &[u8], negated: bool, from: usize) -> Word
             if !ended {
                 return Word::Malformed;
             }
-            return made_word(negated, v, from, i);
+            return made_word(negated, v, i);
         }
         let passed = i - from;
         if 4 <= passed {
@@ -196,7 +206,7 @@ fn read_digits(text: &[u8], negated: bool, from: usize) -> Word
         v = shifted + low;
         i += 1;
     }
-    made_word(negated, v, from, i)
+    made_word(negated, v, i)
 }
 
 // F7; S13: "an optional minus, one to four digits": the word that begins at the cursor and goes up to a blank, the end

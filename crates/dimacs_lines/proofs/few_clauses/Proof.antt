@@ -6,9 +6,9 @@ use Rattle.dimacs_lines.proofs.few_clauses.Statement.{statement}
 use Rattle.dimacs_lines.proofs.few_clauses.Tie as tie
 
 collect-requires : tie.Need-collect-requires
-collect-requires c κs = (c .before .before .before .before .before .before .before .pre .0, blank-room _ fewClauses (c .before .before .before .before .before .before .before .pre .1), c .before .before .before .before .before .before .before .pre .2, c .before .before .before .before .before .before .before .pre .3, c .before .before .before .before .before .before .before .pre .4)
+collect-requires c κs = (c .before .before .before .before .before .before .before .before .before .pre .0, blank-room _ fewClauses (c .before .before .before .before .before .before .before .before .before .pre .1))
 
 pub few-clauses-spec : {M : Type 1} → statement M
 few-clauses-spec =
     tie.close
-    (tie.spec (λ c. search needs) (λ c. search needs) collect-requires (λ c. search needs) (λ c. search needs) (λ c. search needs))
+    (tie.spec (λ c. search needs) (λ c. search needs) collect-requires (λ c. search needs) (λ c. search needs) (λ c. search needs) (λ c. search needs))

@@ -1,14 +1,14 @@
 -- `dimacs_lines::many_clauses` meets its contract: its arrays have room for the clauses. Assumes nothing.
 use borrow.Author.Needs.{needs}
-use Rattle.dimacs_lines.specs.Laws.ParsedLaws.{blank-room}
 use Rattle.formula.specs.Limits.{maxClauses}
+use Rattle.dimacs_lines.specs.Laws.ParsedLaws.{blank-room}
 use Rattle.dimacs_lines.proofs.many_clauses.Statement.{statement}
 use Rattle.dimacs_lines.proofs.many_clauses.Tie as tie
 
 collect-requires : tie.Need-collect-requires
-collect-requires c κs = (c .before .before .before .before .before .before .before .pre .0, blank-room _ maxClauses (c .before .before .before .before .before .before .before .pre .0 .few), c .before .before .before .before .before .before .before .pre .1, c .before .before .before .before .before .before .before .pre .2, c .before .before .before .before .before .before .before .pre .3)
+collect-requires c κs = (c .before .before .before .before .before .before .before .before .before .pre, blank-room _ maxClauses (c .before .before .before .before .before .before .before .before .before .pre .limited .few))
 
 pub many-clauses-spec : {M : Type 1} → statement M
 many-clauses-spec =
     tie.close
-    (tie.spec (λ c. search needs) (λ c. search needs) collect-requires (λ c. search needs) (λ c. search needs) (λ c. search needs))
+    (tie.spec (λ c. search needs) (λ c. search needs) collect-requires (λ c. search needs) (λ c. search needs) (λ c. search needs) (λ c. search needs))

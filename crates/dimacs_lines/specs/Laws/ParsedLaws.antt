@@ -17,21 +17,25 @@ use Rattle.permutation_theory.specs.Permutations.{permutationsIn}
 use Rattle.formula.specs.Limits.{maxVariables, maxPermutations, maxImages}
 use Rattle.formula.specs.declared.Checked.{Checked}
 use Rattle.formula.specs.declared.Checked.the-variants.{Passed, Refused}
-use Rattle.dimacs_lines.specs.declared.Parse.the-variants.{Accepted}
+use Rattle.dimacs_lines.specs.declared.Parse.the-variants.{Accepted, Refused as ParseRefused}
 use Rattle.dimacs_lines.specs.declared.Parsed.{Parsed}
 use Rattle.dimacs_lines.specs.declared.State.{State}
+use Rattle.dimacs_lines.specs.declared.Advanced.{Advanced}
+use Rattle.dimacs_lines.specs.declared.Told.{Told}
 use Rattle.dimacs_format.specs.Input.{Input, imagesOf, padded, formulaOf, positives, negatives}
 use Rattle.dimacs_format.specs.Reader.{Step, goes, refuses, andThen, Sizes, Progress, inputOf, atEnd, replyTo}
 use Rattle.dimacs_format.specs.Reader.{formulaFrom}
-use Rattle.dimacs_format.specs.Reader.{slicesFrom}
-use Rattle.dimacs_format.specs.Laws.AnswerLaws.{stepTo}
-use Rattle.dimacs_clauses.specs.Laws.ClauseScans.{clausesFrom}
+use Rattle.dimacs_format.specs.Reader.{slicesFrom, textSays}
+use Rattle.dimacs_format.specs.Laws.AnswerLaws.{stepTo, where-told}
+use Rattle.dimacs_words.specs.Laws.Scans.{linesBehind}
+use Rattle.dimacs_clauses.specs.Laws.ClauseScans.{clausesFrom, Ready}
 use Rattle.dimacs_clauses.specs.Laws.ClauseScanLaws.{closed-length}
 use Rattle.dimacs_comments.specs.Laws.CommentScans.{wantedOf}
 use Rattle.dimacs_comments.specs.Laws.HandlerScans.{KeptImages}
 use Rattle.dimacs_comments.specs.Laws.HandlerLaws.{images-take}
-use Rattle.dimacs_lines.specs.Laws.LineScans.{nothingSaid, progressFrom, Standing}
-use Rattle.dimacs_lines.specs.Laws.ParsedAs.{refusedWith, Limited, HasRoom, ParsedAs}
+use Rattle.dimacs_lines.specs.Laws.LineScans.{nothingSaid, progressFrom, Standing, LinesRead}
+use Rattle.dimacs_lines.specs.Laws.ParsedAs.{refusedWith, toldRefused, parsedWith, noImages, Limited, HasRoom}
+use Rattle.dimacs_lines.specs.Laws.ParsedAs.{ParsedAs, Accepting}
 
 -- ---- the formula
 
@@ -80,19 +84,45 @@ pub answers-same : {m k : Step Input} {clauses₀ clauses₁ : ClauseSlices} {r 
     → ParsedAs m clauses₀ r clauses₁ → ParsedAs k clauses₀ r clauses₁
 answers-same {clauses₀ = clauses₀} {clauses₁} {r} e a = subst (λ t. ParsedAs t clauses₀ r clauses₁) (sym e) a
 
+pub answers-as : {m : Step Input} {clauses₀ clauses₁ : ClauseSlices} {r x : Parsed} → r ≡ x
+    → ParsedAs m clauses₀ x clauses₁ → ParsedAs m clauses₀ r clauses₁
+answers-as {m} {clauses₀} {clauses₁} e a = subst (λ y. ParsedAs m clauses₀ y clauses₁) (sym e) a
+
+-- the answer with the images, by what the lines lead to
+pub parsed-refused : (z : Sizes) (t : Told) (images : List ℕ) {code place : ℕ} → t .answer ≡ ParseRefused code place
+    → parsedWith z t images ≡ refusedWith code place
+parsed-refused z t images e = rw e
+
+pub parsed-accepted : (z : Sizes) (t : Told) (images : List ℕ) → t .answer ≡ Accepted
+    → parsedWith z t images ≡ record {
+      formula = record {
+        variables = z .variables;
+        clauses = z .total;
+        target = t .target;
+        permutations = t .permutations;
+        images = images;
+      };
+      answer = Accepted;
+    }
+parsed-accepted z t images e = rw e
+
+-- the lines' refusal
+told-answers : {m : Step Input} {code place : ℕ} {clauses : ClauseSlices} (z : Sizes) (t : Told) (images : List ℕ)
+    → m ≡ refuses code place → t ≡ toldRefused code place → ParsedAs m clauses (parsedWith z t images) clauses
+told-answers z t images e f = answers-refused e (ap (λ t. parsedWith z t images) f)
+
 -- as many clauses are closed as the number says
 closed-size : (z : Sizes) (s : State) (clauses : ClauseSlices) (images : List ℕ) → Standing z s clauses images
     → length (clausesFrom clauses (s .begun) .closed) ≡ s .begun .closed
 closed-size z s clauses images st = closed-length clauses (s .begun) (le-trans (st .ready .closed) (st .ready .room))
 
-module _ (size : ℕ) {z : Sizes} {s : State} {clauses : ClauseSlices} {images : List ℕ}
-    (st : Standing z s clauses images) {clauses₀ : ClauseSlices} where
+module _ (size : ℕ) {z : Sizes} {s : State} {clauses : ClauseSlices} {clauses₀ : ClauseSlices} where
   -- R7: "or too few closed", 7 at the "text length"
-  pub end-refused : {r : Parsed} → s .begun .closed < z .total → r ≡ refusedWith 7 size
-      → ParsedAs (atEnd size z (progressFrom (z .variables) clauses images s)) clauses₀ r clauses₀
+  pub end-refused : {r : Told} → s .begun .closed < z .total → r ≡ toldRefused 7 size
+      → Accepting size z s clauses clauses₀ r clauses₀
   unfolding atEnd
-  end-refused lt e =
-      answers-refused (rw (ne-eqb (length (clausesFrom clauses (s .begun) .closed)) (z .total)
+  end-refused {r} lt e images st =
+      told-answers z r images (rw (ne-eqb (length (clausesFrom clauses (s .begun) .closed)) (z .total)
       (λ e. let x : ⊥ = omega (arith, closed-size z s clauses images st) in x))) e
 
   pub answers-accepted : {x : ℕ} {clauses₁ : ClauseSlices} → z .total ≤ s .begun .closed
@@ -100,20 +130,10 @@ module _ (size : ℕ) {z : Sizes} {s : State} {clauses : ClauseSlices} {images :
       → clauses₁ .positive ≡ over (take (z .total) (clauses .positive)) (clauses₀ .positive)
       → clauses₁ .negative ≡ over (take (z .total) (clauses .negative)) (clauses₀ .negative)
       → clauses₁ .positiveRest ≡ clauses₀ .positiveRest → clauses₁ .negativeRest ≡ clauses₀ .negativeRest
-      → ParsedAs (atEnd size z (progressFrom (z .variables) clauses images s)) clauses₀
-      (record {
-        formula = record {
-          variables = z .variables;
-          clauses = z .total;
-          target = x;
-          permutations = s .permutations;
-          images = images;
-        };
-        answer = Accepted;
-      })
-      clauses₁
+      → Accepting size z s clauses clauses₀
+      (record { answer = Accepted; target = x; permutations = s .permutations }) clauses₁
   unfolding atEnd replyTo formulaFrom slicesFrom formulaOf
-  answers-accepted {x = x} enough ex ep en fp fn =
+  answers-accepted {x = x} enough ex ep en fp fn images st =
       let closed : s .begun .closed ≡ z .total = let a = st .ready .closed in omega arith in
       let full = closed-size z s clauses images st ∙ closed in
       let room : s .begun .closed ≤ clauseRoom clauses = le-trans (st .ready .closed) (st .ready .room) in
@@ -143,23 +163,37 @@ module _ (size : ℕ) {z : Sizes} {s : State} {clauses : ClauseSlices} {images :
       })
 
 -- the lines were read: on to the end, or refused
-module _ (z : Sizes) (size : ℕ) (s : Progress) {answer : Checked} {clauses₀ clauses₁ : ClauseSlices} {r : Parsed} where
-  pub finish-on : answer ≡ Passed → ParsedAs (atEnd size z s) clauses₀ r clauses₁
-      → ParsedAs (andThen (stepTo answer s) (atEnd size z)) clauses₀ r clauses₁
-  unfolding andThen
-  finish-on e a = answers-same (ap (λ b. andThen (stepTo b s) (atEnd size z)) e) a
+module _ {z : Sizes} {text : List ℕ} {end : ℕ} {done : Advanced} {clauses : ClauseSlices} {images : List ℕ}
+    (k : LinesRead z text end done clauses images) where
+  -- what the text says, by the lines' answer
+  by-lines : {answer : Checked} → done .answer ≡ answer
+      → textSays (length text) z (linesBehind text end)
+      ≡ andThen (stepTo answer (progressFrom (z .variables) clauses images (done .state))) (atEnd (length text) z)
+  by-lines e =
+      ap (λ m. andThen m (atEnd (length text) z)) (sym (k .step)
+      ∙ ap (λ a. stepTo a (progressFrom (z .variables) clauses images (done .state))) e)
 
-pub finish-refused : (z : Sizes) (size : ℕ) (s : Progress) {answer : Checked} {clauses : ClauseSlices} {r : Parsed}
-    {code place : ℕ} → answer ≡ Refused code place → r ≡ refusedWith code place
-    → ParsedAs (andThen (stepTo answer s) (atEnd size z)) clauses r clauses
-unfolding andThen
-finish-refused z size s e f = answers-refused (ap (λ b. andThen (stepTo b s) (atEnd size z)) e) f
+  pub ready-then : done .answer ≡ Passed → Ready z (done .state .begun .closed) clauses
+  ready-then e = where-told (Standing z (done .state) clauses images) e (k .stands) .ready
+
+  pub text-ends : (r : Told) {clauses₀ clauses₁ : ClauseSlices} → done .answer ≡ Passed
+      → Accepting (length text) z (done .state) clauses clauses₀ r clauses₁
+      → ParsedAs (textSays (length text) z (linesBehind text end)) clauses₀ (parsedWith z r images) clauses₁
+  unfolding andThen
+  text-ends r e a =
+      answers-same (by-lines e)
+      (a images (where-told (Standing z (done .state) clauses images) e (k .stands)))
+
+  pub text-refused : (r : Told) {clauses₀ : ClauseSlices} {code place : ℕ} → done .answer ≡ Refused code place → r ≡ toldRefused code place
+      → ParsedAs (textSays (length text) z (linesBehind text end)) clauses₀ (parsedWith z r images) clauses₀
+  unfolding andThen
+  text-refused r e f = told-answers z r images (by-lines e) f
 
 -- ---- before the lines
 
 -- slices with room, and the images as they begin
 pub slices-stand : {z : Sizes} {clauses : ClauseSlices} {images : List ℕ} → Limited z → HasRoom z clauses
-    → images ≡ replicate maxImages 0 → Standing z nothingSaid clauses images
+    → images ≡ noImages → Standing z nothingSaid clauses images
 slices-stand {z = z} {images = images} l has e =
     record {
       ready = record { variables = l .variables; few = l .few; room = has .room; closed = zero-le };
@@ -181,3 +215,8 @@ pub blank-room : (z : Sizes) (k : ℕ) → z .total ≤ k → HasRoom z (clauseS
 blank-room z k le =
     let size : length (pointsOf (replicate k 0)) ≡ k = ap length (points-blank k) ∙ length-replicate {A = ℕ} k 0 in
     record { room = subst (λ j. z .total ≤ min j j) (sym size) (omega arith) }
+
+-- slices with room for C clauses are not shorter
+pub never-short : (z : Sizes) (p q : List ℕ) → HasRoom z (clauseSlices p q) → length p < z .total → ⊥
+unfolding pointsOf
+never-short z p q has lt = let room = has .room in omega arith

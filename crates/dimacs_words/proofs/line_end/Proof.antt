@@ -24,7 +24,7 @@ ends-inside-requires : tie.Need-ends-inside-requires Inv-loop μ-loop
 ends-inside-requires c κs = search needs
 
 run-end-requires : tie.Need-run-end-requires Inv-loop μ-loop
-run-end-requires c κs = c .before .before .before .before .loop .inv .1
+run-end-requires c κs = let w = c .before .before .before .before .loop .inv .1 in omega (arith, c .before .before .before .loop-test .taken)
 
 returns : tie.Need-returns Inv-loop μ-loop
 returns c = run-joins (c .before .before .before .before .before .loop .inv .0) (c .before .before .before .before .before .loop .inv .2) (c .run-end .ensures)

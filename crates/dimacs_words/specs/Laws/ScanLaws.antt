@@ -1,6 +1,6 @@
 -- Laws of the loops over bytes: runs by position, digits, heads, the words of a line and the lines of a text from a
 -- place on. Assumes nothing.
-use mathlib.Core.Bool.{Bool, true, false, not, cond, _&&_, _||_, true≢false, and-false, or-true}
+use mathlib.Core.Bool.{Bool, true, false, not, cond, _&&_, _||_, true≢false, and-false}
 use mathlib.Core.List.{List, [], _∷_}
 use mathlib.Core.Option.{Option, some, none}
 use mathlib.Core.Path.{_≡_, refl, sym, ap, _∙_, subst}
@@ -276,6 +276,11 @@ block-goes-on text from i e within h none-there k lo hi = by (decLt k i)
 
 -- ---- digits and words of a text
 
+-- byte 32 ends a word
+pub ends-at-32 : {b : ℕ} → b ≡ 32 → endsWord b ≡ true
+unfolding endsWord isBlank
+ends-at-32 {b} e = ap endsWord e
+
 -- a byte above 32 ends no word
 pub above-blanks : (b : ℕ) → 32 < b → endsWord b ≡ false
 unfolding endsWord isBlank endsLine
@@ -312,19 +317,15 @@ passed-none {text} {from} h =
       left = λ e lo hi. refl;
     }
 
--- what the digits make: nothing without any, nor of a minus and 0
-pub made-empty : (b : Bool) {v from at : ℕ} → v ≡ 0 → from ≡ at → wordMade b v from at ≡ no-word
-made-empty b {v} {from} {at} z e = rw (eq-eqb v 0 z, eq-eqb from at e)
+-- what the digits make: nothing of a minus and 0
+pub made-minus : {b : Bool} {v : ℕ} (at : ℕ) → v ≡ 0 → b ≡ true → wordMade b v at ≡ no-word
+made-minus {b} {v} at z m = rw (eq-eqb v 0 z, m)
 
-pub made-minus : {b : Bool} {v : ℕ} (from at : ℕ) → v ≡ 0 → b ≡ true → wordMade b v from at ≡ no-word
-made-minus {b} {v} from at z m = rw (eq-eqb v 0 z, m, or-true (eqb from at))
+pub made-zero : {b : Bool} (v at : ℕ) → b ≡ false → wordMade b v at ≡ Read b v (record { at = at })
+made-zero {b} v at m = rw (m, and-false (eqb v 0))
 
-pub made-zero : {b : Bool} (v : ℕ) {from at : ℕ} → (from ≡ at → ⊥) → b ≡ false
-    → wordMade b v from at ≡ Read b v (record { at = at })
-made-zero {b} v {from} {at} ne m = rw (ne-eqb from at ne, m, and-false (eqb v 0))
-
-pub made-number : (b : Bool) (v from at : ℕ) → (v ≡ 0 → ⊥) → wordMade b v from at ≡ Read b v (record { at = at })
-made-number b v from at ne = rw (ne-eqb v 0 ne)
+pub made-number : (b : Bool) (v at : ℕ) → (v ≡ 0 → ⊥) → wordMade b v at ≡ Read b v (record { at = at })
+made-number b v at ne = rw (ne-eqb v 0 ne)
 
 sign-none : (b : Bool) {o : Option ℕ} → o ≡ none → withSign b o ≡ malformed
 unfolding unsigned negated
@@ -381,35 +382,28 @@ module _ {text : List ℕ} {from v i : ℕ} (p : Passed text from v i) where
         let size = run-length inWord text from i digits-run in
         sym (number-short (take (i - from) (drop from text)) (omega arith))
 
-  pub digits-end : (sign : Bool) {r : WordAnswer} → (i < length text → endsWord (getD text i 0) ≡ true)
-      → r ≡ wordMade sign v from i → DigitsRead text sign from r
+  pub digits-end : (sign : Bool) {r : WordAnswer} → from < i → (i < length text → endsWord (getD text i 0) ≡ true)
+      → r ≡ wordMade sign v i → DigitsRead text sign from r
   unfolding unsigned negated
-  digits-end sign {r} ends f = subst (DigitsRead text sign from) (sym f) (by (decLt from i) v refl sign)
+  digits-end sign {r} lt ends f = subst (DigitsRead text sign from) (sym f) (by v refl sign)
     where
       made : (b : Bool) {t : Token} → withSign b (numberIn (take (i - from) (drop from text))) ≡ t
           → DigitsAt text b from i t
       made b e = record { run = digits-run ends; token = e }
 
-      by : Dec (from < i) → (w : ℕ) → v ≡ w → (b : Bool) → DigitsRead text b from (wordMade b v from i)
-      by (yes lt) zero e false =
-          subst (DigitsRead text false from) (sym (made-zero v (λ z. let q : ⊥ = omega arith in q) refl))
-          (made false (ap unsigned (value ends lt) ∙ rw e))
-      by (yes lt) zero e true =
-          subst (DigitsRead text true from) (sym (made-minus from i e refl))
+      by : (w : ℕ) → v ≡ w → (b : Bool) → DigitsRead text b from (wordMade b v i)
+      by zero e false =
+          subst (DigitsRead text false from) (sym (made-zero v i refl)) (made false (ap unsigned (value ends lt) ∙ rw e))
+      by zero e true =
+          subst (DigitsRead text true from) (sym (made-minus i e refl))
           (i, made true (ap negated (value ends lt) ∙ rw e))
-      by (yes lt) (suc w) e b =
-          subst (DigitsRead text b from) (sym (made-number b v from i (λ z. let q : ⊥ = omega arith in q)))
+      by (suc w) e b =
+          subst (DigitsRead text b from) (sym (made-number b v i (λ z. let q : ⊥ = omega arith in q)))
           (made b (ap (withSign b) (value ends lt) ∙ number-signed b))
         where
           number-signed : (b : Bool) → withSign b (some v) ≡ signed b v
           number-signed false = rw e
           number-signed true = rw e
-      by (no ge) w e b =
-          let o = p .ordered in
-          let same : from ≡ i = omega arith in
-          let none-yet : v ≡ 0 = (let q : i - from ≡ 0 = omega arith in
-          let s : v < 10 ^ 0 = subst (λ j. v < 10 ^ j) q (p .small) in omega arith) in
-          subst (DigitsRead text b from) (sym (made-empty b none-yet same)) (i, made b (sign-none b (empty ends same)))
 
   -- a byte that is no digit, inside the word
   pub digits-bad : (sign : Bool) → i < length text → isDigit (getD text i 0) ≡ false → endsWord (getD text i 0) ≡ false
@@ -443,6 +437,32 @@ module _ {text : List ℕ} {from v i : ℕ} (p : Passed text from v i) where
           token = sign-none sign (sym (number-long (take (run .0 - from) (drop from text)) (omega arith)));
         },
       )
+
+-- the first digit
+pub passed-first : {text : List ℕ} {from : ℕ} → from < length text → isDigit (getD text from 0) ≡ true
+    → Passed text from (getD text from 0 - 48) (from + 1)
+passed-first {text} {from} h d =
+    subst (λ v. Passed text from v (from + 1)) (let z : 0 * 10 + (getD text from 0 - 48) ≡ getD text from 0 - 48 = omega arith in z)
+    (passed-digit (passed-none (let z : from ≤ length text = omega arith in z)) h d (omega arith))
+
+-- no digit at all
+pub digits-none : (text : List ℕ) (sign : Bool) (from : ℕ) → from ≤ length text
+    → (from < length text → isDigit (getD text from 0) ≡ false) → DigitsRead text sign from no-word
+digits-none text sign from le n = by (decLt from (length text))
+  where
+    none-yet : Passed text from 0 from
+    none-yet = passed-none le
+
+    word-empty : (from < length text → endsWord (getD text from 0) ≡ true) → DigitsRead text sign from no-word
+    word-empty ends = (from, record { run = digits-run none-yet ends; token = sign-none sign (empty none-yet ends refl) })
+
+    by : Dec (from < length text) → DigitsRead text sign from no-word
+    by (no ge) = word-empty (λ lt. absurd (let z : ⊥ = omega arith in z))
+    by (yes lt) = test (endsWord (getD text from 0)) refl
+      where
+        test : (b : Bool) → endsWord (getD text from 0) ≡ b → DigitsRead text sign from no-word
+        test true e = word-empty (λ _. e)
+        test false e = digits-bad none-yet sign lt (n lt) e
 
 -- ---- words
 

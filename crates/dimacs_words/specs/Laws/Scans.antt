@@ -57,9 +57,9 @@ abbrev pub withSign : Bool → Option ℕ → Token
 withSign false o = unsigned o
 withSign true o = negated o
 
--- what digits between two places make, of this value
-abbrev pub wordMade : Bool → ℕ → ℕ → ℕ → WordAnswer
-wordMade b v from at = cond (eqb v 0 && (eqb from at || b)) no-word (Read b v (record { at = at }))
+-- what digits up to a place make, of this value
+abbrev pub wordMade : Bool → ℕ → ℕ → WordAnswer
+wordMade b v at = cond (eqb v 0 && b) no-word (Read b v (record { at = at }))
 
 -- the digits from a place on go up to another place, and with their sign they are the token
 pub record DigitsAt (text : List ℕ) (sign : Bool) (from next : ℕ) (t : Token) : Type 0 where

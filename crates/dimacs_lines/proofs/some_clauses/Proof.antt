@@ -1,0 +1,14 @@
+-- `dimacs_lines::some_clauses` meets its contract: its arrays have room for the clauses. Assumes nothing.
+use borrow.Author.Needs.{needs}
+use Rattle.dimacs_lines.specs.Laws.ParsedAs.{someClauses}
+use Rattle.dimacs_lines.specs.Laws.ParsedLaws.{blank-room}
+use Rattle.dimacs_lines.proofs.some_clauses.Statement.{statement}
+use Rattle.dimacs_lines.proofs.some_clauses.Tie as tie
+
+collect-requires : tie.Need-collect-requires
+collect-requires c κs = (c .before .before .before .before .before .before .before .before .before .pre .0, blank-room _ someClauses (c .before .before .before .before .before .before .before .before .before .pre .1))
+
+pub some-clauses-spec : {M : Type 1} → statement M
+some-clauses-spec =
+    tie.close
+    (tie.spec (λ c. search needs) (λ c. search needs) collect-requires (λ c. search needs) (λ c. search needs) (λ c. search needs) (λ c. search needs))
