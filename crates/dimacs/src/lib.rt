@@ -198,8 +198,8 @@ fn read_sized(
 }
 
 // D2.1: "A sheet is read as DIMACS CNF, as document 01 fixes it." The work is linear in the text: a byte before the
-// problem line is visited at most four times, one of that line at most nine times, one behind it at most twenty times
-// (`read_lines`).
+// problem line is visited at most four times, one of that line at most nine times, one behind it at most twenty-one
+// times (`read_lines`).
 pub fn read(text: &[u8], positive: &mut [u64], negative: &mut [u64]) -> Parsed
     ensures { λ r. ⌜ Read (now (text .entry)) (clauseSlices (now (positive .entry)) (now (negative .entry))) r
         (clauseSlices (now (positive .exit)) (now (negative .exit))) ⌝ }

@@ -161,8 +161,9 @@ fn clause_word(
     Stepped { taken, next }
 }
 
-// The words of the line that begins at `start`, and where it ends: a byte of the line is visited at most twice, to test
-// whether its word ends there and to read it. `dimacs_lines::read_line` sees to what it requires.
+// The words of the line that begins at `start`, and where it ends. A byte of the line is visited at most four times: to
+// test whether the line or a word ends there, for a minus, and for its digit. `dimacs_lines::clause_lines` sees to what
+// it requires.
 pub fn clause_line(
     text: &[u8],
     start: usize,

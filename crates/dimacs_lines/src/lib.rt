@@ -105,8 +105,8 @@ fn opens_comment(text: &[u8], at: usize) -> bool
 }
 
 // The lines of words from the one that begins at `start` up to the next comment or the end of the text, and where the
-// last of them ends. One step a line, and a byte of a line is visited at most twice (`clause_line`). `read_part` sees
-// to what it requires.
+// last of them ends. One step a line, and a byte of a line is visited at most five times: four by `clause_line`, and
+// the first of a line once more. `read_part` sees to what it requires.
 fn clause_lines(
     text: &[u8],
     start: usize,
@@ -206,9 +206,9 @@ fn begin() -> State
 }
 
 // N3: "then the first fault in text order": the lines behind the one that ends at `end`. A byte of a comment is visited
-// at most twice to find its line's end, at most fifteen times as part of a head, and at most three times more; one of
-// another line at most three times. So the work is linear in the text. `dimacs_lines::collect` sees to what it
-// requires: refusals 1 and 3, slices with room for C clauses, images of zeros.
+// at most twice to find its line's end, at most fifteen times as part of a head, and at most four times more; one of
+// another line at most six times. So the work is linear in the text. `dimacs_lines::collect` sees to what it requires:
+// refusals 1 and 3, slices with room for C clauses, images of zeros.
 pub fn read_lines(
     text: &[u8],
     end: usize,

@@ -6,10 +6,10 @@ use Rattle.dimacs_lines.proofs.collect.Statement.{statement}
 use Rattle.dimacs_lines.proofs.collect.Tie as tie
 
 read-lines-requires : tie.Need-read-lines-requires
-read-lines-requires c κs = (slices-stand (c .before .before .before .before .before .before .before .before .before .pre .0 .limited) (c .before .before .before .before .before .before .before .before .before .pre .1) (c .before .before .before .before .before .before .before .before .before .pre .0 .none-yet), c .before .before .before .before .before .before .before .before .before .pre .0 .size, c .before .before .before .before .before .before .before .before .before .pre .0 .within)
+read-lines-requires c κs = (slices-stand (c .before .before .before .before .before .before .before .before .before .pre .0 .limited) (search needs) (c .before .before .before .before .before .before .before .before .before .pre .0 .none-yet), c .before .before .before .before .before .before .before .before .before .pre .0 .size, c .before .before .before .before .before .before .before .before .before .pre .0 .within)
 
 accept-requires : tie.Need-accept-requires
-accept-requires c κs = (ready-then (c .before .before .before .before .before .before .before .before .before .before .before .before .before .read-lines .ensures) (c .before .before .before .before .enum-told .given .1), c .before .before .before .before .before .before .before .before .before .before .before .before .before .before .before .before .before .before .before .before .before .before .before .pre .0 .has-room)
+accept-requires c κs = (ready-then (c .before .before .before .before .before .before .before .before .before .before .before .before .before .read-lines .ensures) (c .before .before .before .before .enum-told .given .1), search needs)
 
 told-refused-requires : tie.Need-told-refused-requires
 told-refused-requires c κs = search needs
