@@ -1,4 +1,3 @@
 pub mod FormulaMade
-pub mod SlotsSearched
 pub mod SlotsWritten
 pub mod WordsPut

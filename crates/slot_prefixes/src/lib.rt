@@ -5,12 +5,18 @@ use certificate_writer::write;
 use formula::Formula;
 use points::Depth;
 use search::Found;
+use search::Outcome;
 use search::search;
+ghost use mathlib.Core.Path.{_≡_};
+ghost use mathlib.Core.Bool.{_&&_};
+ghost use lib.Dec.{ltb};
 ghost use lib.ListN.{length, take};
 ghost use Rattle.point_slices.specs.Slices.{clauseSlices, slotSlices};
 ghost use Rattle.certificate_writer.specs.Contract.{Wrote};
 ghost use Rattle.slot_columns.specs.Laws.Copies.{Within};
-ghost use Rattle.search.specs.Contract.{Searched};
+ghost use Rattle.search.specs.Contract.{replyOfFound, Searched};
+ghost use Rattle.search_theory.specs.Laws.Promised.{reported};
+ghost use Rattle.slot_prefixes.specs.Laws.PrefixLaws.{noRoom};
 
 // How many places the copies have: one for each slot that a search or a certificate can use.
 pub const PLACES: usize = Formula::MAX_SLOTS as usize;
@@ -67,4 +73,30 @@ pub fn write_prefix(
         filled,
         out,
     )
+}
+
+// How many slots a search says that it filled; none where it refused.
+pub fn filled(r: Found) -> usize
+    ensures { λ n. ⌜ n ≡ reported (replyOfFound r) ⌝ }
+{
+    let answer = r.answer;
+    match answer {
+        Outcome::Satisfiable { distance, filled } => filled as usize,
+        Outcome::Unsatisfiable { filled } => filled as usize,
+        Outcome::Unknown { bound, filled } => filled as usize,
+        Outcome::Refused { code, place } => 0,
+    }
+}
+
+// Whether a search on k places found no room where more slots than those are lent.
+pub fn outgrown(r: Found, k: usize, lent: usize) -> bool
+    ensures { λ b. ⌜ b ≡ (noRoom (replyOfFound r) && ltb k lent) ⌝ }
+{
+    let answer = r.answer;
+    match answer {
+        Outcome::Satisfiable { distance, filled } => false,
+        Outcome::Unsatisfiable { filled } => false,
+        Outcome::Unknown { bound, filled } => k < lent,
+        Outcome::Refused { code, place } => false,
+    }
 }

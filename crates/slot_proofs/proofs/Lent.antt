@@ -6,6 +6,7 @@
 --     zeros-typed      the machine value of n zeros has its type
 --     abstracted, emptied  a local array of n zeros is a row of n elements; a row of n elements is a local array's room
 -- again
+--     roomy            a list of n elements has room where n elements have
 --     room64, room32   arrays of 65,536 elements have room
 --     big-lit      a constant that is written with its bound to be shown
 -- Assumes `Given`.
@@ -41,6 +42,10 @@ use denote.Ref.{RefT}
 use denote.Slice.{Room, sliceVal, MutSlice, ShrSlice, finally}
 use denote.Steps.{owned, facts}
 use Rattle.formula.specs.Limits.{maxSlots}
+
+-- what has room for n elements has it for a list of n
+pub roomy : (E : RattleType) {n : ℕ} (xs : List (E .Denot)) → Room E n → length xs ≡ n → Room E (length xs)
+roomy E xs room e = subst (Room E) (sym e) room
 
 -- arrays of 65,536 elements have room
 pub room64 : (xs : List ℕ) → length xs ≡ maxSlots → Room u64 (length xs)

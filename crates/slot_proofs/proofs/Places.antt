@@ -1,8 +1,8 @@
 -- The places of the local arrays that hold copies of slots: how many are used, and the arrays once the slots are copied
 -- out. Assumes nothing.
-use mathlib.Core.Path.{_≡_, _∙_}
+use mathlib.Core.Path.{_≡_, sym, _∙_}
 use Prim.Native.Nat.{ℕ, _<_, _≤_, _^_, min}
-use native.Mathlib.Nat.{lt-of-le-of-lt, le-refl}
+use native.Mathlib.Nat.{lt-of-le-of-lt, le-refl, le-trans, le-of-eq}
 use native.Mathlib.Omega.{arith}
 use mathlib.Core.List.{List}
 use lib.Dec.{lit<}
@@ -12,6 +12,14 @@ use Rattle.slot_columns.specs.declared.Slot.{Slot}
 use Rattle.slot_columns.specs.Slots.{pointsIn, falsifiedIn, depthsIn}
 use Rattle.slot_columns.specs.Laws.Copies.{front, Within}
 use Rattle.slot_columns.specs.Laws.SlotLaws.{front-length, column-long}
+
+-- k places of arrays that have more
+module _ {places k : ℕ} (held : k ≤ places) where
+  pub places-many : (xs : List ℕ) → length xs ≡ places → k ≤ length xs
+  places-many xs e = le-trans held (le-of-eq (sym e))
+
+  pub places-in : (m : ℕ) (ps fs ds : List ℕ) → k ≤ m → length ps ≡ places → length fs ≡ places → length ds ≡ places → Within k m (length ps) (length fs) (length ds)
+  places-in m ps fs ds h e₁ e₂ e₃ = record { inSlots = h; inPoints = places-many ps e₁; inFalsified = places-many fs e₂; inDepths = places-many ds e₃ }
 
 module _ (ys : List Slot) where
   -- the slots that are used

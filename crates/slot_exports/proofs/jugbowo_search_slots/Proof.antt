@@ -60,8 +60,8 @@ use Rattle.slot_proofs.proofs.Lent.{at-list}
 use Rattle.slot_proofs.proofs.Called.{given-up, free-all, placed}
 use Rattle.slot_exports.proofs.FormulaMade as Made
 use Rattle.slot_exports.proofs.FormulaMade.{FormulaFrom}
-use Rattle.slot_exports.proofs.SlotsSearched as Done
-use Rattle.slot_exports.proofs.SlotsSearched.{SearchSlots}
+use Rattle.slot_search.proofs.SlotsSearched as Done
+use Rattle.slot_search.proofs.SlotsSearched.{SearchSlots}
 use Rattle.slot_exports.proofs.WordsPut as Put
 use Rattle.slot_exports.proofs.WordsPut.{PutWords}
 use Rattle.slot_exports.proofs.jugbowo_search_slots.Key.{name as #slot-exports·jugbowo-search-slots}

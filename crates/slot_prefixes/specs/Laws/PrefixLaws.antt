@@ -1,4 +1,5 @@
--- The search on the fronts of longer lists. Assumes nothing.
+-- The search on the fronts of longer lists, and what its answer says of their room. Assumes nothing.
+use mathlib.Core.Bool.{Bool, true, false}
 use mathlib.Core.List.{List, _++_}
 use mathlib.Core.Path.{_≡_, _∙_}
 use Prim.Native.Nat.{ℕ}
@@ -6,8 +7,20 @@ use lib.ListN.{length, take}
 use lib.Seq.{take-at}
 use Rattle.point_slices.specs.Slices.{ClauseSlices, SlotSlices, slotSlices}
 use Rattle.formula.specs.declared.Formula.{Formula}
+use Rattle.formula.specs.Reply.{Reply, refused, satisfiable, unsatisfiable, unknown, parsed, written, opened, accepted}
 use Rattle.search.specs.declared.Found.{Found}
 use Rattle.search.specs.Contract.{Searched}
+
+-- W8: "answer no room"
+abbrev pub noRoom : Reply → Bool
+noRoom (unknown b filled) = true
+noRoom (refused code place) = false
+noRoom (satisfiable x d filled) = false
+noRoom (unsatisfiable filled) = false
+noRoom parsed = false
+noRoom (written size) = false
+noRoom opened = false
+noRoom accepted = false
 
 -- three lists that the search leaves are the fronts of longer ones
 pub searched-fronts : (k : ℕ) (f : Formula) (clauses : ClauseSlices) (slots₀ : SlotSlices) (r : Found)

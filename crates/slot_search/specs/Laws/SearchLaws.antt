@@ -1,13 +1,18 @@
--- Laws of the search on copies of the slots: copied out, searched, and copied back, the slots are what the search
--- leaves in them. Assumes nothing.
-use mathlib.Core.List.{List, [], _∷_, _++_, map, append-assoc}
+-- Laws of the search on arrays of its own: what they held does not matter, and where as many slots are copied back as
+-- it says that it filled, the slots are what the search leaves in them. Assumes nothing.
+use mathlib.Core.Bool.{Bool, true, false, true≢false, _&&_}
+use mathlib.Core.List.{List, [], _∷_, _++_, map}
 use mathlib.Core.Path.{_≡_, refl, sym, ap, _∙_}
-use Prim.Native.Nat.{ℕ, zero, suc, _+_, _-_, _≤_, min}
-use native.Mathlib.Nat.{le-of-suc-le-suc, not-suc-le-zero}
+use Prim.Native.Nat.{ℕ, zero, suc, _≤_, min}
+use native.Mathlib.Nat.{le-trans, le-of-eq, le-of-suc-le-suc, not-suc-le-zero}
 use native.Mathlib.Omega.{arith}
-use lib.ListN.{length, take, drop, length-map, length-append, length-drop, take-append-drop}
-use lib.Seq.{length-take-le, drop-append-le}
+use lib.Dec.{ltb}
+use lib.ListN.{length, take, drop, length-map}
+use lib.Seq.{length-take-le, take-take}
+use borrow.Author.Tests.{ltb-true, ltb-false}
 use Rattle.math.specs.Lists.{over}
+use Rattle.math.specs.Laws.OverLaws.{over-none}
+use Rattle.math.specs.Laws.PartLaws.{over-front}
 use Rattle.math.specs.Laws.SplitLaws.{map-append}
 use Rattle.point_slices.specs.Slices.{ClauseSlices, SlotSlices, slotSlices, wholeSlots}
 use Rattle.formula.specs.declared.Formula.{Formula}
@@ -15,35 +20,17 @@ use Rattle.formula.specs.Limits.{maxSlots, capacity}
 use Rattle.formula.specs.Reply.{Fault, no-fault, fault, pointIn, unlessKept}
 use Rattle.search.specs.declared.Found.{Found}
 use Rattle.search.specs.Search.{searchReply, searchFault, searchSlots, searchSlices}
-use Rattle.search.specs.Contract.{Searched}
+use Rattle.search.specs.Contract.{replyOfFound, Searched}
 use Rattle.search_theory.specs.Filled.{filledWith}
+use Rattle.search_theory.specs.Laws.Promised.{reported}
 use Rattle.search_theory.specs.Walk as W
 use Rattle.slot_columns.specs.declared.Slot.{Slot}
 use Rattle.slot_columns.specs.Slots.{pointsIn, falsifiedIn, depthsIn, slotsIn}
 use Rattle.slot_columns.specs.Laws.Copies.{joined, front}
-use Rattle.slot_columns.specs.Laws.SlotLaws.{words-whole, front-take, joined-columns, min-thrice}
-
-module _ {X : Type 0} where
-  -- a list's own front changes nothing
-  pub front-self : (k : ℕ) (xs : List X) → k ≤ length xs → over (take k xs) xs ≡ xs
-  unfolding over
-  front-self k xs h = ap (λ n. take k xs ++ drop n xs) (length-take-le k xs h) ∙ take-append-drop k xs
-
-  -- contents put in front of a list's front, and that in front of the list
-  pub over-over : (k : ℕ) (new old : List X) → length new ≤ k → k ≤ length old
-      → over (over new (take k old)) old ≡ over new old
-  unfolding over
-  over-over k new old small h =
-      let long : length (take k old) ≡ k = length-take-le k old h in
-      let e : length (new ++ drop (length new) (take k old))
-      ≡ length new + (length (take k old) - length new) = length-append new (drop (length new) (take k old))
-      ∙ ap (λ n. length new + n) (length-drop (length new) (take k old)) in
-      let e′ : length (new ++ drop (length new) (take k old)) ≡ k = omega (arith, e, long, small) in
-      ap (λ n. (new ++ drop (length new) (take k old)) ++ drop n old) e′
-      ∙ append-assoc new (drop (length new) (take k old)) (drop k old)
-      ∙ ap (λ l. new ++ l) (sym (drop-append-le (length new) (take k old) (drop k old)
-      (let z : length new ≤ length (take k old) = omega (arith, long, small) in z))
-      ∙ ap (λ l. drop (length new) l) (take-append-drop k old))
+use Rattle.slot_columns.specs.Laws.SlotLaws.{words-whole, joined-columns, min-thrice}
+use Rattle.slot_prefixes.specs.Laws.PrefixLaws.{noRoom}
+use Rattle.slot_search.specs.Laws.FilledLaws.{count-filled, count-refused, count-lent, SameSearch, same-lent}
+use Rattle.slot_search.specs.Laws.FilledLaws.{same-settled}
 
 map-take : (part : Slot → ℕ) (k : ℕ) (xs : List Slot) → map part (take k xs) ≡ take k (map part xs)
 map-take part zero xs = refl
@@ -77,116 +64,123 @@ joined-parts (suc k) (x ∷ xs) (n ∷ ns) (d ∷ ds) h₁ h₂ h₃ =
     let rest = joined-parts k xs ns ds (le-of-suc-le-suc h₁) (le-of-suc-le-suc h₂) (le-of-suc-le-suc h₃) in
     (ap (λ l. x ∷ l) (rest .0), (ap (λ l. n ∷ l) (rest .1 .0), ap (λ l. d ∷ l) (rest .1 .1)))
 
--- ---- what the slices' fronts become, the slices become
+-- ---- the room
 
--- a front with new contents
-filled-whole : (k : ℕ) (new old found : List ℕ) → k ≤ length old → length found ≡ k → found ≡ over new (take k old)
-    → over found old ≡ over new old
-unfolding over
-filled-whole k new old found h len e =
-    let long : length found ≡ length new + length (drop (length new) (take k old)) = ap length e
-    ∙ length-append new (drop (length new) (take k old)) in
-    ap (λ l. over l old) e ∙ over-over k new old (let z : length new ≤ k = omega (arith, long, len) in z) h
-
-module _ (k : ℕ) (p n d p′ n′ d′ : List ℕ) (hp : k ≤ length p) (hn : k ≤ length n) (hd : k ≤ length d)
-    (lp : length p′ ≡ k) (ln : length n′ ≡ k) (ld : length d′ ≡ k) where
-  abbrev fronts : SlotSlices
-  fronts = wholeSlots (take k p) (take k n) (take k d)
-
-  -- the fronts p′, n′ and d′ are found as the search leaves them, where the tests say so
-  kept-whole : (fl : Fault) (l : List W.Slot) → wholeSlots p′ n′ d′ ≡ unlessKept fl (filledWith l fronts) fronts
-      → wholeSlots (over p′ p) (over n′ n) (over d′ d)
-      ≡ unlessKept fl (filledWith l (wholeSlots p n d)) (wholeSlots p n d)
-  unfolding unlessKept
-  kept-whole no-fault l e =
-      λ i. wholeSlots
-      (filled-whole k (map (λ (t : W.Slot). t .point) l) p p′ hp lp (ap (λ (s : SlotSlices). s .points) e) i)
-      (filled-whole k (map (λ (t : W.Slot). t .falsified) l) n n′ hn ln (ap (λ (s : SlotSlices). s .falsified) e) i)
-      (filled-whole k (map (λ (t : W.Slot). t .depth) l) d d′ hd ld (ap (λ (s : SlotSlices). s .depths) e) i)
-  kept-whole (fault code place) l e =
-      (λ i. wholeSlots (over (e i .points) p) (over (e i .falsified) n) (over (e i .depths) d))
-      ∙ (λ i. wholeSlots (front-self k p hp i) (front-self k n hn i) (front-self k d hd i))
-
-  pub slices-whole : (f : Formula) (clauses : ClauseSlices) → capacity fronts ≡ capacity (wholeSlots p n d)
-      → wholeSlots p′ n′ d′ ≡ searchSlices f clauses fronts
-      → wholeSlots (over p′ p) (over n′ n) (over d′ d) ≡ searchSlices f clauses (wholeSlots p n d)
-  unfolding searchSlices
-  slices-whole f clauses room e =
-      let lent = capacity (wholeSlots p n d) in
-      kept-whole (searchFault f clauses lent) (searchSlots f clauses lent)
-      (e ∙ ap (λ j. unlessKept (searchFault f clauses j) (filledWith (searchSlots f clauses j) fronts) fronts) room)
-
--- ---- the room that the fronts give is the room that the slices give
-
-min-again : (m : ℕ) → min maxSlots (min maxSlots m) ≡ min maxSlots m
-min-again m = omega arith
-
-same-room : (p n d p′ n′ d′ : List ℕ) (m : ℕ) → length p′ ≡ min maxSlots m → length n′ ≡ min maxSlots m
-    → length d′ ≡ min maxSlots m → length p ≡ m → length n ≡ m → length d ≡ m
-    → capacity (wholeSlots p′ n′ d′) ≡ capacity (wholeSlots p n d)
+-- three lists of k places are k slots
+front-room : (k : ℕ) (p n d : List ℕ) → k ≤ maxSlots → k ≤ length p → k ≤ length n → k ≤ length d
+    → capacity (wholeSlots (take k p) (take k n) (take k d)) ≡ k
 unfolding capacity
-same-room p n d p′ n′ d′ m p₁ n₁ d₁ p₂ n₂ d₂ =
-    (λ i. min maxSlots (min (p₁ i) (min (n₁ i) (d₁ i)))) ∙ ap (min maxSlots) (min-thrice (min maxSlots m))
-    ∙ min-again m ∙ sym (ap (min maxSlots) (min-thrice m)) ∙ sym (λ i. min maxSlots (min (p₂ i) (min (n₂ i) (d₂ i))))
+front-room k p n d few hp hn hd =
+    (λ i. min maxSlots (min (length-take-le k p hp i) (min (length-take-le k n hn i) (length-take-le k d hd i))))
+    ∙ ap (min maxSlots) (min-thrice k) ∙ (let z : min maxSlots k ≡ k = omega (arith, few) in z)
 
-module _ (f : Formula) (clauses : ClauseSlices) (ys : List Slot) (k : ℕ) (is : k ≡ min maxSlots (length ys))
-    (ps₀ fs₀ ds₀ : List ℕ) where
-  -- what is searched: the copies' fronts
-  abbrev part-of : (Slot → ℕ) → List ℕ → List ℕ
-  part-of part old = take k (front k (map part ys) old)
+slots-room : (ys : List Slot) → capacity (slotsIn ys) ≡ min maxSlots (length ys)
+unfolding capacity
+slots-room ys = (λ i. min maxSlots (min (length-map ys (λ (s : Slot). s .point) i)
+    (min (length-map ys (λ (s : Slot). s .falsified) i) (length-map ys (λ (s : Slot). s .depth) i))))
+    ∙ ap (min maxSlots) (min-thrice (length ys))
 
-  enough : (part : Slot → ℕ) → k ≤ length (map part ys)
-  enough part = let e : length (map part ys)
-      ≡ length ys = length-map ys part in (let z : k ≤ length (map part ys) = omega (arith, e, is) in z)
+-- ---- the search on k places
 
-  found : (part : Slot → ℕ) (old : List ℕ) → part-of part old ≡ take k (map part ys)
-  found part old = front-take k (map part ys) old (enough part)
+module _ (f : Formula) (clauses : ClauseSlices) (ys : List Slot) (k : ℕ) where
+  -- all the slots that can be used
+  pub same-all : k ≡ min maxSlots (length ys) → SameSearch f clauses k (capacity (slotsIn ys))
+  same-all is = same-lent f clauses (is ∙ sym (slots-room ys))
 
-  long : (part : Slot → ℕ) → length (take k (map part ys)) ≡ min maxSlots (length ys)
-  long part = length-take-le k (map part ys) (enough part) ∙ is
+  -- some of them, where that was not too few
+  pub same-some : (places : ℕ) → 1 ≤ places → places ≤ maxSlots → k ≡ min places (length ys)
+      → (noRoom (searchReply f clauses k) && ltb k (length ys)) ≡ false
+      → SameSearch f clauses k (capacity (slotsIn ys))
+  same-some places some few is = by (ltb k (length ys)) refl (noRoom (searchReply f clauses k)) refl
+    where
+      by : (b : Bool) → ltb k (length ys) ≡ b → (c : Bool) → noRoom (searchReply f clauses k) ≡ c → (c && b) ≡ false
+          → SameSearch f clauses k (capacity (slotsIn ys))
+      by false e c h t = same-all (let l = ltb-false k (length ys) e in omega (arith, l, is, few))
+      by true e false h t =
+          let l = ltb-true k (length ys) e in
+          same-settled f clauses k (capacity (slotsIn ys)) (omega (arith, l, is, some))
+          (le-trans (let z : k ≤ min maxSlots (length ys) = omega (arith, l, is, few) in z)
+          (le-of-eq (sym (slots-room ys)))) h
+      by true e true h t = absurd (true≢false t)
 
-  abbrev point-of : Slot → ℕ
-  point-of s = s .point
+  module _ (ps₀ fs₀ ds₀ ps fs ds : List ℕ) (r : Found) (few : k ≤ maxSlots)
+      (long₁ : k ≤ length ps₀) (long₂ : k ≤ length fs₀) (long₃ : k ≤ length ds₀)
+      (s : Searched f clauses (slotSlices (take k ps₀) (take k fs₀) (take k ds₀)) r
+      (slotSlices (take k ps) (take k fs) (take k ds))) where
+    abbrev n : ℕ
+    n = reported (replyOfFound r)
 
-  abbrev falsified-of : Slot → ℕ
-  falsified-of s = s .falsified
+    abbrev before : SlotSlices
+    before = wholeSlots (take k ps₀) (take k fs₀) (take k ds₀)
 
-  abbrev depth-of : Slot → ℕ
-  depth-of s = s .depth
+    room : capacity (slotSlices (take k ps₀) (take k fs₀) (take k ds₀)) ≡ k
+    room = ap capacity (words-whole (take k ps₀) (take k fs₀) (take k ds₀))
+        ∙ front-room k ps₀ fs₀ ds₀ few long₁ long₂ long₃
 
-  -- the fronts of the copies are those of the slots
-  abbrev searched : SlotSlices
-  searched = wholeSlots (take k (pointsIn ys)) (take k (falsifiedIn ys)) (take k (depthsIn ys))
+    pub told : replyOfFound r ≡ searchReply f clauses k
+    told = s .reply ∙ ap (searchReply f clauses) room
 
-  copies : slotSlices (part-of point-of ps₀) (part-of falsified-of fs₀) (part-of depth-of ds₀) ≡ searched
-  copies = words-whole (part-of point-of ps₀) (part-of falsified-of fs₀) (part-of depth-of ds₀)
-      ∙ (λ i. wholeSlots (found point-of ps₀ i) (found falsified-of fs₀ i) (found depth-of ds₀ i))
+    -- no more slots are said to be filled than there were places
+    pub fresh-few : n ≤ k
+    fresh-few = le-trans (le-of-eq (ap reported told)) (count-lent f clauses k (searchFault f clauses k) refl)
 
-  room : capacity searched ≡ capacity (slotsIn ys)
-  room = same-room (pointsIn ys) (falsifiedIn ys) (depthsIn ys) (take k (pointsIn ys)) (take k (falsifiedIn ys))
-      (take k (depthsIn ys)) (length ys) (long point-of) (long falsified-of) (long depth-of) (length-map ys point-of)
-      (length-map ys falsified-of) (length-map ys depth-of)
+    left : wholeSlots (take k ps) (take k fs) (take k ds)
+        ≡ unlessKept (searchFault f clauses k) (filledWith (searchSlots f clauses k) before) before
+    unfolding searchSlices
+    left = sym (words-whole (take k ps) (take k fs) (take k ds)) ∙ s .slots
+        ∙ ap (searchSlices f clauses) (words-whole (take k ps₀) (take k fs₀) (take k ds₀))
+        ∙ ap (λ j. unlessKept (searchFault f clauses j) (filledWith (searchSlots f clauses j) before) before)
+        (front-room k ps₀ fs₀ ds₀ few long₁ long₂ long₃)
 
-  -- copied out, searched and copied back
-  pub searched-whole : (ps fs ds : List ℕ) (r : Found) → k ≤ length ps → k ≤ length fs → k ≤ length ds
-      → Searched f clauses (slotSlices (part-of point-of ps₀) (part-of falsified-of fs₀) (part-of depth-of ds₀)) r
-      (slotSlices (take k ps) (take k fs) (take k ds))
-      → Searched f clauses (slotsIn ys) r (slotsIn (front k (joined ps fs ds) ys))
-  searched-whole ps fs ds r h₁ h₂ h₃ s =
-      let parts = joined-parts k ps fs ds h₁ h₂ h₃ in
-      let lent = ap capacity copies ∙ room in
-      record {
-        reply = s .reply ∙ ap (searchReply f clauses) lent;
-        point = s .point ∙ ap (λ j. pointIn (searchReply f clauses j)) lent;
-        slots = (λ i. wholeSlots (column-front point-of k (joined ps fs ds) ys i)
-            (column-front falsified-of k (joined ps fs ds) ys i) (column-front depth-of k (joined ps fs ds) ys i))
-            ∙ (λ i. wholeSlots (over (parts .0 i) (pointsIn ys)) (over (parts .1 .0 i) (falsifiedIn ys))
-            (over (parts .1 .1 i) (depthsIn ys)))
-            ∙ slices-whole k (pointsIn ys) (falsifiedIn ys) (depthsIn ys) (take k ps) (take k fs) (take k ds)
-            (enough point-of) (enough falsified-of) (enough depth-of) (length-take-le k ps h₁)
-            (length-take-le k fs h₂) (length-take-le k ds h₃) f clauses room
-            (sym (words-whole (take k ps) (take k fs) (take k ds)) ∙ s .slots ∙ ap (searchSlices f clauses) copies);
-      }
+    -- the first n places of an array are a part of the slots filled
+    filled-first : (part : W.Slot → ℕ) (new old : List ℕ) → searchFault f clauses k ≡ no-fault
+        → take k new ≡ over (map part (searchSlots f clauses k)) (take k old)
+        → take n new ≡ map part (searchSlots f clauses k)
+    filled-first part new old h e = sym (take-take n k new fresh-few) ∙ ap (take n) e
+        ∙ over-front n (map part (searchSlots f clauses k)) (take k old)
+        (length-map (searchSlots f clauses k) part ∙ sym (ap reported told ∙ count-filled f clauses k h))
+
+    module _ (same : SameSearch f clauses k (capacity (slotsIn ys))) where
+      abbrev whole : Fault → SlotSlices
+      whole t = unlessKept t (filledWith (searchSlots f clauses (capacity (slotsIn ys))) (slotsIn ys)) (slotsIn ys)
+
+      -- n slots copied back, part by part
+      copied : (t : Fault) → searchFault f clauses k ≡ t
+          → wholeSlots (over (take n ps) (pointsIn ys)) (over (take n fs) (falsifiedIn ys))
+          (over (take n ds) (depthsIn ys)) ≡ searchSlices f clauses (slotsIn ys)
+      unfolding searchSlices unlessKept
+      copied no-fault h =
+          let e = left ∙ ap (λ t. unlessKept t (filledWith (searchSlots f clauses k) before) before) h in
+          (λ i. wholeSlots
+          (over (filled-first (λ (t : W.Slot). t .point) ps ps₀ h (λ j. e j .points) i) (pointsIn ys))
+          (over (filled-first (λ (t : W.Slot). t .falsified) fs fs₀ h (λ j. e j .falsified) i) (falsifiedIn ys))
+          (over (filled-first (λ (t : W.Slot). t .depth) ds ds₀ h (λ j. e j .depths) i) (depthsIn ys)))
+          ∙ ap (λ l. filledWith l (slotsIn ys)) (same .same-slots h)
+          ∙ ap whole (sym h ∙ same .same-fault)
+      copied (fault code place) h =
+          let none : n ≡ 0 = ap reported told ∙ count-refused f clauses k code place h in
+          (λ i. wholeSlots (over (take (none i) ps) (pointsIn ys)) (over (take (none i) fs) (falsifiedIn ys))
+          (over (take (none i) ds) (depthsIn ys)))
+          ∙ (λ i. wholeSlots (over-none (pointsIn ys) i) (over-none (falsifiedIn ys) i) (over-none (depthsIn ys) i))
+          ∙ ap whole (sym h ∙ same .same-fault)
+
+      -- W10: "Slots beyond those filled are unchanged."
+      pub searched-fresh : k ≤ length ps → k ≤ length fs → k ≤ length ds
+          → Searched f clauses (slotsIn ys) r (slotsIn (front n (joined ps fs ds) ys))
+      searched-fresh h₁ h₂ h₃ =
+          let parts = joined-parts n ps fs ds (le-trans fresh-few h₁) (le-trans fresh-few h₂)
+          (le-trans fresh-few h₃) in
+          let lent = same .same-reply in
+          record {
+            reply = told ∙ lent;
+            point = s .point ∙ ap (λ j. pointIn (searchReply f clauses j)) room ∙ ap pointIn lent;
+            slots = (λ i. wholeSlots (column-front (λ (t : Slot). t .point) n (joined ps fs ds) ys i)
+                (column-front (λ (t : Slot). t .falsified) n (joined ps fs ds) ys i)
+                (column-front (λ (t : Slot). t .depth) n (joined ps fs ds) ys i))
+                ∙ (λ i. wholeSlots (over (parts .0 i) (pointsIn ys)) (over (parts .1 .0 i) (falsifiedIn ys))
+                (over (parts .1 .1 i) (depthsIn ys)))
+                ∙ copied (searchFault f clauses k) refl;
+          }
 
 -- so the slots that `search_slots` leaves are the three lists that the search leaves, joined
 pub slots-joined : (f : Formula) (clauses : ClauseSlices) (xs zs : List Slot) (r : Found)

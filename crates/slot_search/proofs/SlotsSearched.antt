@@ -1,4 +1,5 @@
--- A call of `search_slots` in a walk: what it asks for, and what is had after it.
+-- A call of `search_slots`, or of `search_most`, which has the same contract, in a walk: what it asks for, and what is
+-- had after it.
 -- Assumes `Given`.
 use mathlib.Core.Path.{_≡_}
 use Prim.Native.Nat.{ℕ}
@@ -33,12 +34,12 @@ use Rattle.slot_columns.specs.declared.Slot.{Slot}
 use Rattle.point_slices.specs.Slices.{clauseSlices}
 use Rattle.slot_columns.specs.Slots.{slotsIn}
 use Rattle.slot_columns.proofs.Row.{R}
-use Rattle.slot_search.proofs.search_slots as search-slots
+use Rattle.slot_search.proofs.search_most as search-most
 use Rattle.slot_proofs.proofs.Lent.{at-list}
 use Rattle.slot_proofs.proofs.Called.{Does, asked, answered}
 
 abbrev pub SearchSlots : {M : Type 1} (𝓤 : URA M) (H : Heap 𝓤) (A : Atoms 𝓤) (mem : Memory → SProp 𝓤) (run : Routine → Fun 𝓤) → Contract 𝓤
-SearchSlots 𝓤 H A mem run = Does 𝓤 H A search-slots.ended (search-slots.clauses 𝓤 H A mem run)
+SearchSlots 𝓤 H A mem run = Does 𝓤 H A search-most.ended (search-most.clauses 𝓤 H A mem run)
 
 -- the arguments
 module _ (f : Formula) (wf : Val) (κ₁ κ₂ κ₃ : Lft) (q₁ q₂ q₃ : Share) (c₁ d₁ c₂ d₂ b o : ℕ) (δ₁ δ₂ γ : GName) (us vs : List ℕ) (ys : List Slot) where
@@ -56,11 +57,11 @@ module _ (f : Formula) (wf : Val) (κ₁ κ₂ κ₃ : Lft) (q₁ q₂ q₃ : Sh
       pub asks : K → Step K W (raw (SearchSlots 𝓤 H A mem run .pre bound) ∷ Γ) G (‵ (F.the-row .own f (wf ∷ [])) ∷ ‵ (ShrSlice (named 0) κ₁ u64 .own (at-list c₁ d₁ δ₁ us) (sliceVal (c₁, d₁) (length us) ∷ []))
           ∷ ‵ (ShrSlice (named 1) κ₂ u64 .own (at-list c₂ d₂ δ₂ vs) (sliceVal (c₂, d₂) (length vs) ∷ [])) ∷ ‵ (MutSlice (named 2) κ₃ R .own (at-list b o γ ys) (sliceVal (b, o) (length ys) ∷ [])) ∷ ‵ (flft κ₁ q₁) ∷ ‵ (flft κ₂ q₂) ∷ ‵ (flft κ₃ q₃) ∷ Γ) G
       asks t = step (λ s. nothing t $ move t (4 ∷ 0 ∷ []) $ fjoin t $ move t (3 ∷ 0 ∷ []) $ fjoin t $ move t (2 ∷ 0 ∷ []) $ fjoin t $ move t (1 ∷ 0 ∷ []) $ fjoin t $
-          nothing t $ move t (4 ∷ 0 ∷ []) $ join t $ move t (3 ∷ 0 ∷ []) $ join t $ move t (2 ∷ 0 ∷ []) $ join t $ asked search-slots.ended (search-slots.clauses 𝓤 H A mem run) bound (tokens 𝓤) t (id⊢ 𝓤 _) (id⊢ 𝓤 _) $ s)
+          nothing t $ move t (4 ∷ 0 ∷ []) $ join t $ move t (3 ∷ 0 ∷ []) $ join t $ move t (2 ∷ 0 ∷ []) $ join t $ asked search-most.ended (search-most.clauses 𝓤 H A mem run) bound (tokens 𝓤) t (id⊢ 𝓤 _) (id⊢ 𝓤 _) $ s)
 
       pub has : K → Soaks G → (w : Val) → ((r : Found) (zs : List Slot) → T (hasTy O′.mir w) × WT w → length zs ≡ length ys → Searches r zs
           → Seq K W (‵ (O.the-row .own r (w ∷ [])) ∷ ‵ (finally R γ zs) ∷ ‵ (flft κ₁ q₁) ∷ ‵ (flft κ₂ q₂) ∷ ‵ (flft κ₃ q₃) ∷ Γ) G) → Seq K W (raw (SearchSlots 𝓤 H A mem run .post bound w) ∷ Γ) G
-      has t a w goes-on = answered search-slots.ended (search-slots.clauses 𝓤 H A mem run) bound (tokens 𝓤) t a w (id⊢ 𝓤 _) (λ r zs.
+      has t a w goes-on = answered search-most.ended (search-most.clauses 𝓤 H A mem run) bound (tokens 𝓤) t a w (id⊢ 𝓤 _) (λ r zs.
           -- [the tokens; the answer; the last lists; what it is]
           move t (3 ∷ []) $ heard t (Searches r (zs .1 .1 .1 .0)) (λ returned. split t $ move t (1 ∷ []) $ split t $ move t (1 ∷ []) $ split t $ move t (1 ∷ []) $ drop t $
           -- [slots' token; negative's; positive's; the answer; the last lists]
