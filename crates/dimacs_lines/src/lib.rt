@@ -383,7 +383,8 @@ fn tiny_clauses(
     negative: &mut [u64],
     images: &mut [u8],
 ) -> Told
-    requires { ⌜ Collectable sizes (clauseSlices (now positive) (now negative)) (now text) end (now images) × (sizes .total ≤ tinyClauses) ⌝ }
+    requires { ⌜ Collectable sizes (clauseSlices (now positive) (now negative)) (now text) end (now images)
+        × (sizes .total ≤ tinyClauses) ⌝ }
     ensures { λ r. ⌜ ParsedAs (textSays (length (now (text .entry))) sizes (linesBehind (now (text .entry)) end))
         (clauseSlices (now (positive .entry)) (now (negative .entry))) (parsedWith sizes r (now (images .exit)))
         (clauseSlices (now (positive .exit)) (now (negative .exit))) ⌝ }
@@ -402,7 +403,8 @@ fn few_clauses(
     negative: &mut [u64],
     images: &mut [u8],
 ) -> Told
-    requires { ⌜ Collectable sizes (clauseSlices (now positive) (now negative)) (now text) end (now images) × (sizes .total ≤ fewClauses) ⌝ }
+    requires { ⌜ Collectable sizes (clauseSlices (now positive) (now negative)) (now text) end (now images)
+        × (sizes .total ≤ fewClauses) ⌝ }
     ensures { λ r. ⌜ ParsedAs (textSays (length (now (text .entry))) sizes (linesBehind (now (text .entry)) end))
         (clauseSlices (now (positive .entry)) (now (negative .entry))) (parsedWith sizes r (now (images .exit)))
         (clauseSlices (now (positive .exit)) (now (negative .exit))) ⌝ }
@@ -421,7 +423,8 @@ fn some_clauses(
     negative: &mut [u64],
     images: &mut [u8],
 ) -> Told
-    requires { ⌜ Collectable sizes (clauseSlices (now positive) (now negative)) (now text) end (now images) × (sizes .total ≤ someClauses) ⌝ }
+    requires { ⌜ Collectable sizes (clauseSlices (now positive) (now negative)) (now text) end (now images)
+        × (sizes .total ≤ someClauses) ⌝ }
     ensures { λ r. ⌜ ParsedAs (textSays (length (now (text .entry))) sizes (linesBehind (now (text .entry)) end))
         (clauseSlices (now (positive .entry)) (now (negative .entry))) (parsedWith sizes r (now (images .exit)))
         (clauseSlices (now (positive .exit)) (now (negative .exit))) ⌝ }
