@@ -43,14 +43,14 @@ fn ordinary() -> Vec<u64> {
     files::random(88172645463325252).take(POINTS / 2).map(|x| x % FIRST | FIRST).collect()
 }
 
-// The same number, hostile: a tree's points have their flips in the next tree.
+// The same number, hostile: in trees so far apart that a flip of variable 64, which moves a point by half of the trees,
+// leads from one of them to another.
 fn chosen() -> Vec<u64> {
-    let mut wanted = vec![TREES; HEADS as usize];
-    (0..TREES).for_each(|k| wanted[k * tree(TOP) % HEADS as usize] = k);
+    let apart = HEADS as usize / TREES;
     let mut found = vec![Vec::new(); TREES];
     for x in (0..1u64 << 31).map(|c| c << SHARED | FIRST) {
-        let k = wanted[tree(x)];
-        if k < TREES && tree(x ^ TOP) == (k + 1) * tree(TOP) % HEADS as usize && found[k].len() < POINTS / 2 / TREES {
+        let k = tree(x) / apart;
+        if tree(x) % apart == 0 && found[k].len() < POINTS / 2 / TREES {
             found[k].push(x);
         }
     }
