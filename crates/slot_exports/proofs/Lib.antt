@@ -1,3 +1,2 @@
 pub mod FormulaMade
-pub mod SlotsWritten
 pub mod WordsPut

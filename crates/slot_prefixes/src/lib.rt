@@ -1,8 +1,9 @@
-// The search and the writer on the first places of three slices, which functions over a slice of slots call on their
-// copies.
+// The search and the writer on the first places of three slices, which functions over a slice of slots call on arrays
+// of their own, and what those read of the answers.
 use certificate_writer::Written;
 use certificate_writer::write;
 use formula::Formula;
+use point_slices::least;
 use points::Depth;
 use search::Found;
 use search::Outcome;
@@ -16,9 +17,9 @@ ghost use Rattle.certificate_writer.specs.Contract.{Wrote};
 ghost use Rattle.slot_columns.specs.Laws.Copies.{Within};
 ghost use Rattle.search.specs.Contract.{replyOfFound, Searched};
 ghost use Rattle.search_theory.specs.Laws.Promised.{reported};
-ghost use Rattle.slot_prefixes.specs.Laws.PrefixLaws.{noRoom};
+ghost use Rattle.slot_prefixes.specs.Laws.PrefixLaws.{noRoom, taken, bytesIn};
 
-// How many places the copies have: one for each slot that a search or a certificate can use.
+// How many places such arrays have at most: one for each slot that a search or a certificate can use.
 pub const PLACES: usize = Formula::MAX_SLOTS as usize;
 
 // The search on the first k places of three slices.
@@ -98,5 +99,24 @@ pub fn outgrown(r: Found, k: usize, lent: usize) -> bool
         Outcome::Unsatisfiable { filled } => false,
         Outcome::Unknown { bound, filled } => k < lent,
         Outcome::Refused { code, place } => false,
+    }
+}
+
+// How many slots a certificate is made of: those filled. Where fewer are lent it is none, since refusal 16 then looks at
+// no slot.
+pub fn slots_taken(filled: u32, lent: usize) -> usize
+    ensures { λ k. ⌜ k ≡ taken filled lent ⌝ }
+{
+    let many = filled as usize;
+    if many <= least(PLACES, lent) { many } else { 0 }
+}
+
+// How many bytes a writer says that it put out; none where it refused.
+pub fn bytes(r: Written) -> usize
+    ensures { λ n. ⌜ n ≡ bytesIn r ⌝ }
+{
+    match r {
+        Written::Bytes(size) => size,
+        Written::Refused { code, place } => 0,
     }
 }

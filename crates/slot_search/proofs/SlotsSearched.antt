@@ -1,6 +1,5 @@
 -- A call of `search_slots`, or of `search_most`, which has the same contract, in a walk: what it asks for, and what is
--- had after it.
--- Assumes `Given`.
+-- had after it. Assumes `Given`.
 use mathlib.Core.Path.{_≡_}
 use Prim.Native.Nat.{ℕ}
 use mathlib.Core.List.{List, [], _∷_}

@@ -1,1 +1,5 @@
+pub mod Copied
+pub mod SlotsWritten
+pub mod TakenCalled
+pub mod Writing
 pub mod WrittenPrefix

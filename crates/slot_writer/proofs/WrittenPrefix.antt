@@ -1,5 +1,5 @@
--- A call of `write_prefix` in a walk, on four slices that are lent for it, and on two that the caller has: what it asks
--- for, and what is had after it. Assumes `Given`.
+-- A call of `write_prefix` in a walk, on three slices that are lent for it, and on three that the caller has: what it
+-- asks for, and what is had after it. Assumes `Given`.
 use mathlib.Core.Path.{_≡_, refl}
 use Prim.Native.Nat.{ℕ, _<_, _^_}
 use mathlib.Core.List.{List, [], _∷_}
@@ -48,7 +48,7 @@ module _ {M : Type 1} (𝓤 : URA M) (H : Heap 𝓤) (A : Atoms 𝓤) (W : Given
   written-typed r w g = EL.lawful O.the-type O′.the-laws 𝓤 H A W tt .typed r (w ∷ []) g .0
 
 -- the arguments
-module _ (f : Formula) (us vs : List ℕ) (κ₀ κ₁ : Lft) (q₀ q₁ : Share) (c₀ d₀ c₁ d₁ : ℕ) (δ₀ δ₁ : GName) (b₁ o₁ b₂ o₂ b₃ o₃ : ℕ) (γ₁ γ₂ γ₃ : GName) (ps fs ds : List ℕ) (k n : ℕ) (ν₁ ν₂ ν₃ : ℕ) (filled : ℕ) (b₄ o₄ : ℕ) (γ₄ : GName) (os : List ℕ) (ν₄ : ℕ) where
+module _ (f : Formula) (us vs : List ℕ) (κ₀ κ₁ : Lft) (q₀ q₁ : Share) (c₀ d₀ c₁ d₁ : ℕ) (δ₀ δ₁ : GName) (b₁ o₁ b₂ o₂ b₃ o₃ : ℕ) (γ₁ γ₂ γ₃ : GName) (ps fs ds : List ℕ) (k n : ℕ) (ν₁ ν₂ ν₃ : ℕ) (filled : ℕ) (b₄ o₄ : ℕ) (γ₄ : GName) (os : List ℕ) (κ₄ : Lft) (q₄ : Share) where
   abbrev Arg : Type 0
   Arg = Formula × (RefT (List ℕ) × (RefT (List ℕ) × (RefT (List ℕ) × (RefT (List ℕ) × (RefT (List ℕ) × (ℕ × (ℕ × (RefT (List ℕ) × Unit {0}))))))))
 
@@ -62,11 +62,11 @@ module _ (f : Formula) (us vs : List ℕ) (κ₀ κ₁ : Lft) (q₀ q₁ : Share
   Writes r os′ = Wrote f (clauseSlices us vs) (slotSlices (take k ps) (take k fs) (take k ds)) filled os r os′
 
   abbrev tokens : {M : Type 1} (𝓤 : URA M) → Item 𝓤
-  tokens 𝓤 = ‵ (flft κ₀ q₀) ⊛ (‵ (flft κ₁ q₁) ⊛ (‵ (flft (ν₁ ∷ []) fullShare) ⊛ (‵ (flft (ν₂ ∷ []) fullShare) ⊛ (‵ (flft (ν₃ ∷ []) fullShare) ⊛ (‵ (flft (ν₄ ∷ []) fullShare) ⊛ ‵ ftrue)))))
+  tokens 𝓤 = ‵ (flft κ₀ q₀) ⊛ (‵ (flft κ₁ q₁) ⊛ (‵ (flft (ν₁ ∷ []) fullShare) ⊛ (‵ (flft (ν₂ ∷ []) fullShare) ⊛ (‵ (flft (ν₃ ∷ []) fullShare) ⊛ (‵ (flft κ₄ q₄) ⊛ ‵ ftrue)))))
 
   module _ {M : Type 1} (𝓤 : URA M) (H : Heap 𝓤) (A : Atoms 𝓤) (mem : Memory → SProp 𝓤) (run : Routine → Fun 𝓤) where
     abbrev pub bound : WriteFront 𝓤 H A mem run .Ghost
-    bound = (((κ₀, (κ₁, (ν₁ ∷ [], (ν₂ ∷ [], (ν₃ ∷ [], (ν₄ ∷ [], tt)))))), (q₀, (q₁, (fullShare, (fullShare, (fullShare, (fullShare, tt)))))), tt, x, at), tt)
+    bound = (((κ₀, (κ₁, (ν₁ ∷ [], (ν₂ ∷ [], (ν₃ ∷ [], (κ₄, tt)))))), (q₀, (q₁, (fullShare, (fullShare, (fullShare, (q₄, tt)))))), tt, x, at), tt)
 
     module _ {K : Type 0} (W : Given 𝓤 H A) {Γ : List (Item 𝓤)} {G : Goal 𝓤 H} where
       pub asks : K → Is F.the-row f (formula-val f ∷ []) → k < 2 ^ 64 → filled < 2 ^ 32 → Within k k (length ps) (length fs) (length ds) → Step K W (raw (WriteFront 𝓤 H A mem run .pre bound) ∷ Γ) G
@@ -74,7 +74,7 @@ module _ (f : Formula) (us vs : List ℕ) (κ₀ κ₁ : Lft) (q₀ q₁ : Share
           ∷ ‵ (ShrSlice (named 2) (ν₁ ∷ []) u64 .own (x .1 .1 .1 .0) (at .1 .1 .1 .0)) ∷ ‵ (flft (ν₁ ∷ []) fullShare)
           ∷ ‵ (ShrSlice (named 3) (ν₂ ∷ []) u32 .own (x .1 .1 .1 .1 .0) (at .1 .1 .1 .1 .0)) ∷ ‵ (flft (ν₂ ∷ []) fullShare)
           ∷ ‵ (ShrSlice (named 4) (ν₃ ∷ []) u32 .own (x .1 .1 .1 .1 .1 .0) (at .1 .1 .1 .1 .1 .0)) ∷ ‵ (flft (ν₃ ∷ []) fullShare)
-          ∷ ‵ (MutSlice (named 5) (ν₄ ∷ []) u8 .own (x .1 .1 .1 .1 .1 .1 .1 .1 .0) (at .1 .1 .1 .1 .1 .1 .1 .1 .0)) ∷ ‵ (flft (ν₄ ∷ []) fullShare) ∷ Γ) G
+          ∷ ‵ (MutSlice (named 5) κ₄ u8 .own (x .1 .1 .1 .1 .1 .1 .1 .1 .0) (at .1 .1 .1 .1 .1 .1 .1 .1 .0)) ∷ ‵ (flft κ₄ q₄) ∷ Γ) G
       asks t gf gk gc within = step (λ s. nothing t $ move t (12 ∷ 0 ∷ []) $ join t $ move t (10 ∷ 0 ∷ []) $ join t $ move t (8 ∷ 0 ∷ []) $ join t $ move t (6 ∷ 0 ∷ []) $ join t $ move t (4 ∷ 0 ∷ []) $ join t $ move t (2 ∷ 0 ∷ []) $ join t $
           -- [the tokens; positive; negative; points; falsified; depths; out]
           nothing t $ move t (7 ∷ 0 ∷ []) $ fjoin t $ owned t u32 (Is u32) (uint-makes 𝓤 H A W w32) filled (vint w32 filled ∷ []) (refl, gc) $ fjoin t $ owned t usize (Is usize) (uint-makes 𝓤 H A W w64) k (vint w64 k ∷ []) (refl, gk) $ fjoin t $
@@ -83,7 +83,7 @@ module _ (f : Formula) (us vs : List ℕ) (κ₀ κ₁ : Lft) (q₀ q₁ : Share
           asked write-prefix.ended (write-prefix.clauses 𝓤 H A mem run) bound (tokens 𝓤) t (id⊢ 𝓤 _) (factI 𝓤 (Within k k (length ps) (length fs) (length ds)) (emp 𝓤) within) $ s)
 
       pub has : K → Soaks G → (w : Val) → ((r : Written) (os′ : List ℕ) → length os′ ≡ length os → Writes r os′
-          → Seq K W (‵ (flft κ₀ q₀) ∷ ‵ (flft κ₁ q₁) ∷ ‵ (flft (ν₁ ∷ []) fullShare) ∷ ‵ (flft (ν₂ ∷ []) fullShare) ∷ ‵ (flft (ν₃ ∷ []) fullShare) ∷ ‵ (flft (ν₄ ∷ []) fullShare)
+          → Seq K W (‵ (flft κ₀ q₀) ∷ ‵ (flft κ₁ q₁) ∷ ‵ (flft (ν₁ ∷ []) fullShare) ∷ ‵ (flft (ν₂ ∷ []) fullShare) ∷ ‵ (flft (ν₃ ∷ []) fullShare) ∷ ‵ (flft κ₄ q₄)
           ∷ ‵ (finally u8 γ₄ os′) ∷ ‵ (O.the-row .own r (w ∷ [])) ∷ Γ) G) → Seq K W (raw (WriteFront 𝓤 H A mem run .post bound w) ∷ Γ) G
       has t a w goes-on = answered write-prefix.ended (write-prefix.clauses 𝓤 H A mem run) bound (tokens 𝓤) t a w (id⊢ 𝓤 _) (λ r zs.
           -- [the tokens; the result; the last lists; what they are]

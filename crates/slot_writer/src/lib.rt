@@ -1,18 +1,61 @@
 // The writer with the slots in one lent slice of structs (F9), a thin function over the writer on three slices.
 use certificate_writer::Written;
 use formula::Formula;
-use point_slices::least;
 use points::Depth;
 use slot_columns::Slot;
 use slot_columns::copy_out;
 use slot_prefixes::PLACES;
+use slot_prefixes::bytes;
+use slot_prefixes::slots_taken;
 use slot_prefixes::write_prefix;
 ghost use Rattle.point_slices.specs.Slices.{clauseSlices};
 ghost use Rattle.certificate_writer.specs.Contract.{Wrote};
 ghost use Rattle.slot_columns.specs.Slots.{slotsIn};
+ghost use Rattle.slot_writer.specs.Laws.Contracts.{WroteSlots};
+
+// For how many slots the smaller arrays are.
+const FEW_PLACES: usize = 1024;
+
+// The same with arrays for as many slots as there can be, 1 MiB of the stack: one step for each of their places, which is
+// made 0, and one for each slot taken, which is copied. No certificate is longer than the output, so it never calls
+// itself: the call keeps a compiler from putting these arrays into its caller.
+fn write_most(
+    f: Formula,
+    positive: &[u64],
+    negative: &[u64],
+    slots: &[Slot],
+    filled: u32,
+    out: &mut [u8],
+) -> Written
+    ensures { λ r. ⌜ WroteSlots f (clauseSlices (now (positive .entry)) (now (negative .entry))) (now (slots .entry))
+        filled (now (out .entry)) r (now (out .exit)) ⌝ }
+{
+    let mut points = [0u64; PLACES];
+    let mut falsified = [0u32; PLACES];
+    let mut depths: [Depth; PLACES] = [0; PLACES];
+    let k = slots_taken(filled, slots.len());
+    copy_out(slots, k, &mut points, &mut falsified, &mut depths);
+    let r = write_prefix(
+        f,
+        positive,
+        negative,
+        &points,
+        &falsified,
+        &depths,
+        k,
+        filled,
+        out,
+    );
+    let size = bytes(r);
+    if out.len() < size {
+        return write_most(f, positive, negative, slots, filled, out);
+    }
+    r
+}
 
 // D2.4: writes the certificate of the formula and of the first `filled` slots of one lent slice, by the definition of
-// `certificate_writer::write`.
+// `certificate_writer::write`. It copies those slots, one step each, and looks at no other; where they are few the
+// arrays for the copies have 16 KiB of the stack.
 pub fn write_slots(
     f: Formula,
     positive: &[u64],
@@ -24,11 +67,14 @@ pub fn write_slots(
     ensures { λ r. ⌜ Wrote f (clauseSlices (now (positive .entry)) (now (negative .entry)))
         (slotsIn (now (slots .entry))) filled (now (out .entry)) r (now (out .exit)) ⌝ }
 {
-    let mut points = [0u64; PLACES];
-    let mut falsified = [0u32; PLACES];
-    let mut depths: [Depth; PLACES] = [0; PLACES];
-    let k = least(PLACES, slots.len());
-    copy_out(slots, k, &mut points, &mut falsified, &mut depths);
+    let count = slots_taken(filled, slots.len());
+    if FEW_PLACES < count {
+        return write_most(f, positive, negative, slots, filled, out);
+    }
+    let mut points = [0u64; FEW_PLACES];
+    let mut falsified = [0u32; FEW_PLACES];
+    let mut depths: [Depth; FEW_PLACES] = [0; FEW_PLACES];
+    copy_out(slots, count, &mut points, &mut falsified, &mut depths);
     write_prefix(
         f,
         positive,
@@ -36,7 +82,7 @@ pub fn write_slots(
         &points,
         &falsified,
         &depths,
-        k,
+        count,
         filled,
         out,
     )

@@ -1,13 +1,21 @@
--- The search on the fronts of longer lists, and what its answer says of their room. Assumes nothing.
-use mathlib.Core.Bool.{Bool, true, false}
+-- The search on the fronts of longer lists, what its answer says of their room, and what a certificate takes: slots,
+-- and bytes. Assumes nothing.
+use mathlib.Core.Bool.{Bool, true, false, cond}
 use mathlib.Core.List.{List, _++_}
-use mathlib.Core.Path.{_≡_, _∙_}
-use Prim.Native.Nat.{ℕ}
+use mathlib.Core.Path.{_≡_, refl, sym, ap, _∙_}
+use Prim.Native.Nat.{ℕ, _≤_, _<_, min, zero-le}
+use native.Mathlib.Nat.{le-refl}
+use native.Mathlib.Omega.{arith}
+use lib.Dec.{leb}
 use lib.ListN.{length, take}
 use lib.Seq.{take-at}
+use borrow.Author.Tests.{leb-true, leb-false, le-leb, lt-leb}
 use Rattle.point_slices.specs.Slices.{ClauseSlices, SlotSlices, slotSlices}
 use Rattle.formula.specs.declared.Formula.{Formula}
+use Rattle.formula.specs.Limits.{maxSlots}
 use Rattle.formula.specs.Reply.{Reply, refused, satisfiable, unsatisfiable, unknown, parsed, written, opened, accepted}
+use Rattle.certificate_writer.specs.declared.Written.{Written}
+use Rattle.certificate_writer.specs.declared.Written.the-variants.{Bytes, Refused}
 use Rattle.search.specs.declared.Found.{Found}
 use Rattle.search.specs.Contract.{Searched}
 
@@ -21,6 +29,46 @@ noRoom parsed = false
 noRoom (written size) = false
 noRoom opened = false
 noRoom accepted = false
+
+-- the bytes of the certificate that was written
+abbrev pub bytesIn : Written → ℕ
+bytesIn (Bytes size) = size
+bytesIn (Refused code place) = 0
+
+-- R16: as many slots as are filled, or none where that is more than can be used of those lent
+unfoldable pub taken : ℕ → ℕ → ℕ
+taken filled lent = cond (leb filled (min maxSlots lent)) filled 0
+
+-- what is taken, by how many can be used
+pub taken-all : (filled lent m : ℕ) → m ≡ min maxSlots lent → filled ≤ m → filled ≡ taken filled lent
+unfolding taken
+taken-all filled lent m e h = sym (ap (λ b. cond b filled 0) (ap (leb filled) (sym e) ∙ le-leb filled m h))
+
+pub taken-none : (filled lent m : ℕ) → m ≡ min maxSlots lent → m < filled → 0 ≡ taken filled lent
+unfolding taken
+taken-none filled lent m e h = sym (ap (λ b. cond b filled 0) (ap (leb filled) (sym e) ∙ lt-leb filled m h))
+
+-- so it is lent, and it is enough where what can be used is
+pub record Takes (filled lent k : ℕ) : Type 0 where
+  pub taken-used : k ≤ min maxSlots lent
+  pub taken-enough : leb filled k ≡ leb filled (min maxSlots lent)
+
+pub taken-takes : (filled lent : ℕ) → Takes filled lent (taken filled lent)
+unfolding taken
+taken-takes filled lent = by (leb filled (min maxSlots lent)) refl
+  where
+    by : (b : Bool) → leb filled (min maxSlots lent) ≡ b → Takes filled lent (cond b filled 0)
+    by true e =
+        record {
+          taken-used = leb-true filled (min maxSlots lent) e;
+          taken-enough = le-leb filled filled (le-refl filled) ∙ sym e;
+        }
+    by false e =
+        let l = leb-false filled (min maxSlots lent) e in
+        record {
+          taken-used = zero-le;
+          taken-enough = lt-leb filled 0 (let z : 0 < filled = omega (arith, l) in z) ∙ sym e;
+        }
 
 -- three lists that the search leaves are the fronts of longer ones
 pub searched-fronts : (k : ℕ) (f : Formula) (clauses : ClauseSlices) (slots₀ : SlotSlices) (r : Found)

@@ -1,6 +1,6 @@
 -- `slot_search::search_most` meets its contract: a walk of its MIR, by hand. Each of the three local arrays is a row in
 -- memory that is lent to the calls, for a lifetime of the call's own, and is back after it; the slots' borrow is opened
--- for the call that copies back. Assumes nothing.
+-- for the call that copies back. It never calls itself, so no measure is asked for. Assumes nothing.
 use mathlib.Core.Path.{refl, sym, _∙_, ap, subst}
 use Prim.Native.Nat.{ℕ, _≤_}
 use native.Mathlib.Nat.{le-refl}

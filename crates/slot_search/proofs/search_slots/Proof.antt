@@ -1,6 +1,6 @@
--- `slot_search::search_slots` meets its contract: a walk of its MIR, by hand. Each of the three local arrays is a row in
--- memory that is lent to the calls, for a lifetime of the call's own, and is back after it. Where they were too few the
--- slots are handed on to `search_most`; else their borrow is opened for the call that copies back. Assumes nothing.
+-- `slot_search::search_slots` meets its contract: a walk of its MIR, by hand. Each of the three local arrays is a row
+-- in memory that is lent to the calls, for a lifetime of the call's own, and is back after it. Where they were too few
+-- the slots are handed on to `search_most`; else their borrow is opened for the call that copies back. Assumes nothing.
 use mathlib.Core.Path.{_≡_, refl, sym, _∙_, ap, subst}
 use Prim.Native.Nat.{ℕ, _≤_}
 use native.Mathlib.Nat.{le-trans}

@@ -1,5 +1,5 @@
--- A call of `write_slots` in a walk: what it asks for, and what is had after it.
--- Assumes `Given`.
+-- A call of `write_slots`, or of `write_most`, which has the same contract, in a walk: what it asks for, and what is
+-- had after it. Assumes `Given`.
 use mathlib.Core.Path.{_≡_, refl}
 use Prim.Native.Nat.{ℕ, _<_, _^_}
 use mathlib.Core.List.{List, [], _∷_}
@@ -34,12 +34,12 @@ use Rattle.slot_columns.specs.declared.Slot.{Slot}
 use Rattle.point_slices.specs.Slices.{clauseSlices}
 use Rattle.slot_columns.specs.Slots.{slotsIn}
 use Rattle.slot_columns.proofs.Row.{R}
-use Rattle.slot_writer.proofs.write_slots as write-slots
+use Rattle.slot_writer.proofs.write_most as write-most
 use Rattle.slot_proofs.proofs.Lent.{at-list}
 use Rattle.slot_proofs.proofs.Called.{Does, asked, answered}
 
 abbrev pub WriteSlots : {M : Type 1} (𝓤 : URA M) (H : Heap 𝓤) (A : Atoms 𝓤) (mem : Memory → SProp 𝓤) (run : Routine → Fun 𝓤) → Contract 𝓤
-WriteSlots 𝓤 H A mem run = Does 𝓤 H A write-slots.ended (write-slots.clauses 𝓤 H A mem run)
+WriteSlots 𝓤 H A mem run = Does 𝓤 H A write-most.ended (write-most.clauses 𝓤 H A mem run)
 
 -- the arguments
 module _ (f : Formula) (wf : Val) (κ₁ κ₂ κ₃ κ₄ : Lft) (q₁ q₂ q₃ q₄ : Share) (c₁ d₁ c₂ d₂ b o b₄ o₄ : ℕ) (δ₁ δ₂ γ δ₄ : GName) (us vs : List ℕ) (ys : List Slot) (filled : ℕ) (os : List ℕ) where
@@ -59,11 +59,11 @@ module _ (f : Formula) (wf : Val) (κ₁ κ₂ κ₃ κ₄ : Lft) (q₁ q₂ q�
           ∷ ‵ (flft κ₁ q₁) ∷ ‵ (flft κ₂ q₂) ∷ ‵ (flft κ₃ q₃) ∷ ‵ (flft κ₄ q₄) ∷ Γ) G
       asks t gc = step (λ s. nothing t $ move t (5 ∷ 0 ∷ []) $ fjoin t $ owned t u32 (Is u32) (uint-makes 𝓤 H A W w32) filled (vint w32 filled ∷ []) (refl, gc) $ fjoin t $ move t (4 ∷ 0 ∷ []) $ fjoin t $ move t (3 ∷ 0 ∷ []) $ fjoin t $
           move t (2 ∷ 0 ∷ []) $ fjoin t $ move t (1 ∷ 0 ∷ []) $ fjoin t $ nothing t $ move t (5 ∷ 0 ∷ []) $ join t $ move t (4 ∷ 0 ∷ []) $ join t $ move t (3 ∷ 0 ∷ []) $ join t $ move t (2 ∷ 0 ∷ []) $ join t $
-          asked write-slots.ended (write-slots.clauses 𝓤 H A mem run) bound (tokens 𝓤) t (id⊢ 𝓤 _) (id⊢ 𝓤 _) $ s)
+          asked write-most.ended (write-most.clauses 𝓤 H A mem run) bound (tokens 𝓤) t (id⊢ 𝓤 _) (id⊢ 𝓤 _) $ s)
 
       pub has : K → Soaks G → (w : Val) → ((r : Written) (zs : List ℕ) → T (hasTy O′.mir w) × WT w → length zs ≡ length os → Writes r zs
           → Seq K W (‵ (O.the-row .own r (w ∷ [])) ∷ ‵ (finally u8 δ₄ zs) ∷ ‵ (flft κ₁ q₁) ∷ ‵ (flft κ₂ q₂) ∷ ‵ (flft κ₃ q₃) ∷ ‵ (flft κ₄ q₄) ∷ Γ) G) → Seq K W (raw (WriteSlots 𝓤 H A mem run .post bound w) ∷ Γ) G
-      has t a w goes-on = answered write-slots.ended (write-slots.clauses 𝓤 H A mem run) bound (tokens 𝓤) t a w (id⊢ 𝓤 _) (λ r zs.
+      has t a w goes-on = answered write-most.ended (write-most.clauses 𝓤 H A mem run) bound (tokens 𝓤) t a w (id⊢ 𝓤 _) (λ r zs.
           -- [the tokens; the answer; the last lists; what it is]
           move t (3 ∷ []) $ heard t (Writes r (zs .1 .1 .1 .1 .1 .0)) (λ returned. split t $ move t (1 ∷ []) $ split t $ move t (1 ∷ []) $ split t $ move t (1 ∷ []) $ split t $ move t (1 ∷ []) $ drop t $
           -- [out's token; slots'; negative's; positive's; the answer; the last lists]
