@@ -33,7 +33,9 @@
  * yes.
  *
  * No function keeps anything between calls or uses memory but the stack. A call takes less of it than stands at its
- * function, all that it calls included, so never 2 MiB; benches/run measures how much. */
+ * function, all that it calls included: first on small inputs, that is texts and formulas of up to 256 clauses,
+ * searches that fill up to 256 slots and certificates of up to 1,024 points, then on any. So it is never 2 MiB;
+ * benches/run measures both. */
 #ifndef JUGBOWO_H
 #define JUGBOWO_H
 
@@ -60,7 +62,7 @@ enum {
 /* Reads a DIMACS text. Takes the text; leaves the clauses in the first places of `positive` and `negative`, the
  * formula's four numbers (variables, clauses, target, permutations) in the first four words of `numbers`, its images
  * in the first 1,024 bytes of `images`, the answer in the first four words of `reply`: refusals 1 to 9, or parsed.
- * After a refusal clause slices, numbers and images are as they were. Stack: 96 KiB. */
+ * After a refusal clause slices, numbers and images are as they were. Stack: 12 KiB, 96 KiB. */
 uint32_t jugbowo_read(const uint8_t *text, size_t text_len,
                       uint64_t *positive, size_t positive_len,
                       uint64_t *negative, size_t negative_len,
@@ -71,7 +73,7 @@ uint32_t jugbowo_read(const uint8_t *text, size_t text_len,
 /* Searches from the target for the nearest satisfying point. Takes a formula with exactly `clauses` places in both
  * clause slices; fills slots from the front of the three slot slices, of which the shortest counts, at most 65,536.
  * Slots beyond those filled are left alone. Answers: refusals 10 to 13, satisfiable, unsatisfiable or unknown. Stack:
- * 1 MiB. */
+ * 24 KiB, 1 MiB. */
 uint32_t jugbowo_search(uint32_t variables, uint32_t clauses, uint64_t target, uint32_t permutations,
                         const uint8_t *images, size_t images_len,
                         const uint64_t *positive, size_t positive_len,
@@ -83,7 +85,7 @@ uint32_t jugbowo_search(uint32_t variables, uint32_t clauses, uint64_t target, u
 
 /* Writes the certificate of the first `filled` slots. Takes the same formula and clauses and the slots as a search
  * left them; leaves the certificate at the front of `out` and the bytes behind it alone. Answers: refusals 10, 11,
- * 12, 16, 17, 19 (with the bytes needed), or written. Stack: 1 MiB. */
+ * 12, 16, 17, 19 (with the bytes needed), or written. Stack: 24 KiB, 1 MiB. */
 uint32_t jugbowo_write(uint32_t variables, uint32_t clauses, uint64_t target, uint32_t permutations,
                        const uint8_t *images, size_t images_len,
                        const uint64_t *positive, size_t positive_len,
@@ -104,7 +106,7 @@ struct jugbowo_slot {
 };
 
 /* The search with its slots in one slice of structs instead of three slices: the same answers, and the same slots. It
- * works on copies of them. Stack: 2 MiB. */
+ * works on arrays of its own and copies back the slots filled. Stack: 24 KiB, 2 MiB. */
 uint32_t jugbowo_search_slots(uint32_t variables, uint32_t clauses, uint64_t target, uint32_t permutations,
                               const uint8_t *images, size_t images_len,
                               const uint64_t *positive, size_t positive_len,
@@ -112,7 +114,7 @@ uint32_t jugbowo_search_slots(uint32_t variables, uint32_t clauses, uint64_t tar
                               struct jugbowo_slot *slots, size_t slots_len,
                               uint64_t *reply, size_t reply_len);
 
-/* The writer from such a slice: the same answers, and the same certificate. Stack: 2 MiB. */
+/* The writer from such a slice: the same answers, and the same certificate. Stack: 40 KiB, 2 MiB. */
 uint32_t jugbowo_write_slots(uint32_t variables, uint32_t clauses, uint64_t target, uint32_t permutations,
                              const uint8_t *images, size_t images_len,
                              const uint64_t *positive, size_t positive_len,
@@ -123,7 +125,8 @@ uint32_t jugbowo_write_slots(uint32_t variables, uint32_t clauses, uint64_t targ
                              uint64_t *reply, size_t reply_len);
 
 /* Checks a certificate for the clauses of a formula, whose target and permutations it does not look at. Changes
- * nothing but `reply`. Answers: refusals 10, 14, 15, 11, 12, 16, 17, 18 in this order, or accepted. Stack: 2 MiB. */
+ * nothing but `reply`. Answers: refusals 10, 14, 15, 11, 12, 16, 17, 18 in this order, or accepted. Stack: 32 KiB,
+ * 2 MiB. */
 uint32_t jugbowo_check(uint32_t variables, uint32_t clauses, uint64_t target, uint32_t permutations,
                        const uint8_t *images, size_t images_len,
                        const uint64_t *positive, size_t positive_len,
@@ -132,14 +135,15 @@ uint32_t jugbowo_check(uint32_t variables, uint32_t clauses, uint64_t target, ui
                        uint64_t *reply, size_t reply_len);
 
 /* Reads a certificate's contents without checking it: the eight numbers of its first 32 bytes, in their order, to the
- * first eight words of `contents`, which a refusal leaves alone. Answers: refusal 14, or opened. Stack: 4 KiB. */
+ * first eight words of `contents`, which a refusal leaves alone. Answers: refusal 14, or opened. Stack:
+ * always 4 KiB. */
 uint32_t jugbowo_open(const uint8_t *file, size_t file_len,
                       uint64_t *contents, size_t contents_len,
                       uint64_t *reply, size_t reply_len);
 
 /* One entry of a body of a certificate, which is lent as its own part of the file: where permutation j, of n bytes
  * each, sends variable i + 1; point i; clause number i. Indices count from 0. Two words of `reply`: 1 and the value,
- * or 0 and 0 where the entry lies outside the body. Stack: 4 KiB. */
+ * or 0 and 0 where the entry lies outside the body. Stack: always 4 KiB. */
 uint32_t jugbowo_image_at(const uint8_t *body, size_t body_len, size_t n, size_t j, size_t i, uint64_t *reply,
                           size_t reply_len);
 uint32_t jugbowo_point_at(const uint8_t *body, size_t body_len, size_t i, uint64_t *reply, size_t reply_len);
@@ -147,7 +151,8 @@ uint32_t jugbowo_number_at(const uint8_t *body, size_t body_len, size_t i, uint6
 
 /* Reads a text, searches and, where no point satisfies the clauses, writes and checks the certificate. Takes the
  * text; fills slots as the search does, and leaves a certificate at the front of `out`. Answers: refusals 1 to 3 and
- * 5 to 9 of the reader, 12 and 13 of the search, satisfiable, unknown, certified or uncertified. Stack: 2 MiB. */
+ * 5 to 9 of the reader, 12 and 13 of the search, satisfiable, unknown, certified or uncertified. Stack: 40 KiB,
+ * 2 MiB. */
 uint32_t jugbowo_solve(const uint8_t *text, size_t text_len,
                        uint64_t *points, size_t points_len,
                        uint32_t *falsified, size_t falsified_len,
@@ -157,7 +162,7 @@ uint32_t jugbowo_solve(const uint8_t *text, size_t text_len,
 
 /* What the program `nearest` prints for a text, to the front of `out`; the bytes behind it are left alone. Returns
  * how many bytes that is. A result greater than `out_len` says that they did not fit: `out` is as it was, and a call
- * with so many bytes will do. Stack: 1,280 KiB. */
+ * with so many bytes will do. Stack: 32 KiB, 320 KiB. */
 size_t jugbowo_nearest(const uint8_t *text, size_t text_len, uint8_t *out, size_t out_len);
 
 #ifdef __cplusplus
