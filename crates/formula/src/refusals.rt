@@ -20,10 +20,14 @@ ghost use Rattle.formula.specs.Limits.{maxVariables, maxPermutations};
 ghost use Rattle.formula.specs.Refusals.{allBelow, fits, clausesFault, formulaFault, permutationFault};
 ghost use Rattle.formula.specs.Refusals.{symmetryFault, faultOf};
 
-// Whether no number of the slice has a bit at n or above: the union of all is tested. One step a number.
+// Whether no number of the slice has a bit at n or above: the union of all is tested. One step a number; none where
+// numbers have no such bit.
 fn all_below(xs: &[u64], n: u32) -> bool
     ensures { λ r. ⌜ r ≡ allBelow n (pointsOf (now (xs .entry))) ⌝ }
 {
+    if points::DIGITS <= n {
+        return true;
+    }
     let end = point_count(xs);
     let mut all = points::EMPTY;
     let mut i = 0;
@@ -156,10 +160,9 @@ pub fn problem_refusal(f: Formula, positive: &[u64], negative: &[u64]) -> Checke
     let Checked::Passed = ten else {
         return ten;
     };
-    let images = f.images;
-    let eleven = permutations_refusal(f.variables, f.permutations, &images);
+    let eleven = permutations_refusal(f.variables, f.permutations, &f.images);
     let Checked::Passed = eleven else {
         return eleven;
     };
-    symmetry_refusal(f.variables, f.permutations, &images, positive, negative)
+    symmetry_refusal(f.variables, f.permutations, &f.images, positive, negative)
 }

@@ -23,7 +23,10 @@ ghost use Rattle.search_step.specs.Laws.Stepping.{framed, Searchable, Midway, E
 ghost use Rattle.search_loop.specs.Laws.Exploring.{Explores, Concludes};
 ghost use Rattle.search_stages.specs.Laws.StageLaws.{headedBy, replyOfAnswer};
 
-// The heads of the three stages' indexes: for few slots, for many, and for all that there can be.
+// The heads of the stages' indexes: for the dozens of slots that most searches fill, for some hundreds, for thousands,
+// and for all that there can be.
+const TINY_HEADS: usize = 64;
+
 const FEW_HEADS: usize = 512;
 
 const MANY_HEADS: usize = 8192;
@@ -141,9 +144,9 @@ fn finish(
     }
 }
 
-// The stage between: up to 8,192 slots, 96 KiB of links. It pauses only where more slots are lent, so it never calls
+// The third stage: up to 8,192 slots, 96 KiB of links. It pauses only where more slots are lent, so it never calls
 // itself: the call is there because a compiler puts no function that calls itself into another, and no large array
-// into one that does. So the first stage touches neither this array nor the last one's.
+// into one that does. So the stages before touch neither this array nor the last one's.
 fn resume(
     g: Frame,
     images: &[u8],
@@ -189,8 +192,49 @@ fn resume(
     }
 }
 
-// W3: stores the target in the first slot and searches from there; up to 512 slots in the first stage, 6 KiB of links.
-// `search::search` sees to what it requires, by refusals 10 to 13.
+// The second stage: up to 512 slots, 6 KiB of links.
+fn proceed(
+    g: Frame,
+    images: &[u8],
+    positive: &[u64],
+    negative: &[u64],
+    points: &mut [u64],
+    falsified: &mut [u32],
+    depths: &mut [Depth],
+    from: Position,
+) -> Answer
+    requires { ⌜ Searchable g (now images) (lentClauses (now positive) (now negative))
+        × Lends (g .room) (slotSlices (now points) (now falsified) (now depths))
+        × Midway (framed g (now images) (lentClauses (now positive) (now negative))) (g .room)
+        (slotSlices (now points) (now falsified) (now depths)) from ⌝ }
+    ensures { λ r. ⌜ Concludes
+        (framed g (now (images .entry)) (lentClauses (now (positive .entry)) (now (negative .entry)))) (g .room)
+        (slotSlices (now (points .entry)) (now (falsified .entry)) (now (depths .entry))) from (replyOfAnswer r)
+        (slotSlices (now (points .exit)) (now (falsified .exit)) (now (depths .exit))) ⌝ }
+{
+    let mut links = [0u32; 3 * FEW_HEADS];
+    let explored = explore_with(
+        g,
+        images,
+        positive,
+        negative,
+        points,
+        falsified,
+        depths,
+        &mut links,
+        FEW_HEADS,
+        from,
+    );
+    let stage = explored.stage;
+    let point = explored.point;
+    match stage {
+        Stage::Concluded(conclusion) => Answer { conclusion, point },
+        Stage::Paused(at) => resume(g, images, positive, negative, points, falsified, depths, at),
+    }
+}
+
+// W3: stores the target in the first slot and searches from there; up to 64 slots in the first stage, 768 bytes of
+// links. `search::search` sees to what it requires, by refusals 10 to 13.
 pub fn start(
     g: Frame,
     images: &[u8],
@@ -214,7 +258,7 @@ pub fn start(
     };
     fill(points, falsified, depths, 0, first);
     let from = Position { at: 0, filled: 1 };
-    let mut links = [0u32; 3 * FEW_HEADS];
+    let mut links = [0u32; 3 * TINY_HEADS];
     let explored = explore_with(
         g,
         images,
@@ -224,13 +268,13 @@ pub fn start(
         falsified,
         depths,
         &mut links,
-        FEW_HEADS,
+        TINY_HEADS,
         from,
     );
     let stage = explored.stage;
     let point = explored.point;
     match stage {
         Stage::Concluded(conclusion) => Answer { conclusion, point },
-        Stage::Paused(at) => resume(g, images, positive, negative, points, falsified, depths, at),
+        Stage::Paused(at) => proceed(g, images, positive, negative, points, falsified, depths, at),
     }
 }

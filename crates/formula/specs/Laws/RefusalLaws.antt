@@ -3,14 +3,14 @@ use mathlib.Core.Bool.{Bool, true, false, cond, _&&_, and-true, and-assoc}
 use mathlib.Core.List.{List, [], _∷_}
 use mathlib.Core.Path.{_≡_, refl, sym, ap, ap₂, _∙_, subst}
 use Prim.Native.Nat.{ℕ, _+_, _*_, _^_, _≤_, _<_, min}
-use native.Mathlib.Nat.{le-refl, le-trans, mul-le-mul, le-of-eq, min-eq-left}
+use native.Mathlib.Nat.{le-refl, le-trans, lt-of-lt-of-le, mul-le-mul, le-of-eq, min-eq-left}
 use lib.Bits.{bitOr}
 use lib.Dec.{leb, ltb}
 use lib.ListN.{length, getD, drop}
-use lib.Pow.{pow-pos}
+use lib.Pow.{pow-pos, pow-mono}
 use borrow.Author.Tests.{leb-true, le-leb, lt-leb, ltb-true, lt-ltb, eqb-true, eq-eqb}
 use Rattle.math.specs.Laws.BitLaws.{below-or}
-use Rattle.math.specs.Laws.ListLaws.{and-split, all-at, all-of, map-in}
+use Rattle.math.specs.Laws.ListLaws.{and-split, all-at, all-of, map-in, in-getD}
 use Rattle.math.specs.Laws.PartLaws.{none-failing, all-passing}
 use Rattle.math.specs.Laws.ScanLaws.{all-next, all-ends}
 use Rattle.math.specs.Lists.{_∈_, firstFailing}
@@ -65,6 +65,12 @@ allBelow-sound n xs h x m = ltb-true x (2 ^ n) (all-at (λ x. ltb x (2 ^ n)) h m
 pub allBelow-complete : (n : ℕ) (xs : List ℕ) → ((x : ℕ) → x ∈ xs → x < 2 ^ n) → allBelow n xs ≡ true
 unfolding allBelow
 allBelow-complete n xs h = all-of (λ x. ltb x (2 ^ n)) xs (λ x m. lt-ltb x (2 ^ n) (h x m))
+
+-- numbers have no bit above their width
+pub wide-below : (w : ℕ) {n : ℕ} (xs : List ℕ) → w ≤ n → ((i : ℕ) → getD xs i 0 < 2 ^ w) → allBelow n xs ≡ true
+wide-below w {n} xs le narrow =
+    allBelow-complete n xs (λ x m. let k = in-getD 0 m in
+    lt-of-lt-of-le (subst (λ (y : ℕ). y < 2 ^ w) (k .2) (narrow (k .0))) (pow-mono le))
 
 module _ (n m : ℕ) (clauses : ClauseSlices) where
   pub fits-sound : fits n m clauses ≡ true → Fits n m clauses

@@ -8,7 +8,7 @@ use Rattle.search_expansion.specs.Laws.FillingLaws.{lends-still, lends-fewer, h
 use Rattle.search_expansion.specs.Laws.Memory.{Holds, Lends}
 use Rattle.search_theory.specs.Walk.{slot}
 use Rattle.check_distinct.specs.Laws.IndexingLaws.{zeros-links}
-use Rattle.search_stages.specs.Laws.StageLaws.{fewHeads, stage-answered, stage-midway, stage-followed}
+use Rattle.search_stages.specs.Laws.StageLaws.{tinyHeads, stage-answered, stage-midway, stage-followed}
 use Rattle.search_stages.specs.Laws.StageLaws.{begun-midway, begun-ends}
 use borrow.Author.Needs.{needs}
 use Rattle.search_stages.proofs.start.Statement.{statement}
@@ -29,10 +29,10 @@ explore-with-requires : tie.Need-explore-with-requires
 explore-with-requires c κs =
     let pre = c .before .before .before .before .before .before .before .before .before .before .before .before .before .before .before .before .before .before .before .before .pre in
     let first = stored (c .before .before .before .before .before .before .before .before .before .before) in
-    (pre .0, first .1, begun-midway _ _ _ (pre .0) (first .0), zeros-links fewHeads fewHeads (3 * fewHeads) refl)
+    (pre .0, first .1, begun-midway _ _ _ (pre .0) (first .0), zeros-links tinyHeads tinyHeads (3 * tinyHeads) refl)
 
-resume-requires : tie.Need-resume-requires
-resume-requires c κs =
+proceed-requires : tie.Need-proceed-requires
+proceed-requires c κs =
     let pre = c .before .before .before .before .before .before .before .before .before .before .before .before .before .before .before .before .before .before .before .before .before .before .before .before .before .before .before .before .before .before .before .before .before .before .pre in
     let first = stored (c .before .before .before .before .before .before .before .before .before .before .before .before .before .before .before .before .before .before .before .before .before .before .before .before) in
     let kept = c .before .before .before .before .before .before .before .before .before .before .before .before .before .explore-with .kept .1 .1 .1 .1 in (
@@ -47,18 +47,18 @@ returns c =
     begun-ends _ _ _ (c .before .before .before .before .before .before .before .before .before .before .before .before .before .before .before .before .before .before .before .before .before .before .before .before .before .before .before .before .before .before .before .pre .0) (first .0) (stage-answered _ _ _ (c .before .before .before .before .before .before .before .before .before .before .before .before .before .before .before .before .before .before .before .before .before .before .before .before .before .before .before .before .before .before .before .pre .0) _ _ _ _ _ _ (c .before .before .before .before .before .before .before .before .before .before .explore-with .ensures) _ (c .before .stage .given .1))
 
 same-length-4 : tie.Need-same-length-4
-same-length-4 c = c .before .before .before .before .before .before .resume .kept .1 .1 .1 .1 .0 ∙ c .before .before .before .before .before .before .before .before .before .before .before .before .before .before .before .before .before .before .before .before .explore-with .kept .1 .1 .1 .1 .0 ∙ c .before .before .before .before .before .before .before .before .before .before .before .before .before .before .before .before .before .before .before .before .before .before .before .before .before .before .before .before .before .before .before .fill .kept .0
+same-length-4 c = c .before .before .before .before .before .before .proceed .kept .1 .1 .1 .1 .0 ∙ c .before .before .before .before .before .before .before .before .before .before .before .before .before .before .before .before .before .before .before .before .explore-with .kept .1 .1 .1 .1 .0 ∙ c .before .before .before .before .before .before .before .before .before .before .before .before .before .before .before .before .before .before .before .before .before .before .before .before .before .before .before .before .before .before .before .fill .kept .0
 
 same-length-5 : tie.Need-same-length-5
-same-length-5 c = c .before .before .before .before .before .before .resume .kept .1 .1 .1 .1 .1 .0 ∙ c .before .before .before .before .before .before .before .before .before .before .before .before .before .before .before .before .before .before .before .before .explore-with .kept .1 .1 .1 .1 .1 .0 ∙ c .before .before .before .before .before .before .before .before .before .before .before .before .before .before .before .before .before .before .before .before .before .before .before .before .before .before .before .before .before .before .before .fill .kept .1 .0
+same-length-5 c = c .before .before .before .before .before .before .proceed .kept .1 .1 .1 .1 .1 .0 ∙ c .before .before .before .before .before .before .before .before .before .before .before .before .before .before .before .before .before .before .before .before .explore-with .kept .1 .1 .1 .1 .1 .0 ∙ c .before .before .before .before .before .before .before .before .before .before .before .before .before .before .before .before .before .before .before .before .before .before .before .before .before .before .before .before .before .before .before .fill .kept .1 .0
 
 same-length-6 : tie.Need-same-length-6
-same-length-6 c = c .before .before .before .before .before .before .resume .kept .1 .1 .1 .1 .1 .1 .0 ∙ c .before .before .before .before .before .before .before .before .before .before .before .before .before .before .before .before .before .before .before .before .explore-with .kept .1 .1 .1 .1 .1 .1 .0 ∙ c .before .before .before .before .before .before .before .before .before .before .before .before .before .before .before .before .before .before .before .before .before .before .before .before .before .before .before .before .before .before .before .fill .kept .1 .1 .0
+same-length-6 c = c .before .before .before .before .before .before .proceed .kept .1 .1 .1 .1 .1 .1 .0 ∙ c .before .before .before .before .before .before .before .before .before .before .before .before .before .before .before .before .before .before .before .before .explore-with .kept .1 .1 .1 .1 .1 .1 .0 ∙ c .before .before .before .before .before .before .before .before .before .before .before .before .before .before .before .before .before .before .before .before .before .before .before .before .before .before .before .before .before .before .before .fill .kept .1 .1 .0
 
 returns-2 : tie.Need-returns-2
 returns-2 c =
     let first = stored (c .before .before .before .before .before .before .before .before .before .before .before .before .before .before .before .before .before .before .before .before .before .before .before .before .before .before .before .before .before .before .before) in
-    begun-ends _ _ _ (c .before .before .before .before .before .before .before .before .before .before .before .before .before .before .before .before .before .before .before .before .before .before .before .before .before .before .before .before .before .before .before .before .before .before .before .before .before .before .before .before .before .pre .0) (first .0) (stage-followed _ _ _ (c .before .before .before .before .before .before .before .before .before .before .before .before .before .before .before .before .before .before .before .before .before .before .before .before .before .before .before .before .before .before .before .before .before .before .before .before .before .before .before .before .before .pre .0) _ _ _ _ _ _ (c .before .before .before .before .before .before .before .before .before .before .before .before .before .before .before .before .before .before .before .before .explore-with .ensures) _ (c .before .before .before .before .before .before .before .before .before .before .before .stage2 .given .1) (c .before .before .before .before .before .before .resume .ensures))
+    begun-ends _ _ _ (c .before .before .before .before .before .before .before .before .before .before .before .before .before .before .before .before .before .before .before .before .before .before .before .before .before .before .before .before .before .before .before .before .before .before .before .before .before .before .before .before .before .pre .0) (first .0) (stage-followed _ _ _ (c .before .before .before .before .before .before .before .before .before .before .before .before .before .before .before .before .before .before .before .before .before .before .before .before .before .before .before .before .before .before .before .before .before .before .before .before .before .before .before .before .before .pre .0) _ _ _ _ _ _ (c .before .before .before .before .before .before .before .before .before .before .before .before .before .before .before .before .before .before .before .before .explore-with .ensures) _ (c .before .before .before .before .before .before .before .before .before .before .before .stage2 .given .1) (c .before .before .before .before .before .before .proceed .ensures))
 
 pub start-spec : {M : Type 1} → statement M
 start-spec =
@@ -69,7 +69,7 @@ start-spec =
     explore-with-requires
     (λ c. search needs)
     (λ c. search needs)
-    resume-requires
+    proceed-requires
     (λ c. search needs)
     (λ c. search needs)
     (λ c. search needs)

@@ -34,7 +34,10 @@ use Rattle.search_stages.specs.declared.Answer.{Answer}
 abbrev pub replyOfAnswer : Answer → Reply
 replyOfAnswer a = replyOfConclusion (a .point) (a .conclusion)
 
--- the heads of the first two stages' indexes; the last has one for each slot that can be lent
+-- the heads of the stages' indexes but for the last, which has one for each slot that can be lent
+abbrev pub tinyHeads : ℕ
+tinyHeads = 64
+
 abbrev pub fewHeads : ℕ
 fewHeads = 512
 

@@ -23,34 +23,34 @@ returns c =
     (subst IsFault (sym (ap faultOf (c .enum-told2 .given .1))) tt)
 
 -- the array of the images is as long as its type says
-size : (c : tie.Start) → length (c .args .f .images) ≡ maxImages
+size : (c : tie.Start) → length (c .args .t1 .images) ≡ maxImages
 size c = search needs
 
 -- the second arm is reached where refusal 10 found nothing
-ten : (c : tie.After-enum-told) → formulaFault (c .before .before .before .before .before .args .f) (clauseSlices (c .before .before .before .before .before .args .positive .now) (c .before .before .before .before .before .args .negative .now)) ≡ no-fault
+ten : (c : tie.After-enum-told) → formulaFault (c .before .before .before .before .before .args .t1) (clauseSlices (c .before .before .before .before .before .args .positive .now) (c .before .before .before .before .before .args .negative .now)) ≡ no-fault
 ten c = sym (c .before .before .formula-refusal .ensures) ∙ ap faultOf (c .enum-told .given .1)
 
 permutations-refusal-requires : tie.Need-permutations-refusal-requires
 permutations-refusal-requires c κs =
-    let few = formula-passes _ _ (ten (c .before .before)) .0 .few-variables in
-    (few, images-room (c .before .before .before .before .before .before .before .args .f) (clauseSlices (c .before .before .before .before .before .before .before .args .positive .now) (c .before .before .before .before .before .before .before .args .negative .now)) few (size (c .before .before .before .before .before .before .before)))
+    let few = formula-passes _ _ (ten (c .before .before .before)) .0 .few-variables in
+    (few, images-room (c .before .before .before .before .before .before .before .before .args .t1) (clauseSlices (c .before .before .before .before .before .before .before .before .args .positive .now) (c .before .before .before .before .before .before .before .before .args .negative .now)) few (size (c .before .before .before .before .before .before .before .before)))
 
 returns-2 : tie.Need-returns-2
 returns-2 c =
-    stops-11 _ _ (faultOf (c .before .before .permutations-refusal .result)) (ten (c .before .before .before .before .before)) (c .before .before .permutations-refusal .ensures)
+    stops-11 _ _ (faultOf (c .before .before .permutations-refusal .result)) (ten (c .before .before .before .before .before .before)) (c .before .before .permutations-refusal .ensures)
     (subst IsFault (sym (ap faultOf (c .enum-told4 .given .1))) tt)
 
 -- and the last call where refusal 11 did not either
 eleven : (c : tie.After-enum-told3)
-    → permutationFault (c .before .before .before .before .before .before .before .before .before .before .args .f .variables) (permutationsIn (c .before .before .before .before .before .before .before .before .before .before .args .f .variables) (c .before .before .before .before .before .before .before .before .before .before .args .f .permutations) (c .before .before .before .before .before .before .before .before .before .before .args .f .images)) ≡ no-fault
+    → permutationFault (c .before .before .before .before .before .before .before .before .before .before .before .args .t1 .variables) (permutationsIn (c .before .before .before .before .before .before .before .before .before .before .before .args .t1 .variables) (c .before .before .before .before .before .before .before .before .before .before .before .args .t1 .permutations) (c .before .before .before .before .before .before .before .before .before .before .before .args .t1 .images)) ≡ no-fault
 eleven c = sym (c .before .before .permutations-refusal .ensures) ∙ ap faultOf (c .enum-told3 .given .1)
 
 symmetry-refusal-requires : tie.Need-symmetry-refusal-requires
 symmetry-refusal-requires c κs =
-    formula-listed (c .before .before .before .before .before .before .before .before .before .before .before .args .f) (clauseSlices (c .before .before .before .before .before .before .before .before .before .before .before .args .positive .now) (c .before .before .before .before .before .before .before .before .before .before .before .args .negative .now)) (ten (c .before .before .before .before .before .before)) (eleven (c .before)) (size (c .before .before .before .before .before .before .before .before .before .before .before))
+    formula-listed (c .before .before .before .before .before .before .before .before .before .before .before .before .before .before .args .t1) (clauseSlices (c .before .before .before .before .before .before .before .before .before .before .before .before .before .before .args .positive .now) (c .before .before .before .before .before .before .before .before .before .before .before .before .before .before .args .negative .now)) (ten (c .before .before .before .before .before .before .before .before .before)) (eleven (c .before .before .before)) (size (c .before .before .before .before .before .before .before .before .before .before .before .before .before .before))
 
 returns-3 : tie.Need-returns-3
-returns-3 c = c .symmetry-refusal .ensures ∙ ends-12 _ _ (ten (c .before .before .before .before .before .before .before)) (eleven (c .before .before))
+returns-3 c = c .symmetry-refusal .ensures ∙ ends-12 _ _ (ten (c .before .before .before .before .before .before .before .before .before .before)) (eleven (c .before .before .before .before))
 
 pub problem-refusal-spec : {M : Type 1} → statement M
 problem-refusal-spec =
@@ -60,11 +60,9 @@ problem-refusal-spec =
     (λ c. search needs)
     (λ c. search needs)
     returns
-    (λ c. search needs)
     permutations-refusal-requires
     (λ c. search needs)
     (λ c. search needs)
     returns-2
-    (λ c. search needs)
     symmetry-refusal-requires
     returns-3)
