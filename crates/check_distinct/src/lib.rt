@@ -10,7 +10,7 @@ ghost use Rattle.formula.specs.Limits.{maxSlots};
 ghost use Rattle.formula.specs.Refusals.{faultOf};
 ghost use Rattle.certificate.specs.Rows.{pointsFault};
 ghost use Rattle.check_distinct.specs.Laws.Indexing.{Growable, Grows, Indexable, Sifts, Refuses, Counted};
-ghost use Rattle.check_distinct.specs.Laws.Indexing.{fewPoints, manyPoints};
+ghost use Rattle.check_distinct.specs.Laws.Indexing.{tinyPoints, fewPoints, manyPoints};
 
 // Whether the point at index i has no bit at n or above and equals none of the i before it, of which the links are an
 // index; if so it is added. At most n + 1 comparisons.
@@ -71,14 +71,25 @@ pub fn points_refusal(
     }
 }
 
-// For how many points arrays are made: few, many, and as many as there can be.
+// For how many points arrays are made: very few, few, many, and as many as there can be.
+pub const TINY_POINTS: usize = 64;
+
 pub const FEW_POINTS: usize = 1024;
 
 pub const MANY_POINTS: usize = 8192;
 
 pub const MOST_POINTS: usize = Formula::MAX_SLOTS as usize;
 
-// The same of at most `FEW_POINTS` points, with links of its own: 12 KiB of the stack.
+// The same of at most `TINY_POINTS` points, with links of its own: 768 bytes of the stack.
+fn tiny_refusal(n: u32, points: &[u64], count: usize, limit: usize) -> Checked
+    requires { ⌜ Counted tinyPoints n count (pointsOf (now points)) ⌝ }
+    ensures { λ r. ⌜ faultOf r ≡ pointsFault limit n count (pointsOf (now (points .entry))) ⌝ }
+{
+    let mut links = [0u32; 3 * TINY_POINTS];
+    points_refusal(n, points, &mut links, TINY_POINTS, count, limit)
+}
+
+// The same of at most `FEW_POINTS` points: 12 KiB of the stack.
 fn few_refusal(n: u32, points: &[u64], count: usize, limit: usize) -> Checked
     requires { ⌜ Counted fewPoints n count (pointsOf (now points)) ⌝ }
     ensures { λ r. ⌜ faultOf r ≡ pointsFault limit n count (pointsOf (now (points .entry))) ⌝ }
@@ -115,7 +126,9 @@ pub fn local_refusal(n: u32, points: &[u64], count: usize, limit: usize) -> Chec
     if limit < count {
         return Checked::Refused { code: 16, place: 0 };
     }
-    if count <= FEW_POINTS {
+    if count <= TINY_POINTS {
+        tiny_refusal(n, points, count, limit)
+    } else if count <= FEW_POINTS {
         few_refusal(n, points, count, limit)
     } else if count <= MANY_POINTS {
         many_refusal(n, points, count, limit)

@@ -9,6 +9,7 @@ use Rattle.certificate.specs.Laws.RowLaws.{over-limit}
 use Rattle.check_distinct.specs.Laws.IndexingLaws.{counted-all}
 use Rattle.check_distinct.proofs.local_refusal.Reads as local-refusal
 use Rattle.check_distinct.proofs.local_refusal.Kinds as local-refusal-kinds
+use Rattle.check_distinct.proofs.tiny_refusal.Reads as tiny-refusal
 use Rattle.check_distinct.proofs.few_refusal.Reads as few-refusal
 use Rattle.check_distinct.proofs.many_refusal.Reads as many-refusal
 use Rattle.check_distinct.proofs.most_refusal.Reads as most-refusal
@@ -31,6 +32,8 @@ asked-below t =
 pub +local-refusal-spec : {M : Type 1} → statement M
 +local-refusal-spec =
     close μ-local-refusal λ t. lts.spec (
+      tiny-refusal.Asked,
+      tiny-refusal.Learnt,
       few-refusal.Asked,
       few-refusal.Learnt,
       many-refusal.Asked,
@@ -49,7 +52,9 @@ pub +local-refusal-spec : {M : Type 1} → statement M
     (λ c κs. search needs)
     (λ c κs. search needs)
     (λ c κs. search needs)
+    (λ c κs. search needs)
     (λ c κs. absurd (search (needs, counted-all)))
+    (λ c. search needs)
     (λ c. search needs)
     (λ c. search needs)
     (λ c. search needs)

@@ -54,6 +54,9 @@ pub record Refuses (heads n count limit : ℕ) (points : List ℕ) (r : Fault) (
   pub full : r ≡ no-fault → Indexed heads n (take count points) links′
 
 -- how many points small arrays are for
+abbrev pub tinyPoints : ℕ
+tinyPoints = 64
+
 abbrev pub fewPoints : ℕ
 fewPoints = 1024
 
