@@ -141,12 +141,11 @@ pub fn write(
             place: size,
         };
     }
-    let images = f.images;
     put_certificate(
         n,
         f.clauses,
         permutations,
-        &images,
+        &f.images,
         points,
         falsified,
         filled,

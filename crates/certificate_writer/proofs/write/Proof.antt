@@ -1,5 +1,5 @@
 -- `certificate_writer::write` meets its contract: a law of WriteLaws for each way out. Assumes nothing.
-use mathlib.Core.Path.{_≡_, sym}
+use mathlib.Core.Path.{_≡_}
 use lib.ListN.{length}
 use borrow.Author.Needs.{needs}
 use Rattle.point_slices.specs.Slices.{clauseSlices, slotSlices}
@@ -27,7 +27,7 @@ length-needed-requires : tie.Need-length-needed-requires
 length-needed-requires c κs =
     let slots = c .before .before in
     let a = slots .before .before .before .before .before .before .before .before .before .args in
-    within-limits (a .f) (clauseSlices (a .positive .now) (a .negative .now)) (slotSlices (a .points .now) (a .falsified .now) (a .depths .now)) (a .filled) (a .out .now)
+    within-limits (a .t1) (clauseSlices (a .positive .now) (a .negative .now)) (slotSlices (a .points .now) (a .falsified .now) (a .depths .now)) (a .filled) (a .out .now)
     _ (slots .before .before .problem-refusal .ensures) _ (slots .before .room .ensures) _ (slots .slots-refusal .ensures) (c .enum-told .given .1)
 
 returns-2 : tie.Need-returns-2
@@ -38,22 +38,17 @@ returns-2 c =
     _ (c .before .length-needed .ensures) (c .if1 .taken)
 
 -- the array of the images is as long as its type says
-whole : (c : tie.Start) → length (c .args .f .images) ≡ maxImages
+whole : (c : tie.Start) → length (c .args .t1 .images) ≡ maxImages
 whole c = search needs
-
-slice-aggregate-put-certificate : tie.Need-slice-aggregate-put-certificate
-slice-aggregate-put-certificate c =
-    let slots = c .before .before .before .before .before .before in
-    sym (whole (slots .before .before .before .before .before .before .before .before .before))
 
 put-certificate-requires : tie.Need-put-certificate-requires
 put-certificate-requires c κs =
-    let enough-room = c .before .before .before in
+    let enough-room = c .before .before .before .before in
     let fine = enough-room .before .before in
     let slots = fine .before .before in
     let start = slots .before .before .before .before .before .before .before .before .before in
     let a = start .args in
-    storable-of (a .f) (clauseSlices (a .positive .now) (a .negative .now)) (slotSlices (a .points .now) (a .falsified .now) (a .depths .now)) (a .filled) (a .out .now)
+    storable-of (a .t1) (clauseSlices (a .positive .now) (a .negative .now)) (slotSlices (a .points .now) (a .falsified .now) (a .depths .now)) (a .filled) (a .out .now)
     _ (slots .before .before .problem-refusal .ensures) _ (slots .before .room .ensures) _ (slots .slots-refusal .ensures) (fine .enum-told .given .1)
     _ (enough-room .before .length-needed .ensures) (enough-room .if1 .left) (whole start)
 
@@ -63,7 +58,7 @@ same-length c = c .before .before .put-certificate .kept .1 .1 .1 .1 .1 .1 .1 .0
 returns-3 : tie.Need-returns-3
 returns-3 c =
     let stored = c .before .before in
-    let enough-room = stored .before .before .before .before in
+    let enough-room = stored .before .before .before .before .before in
     let fine = enough-room .before .before in
     let slots = fine .before .before in
     wrote-all _ _ _ _ _ _ (slots .before .before .problem-refusal .ensures) _ (slots .before .room .ensures) _ (slots .slots-refusal .ensures) (fine .enum-told .given .1)
@@ -81,7 +76,6 @@ write-spec =
     returns
     length-needed-requires
     returns-2
-    slice-aggregate-put-certificate
     put-certificate-requires
     same-length
     returns-3)
