@@ -42,17 +42,16 @@ pub fn copy_bytes(to: &mut [u8], from: &[u8], count: usize)
     }
 }
 
-// The images of a formula by value from lent bytes: as many as there can be, and 0 for those that are not lent.
-pub fn images_from(bytes: &[u8]) -> [u8; Formula::MAX_IMAGES]
-    ensures { λ r. ⌜ r ≡ imagesFrom (now (bytes .entry)) ⌝ }
+// Puts lent bytes over the images of a formula, as many as there can be. One step a byte.
+fn put_images(to: &mut [u8; Formula::MAX_IMAGES], bytes: &[u8])
+    ensures { λ _. ⌜ now (to .exit) ≡ over (take maxImages (now (bytes .entry))) (now (to .entry)) ⌝ }
 {
-    let mut images = [0u8; Formula::MAX_IMAGES];
     let count = least(bytes.len(), Formula::MAX_IMAGES);
-    copy_bytes(&mut images, bytes, count);
-    images
+    copy_bytes(to, bytes, count);
 }
 
-// The formula by value that numbers and bytes make.
+// The formula by value that numbers and bytes make: 0 for the images that are not lent. They are copied to where they
+// stay.
 pub fn formula_from(
     variables: u32,
     clauses: u32,
@@ -62,13 +61,15 @@ pub fn formula_from(
 ) -> Formula
     ensures { λ r. ⌜ r ≡ formulaFrom variables clauses target permutations (now (images .entry)) ⌝ }
 {
-    Formula {
+    let mut f = Formula {
         variables,
         clauses,
         target,
         permutations,
-        images: images_from(images),
-    }
+        images: [0u8; Formula::MAX_IMAGES],
+    };
+    put_images(&mut f.images, images);
+    f
 }
 
 // Writes four words to the front of a slice; the callers see to its length.

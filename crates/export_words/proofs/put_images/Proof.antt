@@ -1,17 +1,16 @@
--- `export_words::images_from` meets its contract: the first 1,024 bytes are all that can be copied. Assumes nothing.
+-- `export_words::put_images` meets its contract: the first 1,024 bytes are all that can be copied. Assumes nothing.
 use mathlib.Core.List.{List}
 use mathlib.Core.Path.{_≡_, sym, ap, _∙_}
 use Prim.Native.Nat.{ℕ, _<_, min}
 use native.Mathlib.Decide.{decLt}
 use native.Mathlib.Omega.{arith}
-use lib.ListN.{length, take, replicate}
+use lib.ListN.{length, take}
 use lib.Seq.{take-all}
 use borrow.Author.Needs.{needs}
 use Rattle.formula.specs.Limits.{maxImages}
 use Rattle.math.specs.Lists.{over}
-use Rattle.export_words.specs.Words.{imagesFrom}
-use Rattle.export_words.proofs.images_from.Statement.{statement}
-use Rattle.export_words.proofs.images_from.Tie as tie
+use Rattle.export_words.proofs.put_images.Statement.{statement}
+use Rattle.export_words.proofs.put_images.Tie as tie
 
 whole : (bytes : List ℕ) (i : ℕ) → i ≡ min (length bytes) maxImages → take i bytes ≡ take maxImages bytes
 whole bytes i e = by (decLt maxImages (length bytes))
@@ -27,10 +26,9 @@ copy-bytes-requires : tie.Need-copy-bytes-requires
 copy-bytes-requires c κs = (omega arith, omega arith)
 
 returns : tie.Need-returns
-unfolding imagesFrom over
 returns c =
-    let bytes = c .before .before .before .before .before .args .bytes .now in
-    c .before .copy-bytes .ensures ∙ ap (λ l. over l (replicate maxImages 0)) (whole bytes _ (c .before .before .before .least .ensures))
+    let a = c .before .before .before .before .args in
+    c .copy-bytes .ensures ∙ ap (λ l. over l (a .to .now)) (whole (a .bytes .now) _ (c .before .before .least .ensures))
 
-pub images-from-spec : {M : Type 1} → statement M
-images-from-spec = tie.close (tie.spec least-requires (λ c. search needs) copy-bytes-requires returns)
+pub put-images-spec : {M : Type 1} → statement M
+put-images-spec = tie.close (tie.spec least-requires copy-bytes-requires returns)
