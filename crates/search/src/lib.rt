@@ -12,8 +12,10 @@ use search_stages::Answer;
 use search_step::Conclusion;
 ghost use mathlib.Core.Path.{_≡_};
 ghost use Rattle.point_slices.specs.Slices.{clauseSlices, slotSlices};
-ghost use Rattle.formula.specs.Reply.{pointIn};
+ghost use Rattle.formula.specs.Limits.{capacity};
+ghost use Rattle.formula.specs.Reply.{pointIn, no-fault};
 ghost use Rattle.search_stages.specs.Laws.StageLaws.{replyOfAnswer};
+ghost use Rattle.search.specs.Search.{searchFault};
 ghost use Rattle.search.specs.Contract.{replyOfFound, Searched};
 
 // What the search answers, beside the point that it finds. Of an unknown result the bound is a number of variables:
@@ -59,10 +61,42 @@ fn as_found(a: Answer) -> Found
     }
 }
 
+// The search of a formula that refusals 10 to 13 let pass. It takes at most as many steps as slots are filled: each a
+// scan of the clauses, one step for each permutation and each variable in which its point differs from the one before,
+// and for each variable of a clause at most permutations + 2 look-ups, none of more than n + 1 comparisons.
+pub fn search_accepted(
+    f: Formula,
+    positive: &[u64],
+    negative: &[u64],
+    points: &mut [u64],
+    falsified: &mut [u32],
+    depths: &mut [Depth],
+) -> Found
+    requires { ⌜ searchFault f (clauseSlices (now positive) (now negative))
+        (capacity (slotSlices (now points) (now falsified) (now depths))) ≡ no-fault ⌝ }
+    ensures { λ r. ⌜ Searched f (clauseSlices (now (positive .entry)) (now (negative .entry)))
+        (slotSlices (now (points .entry)) (now (falsified .entry)) (now (depths .entry))) r
+        (slotSlices (now (points .exit)) (now (falsified .exit)) (now (depths .exit))) ⌝ }
+{
+    let lent = room(points, falsified, depths);
+    let images = f.images;
+    // each stage has heads of its own
+    let lookup = Lookup {
+        variables: f.variables,
+        permutations: f.permutations,
+        heads: 0,
+    };
+    let g = Frame {
+        lookup,
+        room: lent,
+        target: f.target,
+    };
+    let answer = search_stages::start(g, &images, positive, negative, points, falsified, depths);
+    as_found(answer)
+}
+
 // D2.2: searches from the formula's target, with the slots in the three lent slices; refusals 10 to 13 leave all three
-// as they were. A search takes at most as many steps as slots are filled: each a scan of the clauses, one step for each
-// permutation and each variable in which its point differs from the one before, and for each variable of a clause at
-// most permutations + 2 look-ups, none of more than n + 1 comparisons.
+// as they were.
 pub fn search(
     f: Formula,
     positive: &[u64],
@@ -95,18 +129,5 @@ pub fn search(
             point: points::EMPTY,
         };
     }
-    let images = f.images;
-    // each stage has heads of its own
-    let lookup = Lookup {
-        variables: f.variables,
-        permutations: f.permutations,
-        heads: 0,
-    };
-    let g = Frame {
-        lookup,
-        room: lent,
-        target: f.target,
-    };
-    let answer = search_stages::start(g, &images, positive, negative, points, falsified, depths);
-    as_found(answer)
+    search_accepted(f, positive, negative, points, falsified, depths)
 }

@@ -123,50 +123,53 @@ module _ (f : Formula) (clauses : ClauseSlices) where
         unfolding slotFault
         searched-none-lent z = refused-by 13 0 (fault-passed (capacity slots) none ∙ ap slotFault (sym room ∙ z))
 
-        module _ (ne : k ≡ 0 → ⊥) where
-          clean : searchFault f clauses k ≡ no-fault
-          clean = fault-none k none ne
+        -- what `search_accepted` requires
+        pub accepted-of : (k ≡ 0 → ⊥) → searchFault f clauses (capacity slots) ≡ no-fault
+        accepted-of ne = fault-none (capacity slots) none (λ z. ne (room ∙ z))
 
-          searchable-of : length (f .images) ≡ maxImages → Searchable (frameOf f k) (f .images) (clausesOf clauses)
-          searchable-of size =
-              let r = rows f clauses k clean in
-              let fits = formula-passes f clauses (r .0) .0 in
-              record {
-                few = fits .few-variables;
-                few-permutations = passes-few (f .variables) (f .permutations) (f .images) (r .1);
-                permuting =
-                    record {
-                      few = digits-suffice (fits .few-variables);
-                      listed = formula-listed f clauses (r .0) (r .1) size;
-                      proper = permutation-passes (f .variables)
-                          (permutationsIn (f .variables) (f .permutations) (f .images)) (r .1) .1;
-                    };
-                few-clauses = le-trans (le-of-eq (fits-count (f .variables) (f .clauses) clauses fits))
-                    (fits .few-clauses);
-                ready = subst Ready (sym (framed-is k (r .0))) (ready-of-faults f clauses k clean);
-                some = lent-of-faults f clauses k clean;
-                most = le-trans (le-of-eq room) (lent-few slots);
-              }
+    module _ (accepted : searchFault f clauses (capacity slots) ≡ no-fault) (k : ℕ) (room : k ≡ capacity slots) where
+      clean : searchFault f clauses k ≡ no-fault
+      clean = subst (λ j. searchFault f clauses j ≡ no-fault) (sym room) accepted
 
-          -- what `start` requires
-          pub startable-of : length (f .images) ≡ maxImages
-              → Searchable (frameOf f k) (f .images) (clausesOf clauses) × Lends k slots
-          startable-of size = (searchable-of size, subst (λ j. Lends j slots) (sym room) (lent-room slots))
+      searchable-of : length (f .images) ≡ maxImages → Searchable (frameOf f k) (f .images) (clausesOf clauses)
+      searchable-of size =
+          let r = rows f clauses k clean in
+          let fits = formula-passes f clauses (r .0) .0 in
+          record {
+            few = fits .few-variables;
+            few-permutations = passes-few (f .variables) (f .permutations) (f .images) (r .1);
+            permuting =
+                record {
+                  few = digits-suffice (fits .few-variables);
+                  listed = formula-listed f clauses (r .0) (r .1) size;
+                  proper = permutation-passes (f .variables)
+                      (permutationsIn (f .variables) (f .permutations) (f .images)) (r .1) .1;
+                };
+            few-clauses = le-trans (le-of-eq (fits-count (f .variables) (f .clauses) clauses fits))
+                (fits .few-clauses);
+            ready = subst Ready (sym (framed-is k (r .0))) (ready-of-faults f clauses k clean);
+            some = lent-of-faults f clauses k clean;
+            most = le-trans (le-of-eq room) (lent-few slots);
+          }
 
-          pub searched-of : (q : Reply) (r : Found) (m : SlotSlices) → (replyOfFound r ≡ q) × (r .point ≡ pointIn q)
-              → Ended (framed (frameOf f k) (f .images) (clausesOf clauses)) k slots [] (slot (f .target) 0 0 ∷ []) q m
-              → Searched f clauses slots r m
-          searched-of q r m same e =
-              let lent = capacity slots in
-              let passed-here = subst (λ j. searchFault f clauses j ≡ no-fault) room clean in
-              let in-problem = subst (λ pb. Walks pb k (start pb) q (e .slots))
-              (framed-is k (rows f clauses k clean .0)) (e .walks) in
-              let in-room = subst (λ j. Walks (problemOf f clauses) j (start (problemOf f clauses)) q (e .slots)) room
-              in-problem in
-              let w = walks-walked (problemOf f clauses) lent (lent-of-faults f clauses lent passed-here) in-room in
-              let answer = reply-of lent q passed-here (w .0) in
-              record {
-                reply = same .0 ∙ answer;
-                point = same .1 ∙ ap pointIn answer;
-                slots = slices-of (e .slots) slots m passed-here (w .1) (e .holds .held);
-              }
+      -- what `start` requires
+      pub startable-of : length (f .images) ≡ maxImages
+          → Searchable (frameOf f k) (f .images) (clausesOf clauses) × Lends k slots
+      startable-of size = (searchable-of size, subst (λ j. Lends j slots) (sym room) (lent-room slots))
+
+      pub searched-of : (q : Reply) (r : Found) (m : SlotSlices) → (replyOfFound r ≡ q) × (r .point ≡ pointIn q)
+          → Ended (framed (frameOf f k) (f .images) (clausesOf clauses)) k slots [] (slot (f .target) 0 0 ∷ []) q m
+          → Searched f clauses slots r m
+      searched-of q r m same e =
+          let lent = capacity slots in
+          let in-problem = subst (λ pb. Walks pb k (start pb) q (e .slots)) (framed-is k (rows f clauses k clean .0))
+          (e .walks) in
+          let in-room = subst (λ j. Walks (problemOf f clauses) j (start (problemOf f clauses)) q (e .slots)) room
+          in-problem in
+          let w = walks-walked (problemOf f clauses) lent (lent-of-faults f clauses lent accepted) in-room in
+          let answer = reply-of lent q accepted (w .0) in
+          record {
+            reply = same .0 ∙ answer;
+            point = same .1 ∙ ap pointIn answer;
+            slots = slices-of (e .slots) slots m accepted (w .1) (e .holds .held);
+          }
