@@ -8,6 +8,7 @@ use points::Depth;
 use search::Found;
 use search::Outcome;
 use search::search;
+use search::search_accepted;
 ghost use mathlib.Core.Path.{_≡_};
 ghost use mathlib.Core.Bool.{_&&_};
 ghost use lib.Dec.{ltb};
@@ -15,6 +16,8 @@ ghost use lib.ListN.{length, take};
 ghost use Rattle.point_slices.specs.Slices.{clauseSlices, slotSlices};
 ghost use Rattle.certificate_writer.specs.Contract.{Wrote};
 ghost use Rattle.slot_columns.specs.Laws.Copies.{Within};
+ghost use Rattle.formula.specs.Reply.{no-fault};
+ghost use Rattle.search.specs.Search.{searchFault};
 ghost use Rattle.search.specs.Contract.{replyOfFound, Searched};
 ghost use Rattle.search_theory.specs.Laws.Promised.{reported};
 ghost use Rattle.slot_prefixes.specs.Laws.PrefixLaws.{noRoom, taken, bytesIn};
@@ -38,6 +41,32 @@ pub fn search_prefix(
         (slotSlices (take k (now (points .exit))) (take k (now (falsified .exit))) (take k (now (depths .exit)))) ⌝ }
 {
     search(
+        f,
+        positive,
+        negative,
+        &mut points[..k],
+        &mut falsified[..k],
+        &mut depths[..k],
+    )
+}
+
+// The same of a formula that refusals 10 to 12 let pass, on at least one place.
+pub fn search_accepted_prefix(
+    f: Formula,
+    positive: &[u64],
+    negative: &[u64],
+    points: &mut [u64],
+    falsified: &mut [u32],
+    depths: &mut [Depth],
+    k: usize,
+) -> Found
+    requires { ⌜ Within k k (length (now points)) (length (now falsified)) (length (now depths))
+        × (searchFault f (clauseSlices (now positive) (now negative)) k ≡ no-fault) ⌝ }
+    ensures { λ r. ⌜ Searched f (clauseSlices (now (positive .entry)) (now (negative .entry)))
+        (slotSlices (take k (now (points .entry))) (take k (now (falsified .entry))) (take k (now (depths .entry)))) r
+        (slotSlices (take k (now (points .exit))) (take k (now (falsified .exit))) (take k (now (depths .exit)))) ⌝ }
+{
+    search_accepted(
         f,
         positive,
         negative,

@@ -86,17 +86,16 @@ module _ (f : Formula) (clauses : ClauseSlices) (lent : ℕ) where
   pub lent-of-faults : searchFault f clauses lent ≡ no-fault → 1 ≤ lent
   lent-of-faults h = slot-sound lent (rows h .3)
 
-  -- with more slots lent nothing is refused either
-  more-passes : (more : ℕ) → lent ≤ more → searchFault f clauses lent ≡ no-fault
-      → searchFault f clauses more ≡ no-fault
+  -- with any other number of slots lent, if not none, nothing is refused either
+  pub some-passes : (other : ℕ) → 1 ≤ other → searchFault f clauses lent ≡ no-fault
+      → searchFault f clauses other ≡ no-fault
   unfolding searchFault
-  more-passes more le h =
+  some-passes other some h =
       let r = rows h in
-      let some : 1 ≤ lent = slot-sound lent (r .3) in
-      first-join (formulaFault f clauses) (row11 ∷ row12 ∷ slotFault more ∷ []) (r .0)
-      (first-join row11 (row12 ∷ slotFault more ∷ []) (r .1)
-      (first-join row12 (slotFault more ∷ []) (r .2)
-      (first-join (slotFault more) [] (slot-complete more (λ z. omega arith)) first-none)))
+      first-join (formulaFault f clauses) (row11 ∷ row12 ∷ slotFault other ∷ []) (r .0)
+      (first-join row11 (row12 ∷ slotFault other ∷ []) (r .1)
+      (first-join row12 (slotFault other ∷ []) (r .2)
+      (first-join (slotFault other) [] (slot-complete other (λ z. omega arith)) first-none)))
 
   -- a reply that is no refusal is the search's
   pub answered : (r : Reply) → searchReply f clauses lent ≡ r
@@ -122,8 +121,8 @@ module _ (f : Formula) (clauses : ClauseSlices) (lent : ℕ) where
   more-answers more le r e ok known =
       let pb = problemOf f clauses in
       let passed = not-refused (searchFault f clauses lent) (walked pb lent .reply) r e ok in
-      let w = walks-walked pb more (le-trans (lent-of-faults passed) le)
-      (walks-more le known (answered r e ok .walks)) in (
-        unless-none (searchFault f clauses more) (more-passes more le passed) (walked pb more .reply) ∙ w .0,
+      let some = le-trans (lent-of-faults passed) le in
+      let w = walks-walked pb more some (walks-more le known (answered r e ok .walks)) in (
+        unless-none (searchFault f clauses more) (some-passes more some passed) (walked pb more .reply) ∙ w .0,
         w .1,
       )

@@ -4,20 +4,25 @@ use mathlib.Core.Bool.{Bool, true, false, cond}
 use mathlib.Core.List.{List, _++_}
 use mathlib.Core.Path.{_≡_, refl, sym, ap, _∙_}
 use Prim.Native.Nat.{ℕ, _≤_, _<_, min, zero-le}
-use native.Mathlib.Nat.{le-refl}
+use native.Mathlib.Nat.{le-refl, le-trans, le-of-eq}
 use native.Mathlib.Omega.{arith}
 use lib.Dec.{leb}
 use lib.ListN.{length, take}
-use lib.Seq.{take-at}
+use lib.Seq.{length-take-le, take-at}
 use borrow.Author.Tests.{leb-true, leb-false, le-leb, lt-leb}
-use Rattle.point_slices.specs.Slices.{ClauseSlices, SlotSlices, slotSlices}
+use Rattle.point_slices.specs.Slices.{ClauseSlices, SlotSlices, slotSlices, wholeSlots}
 use Rattle.formula.specs.declared.Formula.{Formula}
-use Rattle.formula.specs.Limits.{maxSlots}
+use Rattle.formula.specs.Limits.{maxSlots, capacity}
 use Rattle.formula.specs.Reply.{Reply, refused, satisfiable, unsatisfiable, unknown, parsed, written, opened, accepted}
+use Rattle.formula.specs.Reply.{no-fault}
 use Rattle.certificate_writer.specs.declared.Written.{Written}
 use Rattle.certificate_writer.specs.declared.Written.the-variants.{Bytes, Refused}
 use Rattle.search.specs.declared.Found.{Found}
 use Rattle.search.specs.Contract.{Searched}
+use Rattle.search.specs.Laws.Accepted.{lent-enough, lent-of-faults, some-passes}
+use Rattle.search.specs.Search.{searchFault}
+use Rattle.slot_columns.specs.Laws.Copies.{Within}
+use Rattle.slot_columns.specs.Laws.SlotLaws.{words-whole}
 
 -- W8: "answer no room"
 abbrev pub noRoom : Reply → Bool
@@ -84,3 +89,16 @@ searched-fronts k f clauses slots₀ r points₁ falsified₁ depths₁ points�
       slots = (λ i. slotSlices (take-at points₁ points₂ k e₁ i) (take-at falsified₁ falsified₂ k e₂ i)
           (take-at depths₁ depths₂ k e₃ i)) ∙ s .slots;
     }
+
+-- k places that are room for a slot: on them nothing is refused where nothing is with k slots lent
+pub prefix-accepted : (k : ℕ) (f : Formula) (clauses : ClauseSlices) (p n d : List ℕ)
+    → Within k k (length p) (length n) (length d) → searchFault f clauses k ≡ no-fault
+    → searchFault f clauses (capacity (slotSlices (take k p) (take k n) (take k d))) ≡ no-fault
+prefix-accepted k f clauses p n d within h =
+    let some = lent-of-faults f clauses k h in
+    let long : (l : List ℕ) → k ≤ length l → 1 ≤ length (take k l)
+    = λ l e. le-trans some (le-of-eq (sym (length-take-le k l e))) in
+    some-passes f clauses k (capacity (slotSlices (take k p) (take k n) (take k d)))
+    (le-trans (lent-enough 1 (wholeSlots (take k p) (take k n) (take k d)) (omega arith) (long p (within .inPoints))
+    (long n (within .inFalsified)) (long d (within .inDepths)))
+    (le-of-eq (sym (ap capacity (words-whole (take k p) (take k n) (take k d)))))) h
