@@ -16,6 +16,14 @@ pub struct Formula {
     pub images: [u8; Formula::MAX_IMAGES],
 }
 
+// The numbers of a formula: all of it but the images, which stay where they lie while functions hand them on.
+pub struct Numbers {
+    pub variables: u32,
+    pub clauses: u32,
+    pub target: Point,
+    pub permutations: u32,
+}
+
 // What a test of an entry point finds: nothing, or a refusal's number and its place.
 pub enum Checked {
     Passed,

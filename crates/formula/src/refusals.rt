@@ -1,22 +1,24 @@
 // Refusals 10, 11 and 12: each a function that says which it is, and where.
 use crate::Checked;
 use crate::Formula;
+use crate::Numbers;
 use permutation_images::is_permutation;
 use permutation_images::permutation_at;
 use permutation_symmetry::first_non_symmetry;
 use point_slices::point_at;
 use point_slices::point_count;
+ghost use mathlib.Core.List.{List};
 ghost use mathlib.Core.Path.{_≡_};
-ghost use Prim.Native.Nat.{_*_, _≤_};
+ghost use Prim.Native.Nat.{ℕ, _*_, _≤_};
 ghost use lib.ListN.{length};
 ghost use Rattle.math.specs.Lists.{firstFailing};
-ghost use Rattle.formula.specs.Laws.Contracts.{problemFault};
+ghost use Rattle.formula.specs.Laws.Contracts.{formulaOf, problemFault};
 ghost use Rattle.point_slices.specs.Laws.Contracts.{lentClauses};
 ghost use Rattle.points.specs.Points.{numbered};
 ghost use Rattle.point_slices.specs.Slices.{pointsOf, clauseSlices};
 ghost use Rattle.permutation_images.specs.Laws.Contracts.{Listed};
 ghost use Rattle.permutation_theory.specs.Permutations.{isPermutation, permutationsIn};
-ghost use Rattle.formula.specs.Limits.{maxVariables, maxPermutations};
+ghost use Rattle.formula.specs.Limits.{maxVariables, maxPermutations, maxImages};
 ghost use Rattle.formula.specs.Refusals.{allBelow, fits, clausesFault, formulaFault, permutationFault};
 ghost use Rattle.formula.specs.Refusals.{symmetryFault, faultOf};
 
@@ -76,9 +78,10 @@ pub fn clauses_refusal(f: Formula, positive: &[u64], negative: &[u64]) -> Checke
     }
 }
 
-// Refusal 10.
-pub fn formula_refusal(f: Formula, positive: &[u64], negative: &[u64]) -> Checked
-    ensures { λ r. ⌜ faultOf r ≡ formulaFault f (clauseSlices (now (positive .entry)) (now (negative .entry))) ⌝ }
+// Refusal 10, which no image matters to.
+pub fn formula_refusal(f: Numbers, positive: &[u64], negative: &[u64]) -> Checked
+    ensures { λ r. ⌜ ((images : List ℕ) → faultOf r ≡ formulaFault (formulaOf f images)
+        (clauseSlices (now (positive .entry)) (now (negative .entry)))) ⌝ }
 {
     if fits(f.variables, f.clauses, positive, negative) {
         if points::below(f.target, f.variables) {
@@ -152,17 +155,20 @@ pub fn symmetry_refusal(
     }
 }
 
-// Refusals 10, 11 and 12, in this order.
-pub fn problem_refusal(f: Formula, positive: &[u64], negative: &[u64]) -> Checked
-    ensures { λ r. ⌜ faultOf r ≡ problemFault f (clauseSlices (now (positive .entry)) (now (negative .entry))) ⌝ }
+// Refusals 10, 11 and 12, in this order, of the formula that numbers and images make. Callers lend as many images as a
+// formula has.
+pub fn problem_refusal(f: Numbers, images: &[u8], positive: &[u64], negative: &[u64]) -> Checked
+    requires { ⌜ length (now images) ≡ maxImages ⌝ }
+    ensures { λ r. ⌜ faultOf r ≡ problemFault (formulaOf f (now (images .entry)))
+        (clauseSlices (now (positive .entry)) (now (negative .entry))) ⌝ }
 {
     let ten = formula_refusal(f, positive, negative);
     let Checked::Passed = ten else {
         return ten;
     };
-    let eleven = permutations_refusal(f.variables, f.permutations, &f.images);
+    let eleven = permutations_refusal(f.variables, f.permutations, images);
     let Checked::Passed = eleven else {
         return eleven;
     };
-    symmetry_refusal(f.variables, f.permutations, &f.images, positive, negative)
+    symmetry_refusal(f.variables, f.permutations, images, positive, negative)
 }

@@ -13,15 +13,15 @@ below-requires c κs = search needs
 
 returns : tie.Need-returns
 unfolding formulaFault
-returns c = rw (sym (c .before .before .before .fits2 .ensures) ∙ c .before .before .if1 .taken, sym (c .before .below .ensures) ∙ c .if2 .taken)
+returns c images = rw (sym (c .before .before .before .fits2 .ensures) ∙ c .before .before .if1 .taken, sym (c .before .below .ensures) ∙ c .if2 .taken)
 
 returns-2 : tie.Need-returns-2
 unfolding formulaFault
-returns-2 c = rw (sym (c .before .before .before .fits2 .ensures) ∙ c .before .before .if1 .taken, sym (c .before .below .ensures) ∙ c .if2 .left)
+returns-2 c images = rw (sym (c .before .before .before .fits2 .ensures) ∙ c .before .before .if1 .taken, sym (c .before .below .ensures) ∙ c .if2 .left)
 
 returns-3 : tie.Need-returns-3
 unfolding formulaFault
-returns-3 c = rw (sym (c .before .fits2 .ensures) ∙ c .if1 .left)
+returns-3 c images = rw (sym (c .before .fits2 .ensures) ∙ c .if1 .left)
 
 pub formula-refusal-spec : {M : Type 1} → statement M
 formula-refusal-spec =

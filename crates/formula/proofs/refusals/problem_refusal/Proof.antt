@@ -1,12 +1,11 @@
 -- `formula::refusals::problem_refusal` meets its contract: each is tested over everything before the next. Assumes
 -- nothing.
 use mathlib.Core.Path.{_≡_, sym, ap, _∙_, subst}
-use lib.ListN.{length}
 use borrow.Author.Needs.{needs}
 use Rattle.point_slices.specs.Slices.{clauseSlices}
+use Rattle.formula.specs.Laws.Contracts.{formulaOf}
 use Rattle.formula.specs.Laws.RefusalLaws.{stops-10, stops-11, ends-12, formula-passes, images-room}
 use Rattle.formula.specs.Laws.RefusalLaws.{formula-listed}
-use Rattle.formula.specs.Limits.{maxImages}
 use Rattle.formula.specs.Refusals.{formulaFault, permutationFault, faultOf}
 use Rattle.formula.specs.Reply.{no-fault}
 use Rattle.formula.specs.Laws.ReplyLaws.{IsFault}
@@ -19,38 +18,37 @@ formula-refusal-requires c κs = search needs
 
 returns : tie.Need-returns
 returns c =
-    stops-10 _ _ (faultOf (c .before .before .formula-refusal .result)) (c .before .before .formula-refusal .ensures)
+    stops-10 _ _ (faultOf (c .before .before .formula-refusal .result)) (c .before .before .formula-refusal .ensures _)
     (subst IsFault (sym (ap faultOf (c .enum-told2 .given .1))) tt)
 
--- the array of the images is as long as its type says
-size : (c : tie.Start) → length (c .args .t1 .images) ≡ maxImages
-size c = search needs
-
 -- the second arm is reached where refusal 10 found nothing
-ten : (c : tie.After-enum-told) → formulaFault (c .before .before .before .before .before .args .t1) (clauseSlices (c .before .before .before .before .before .args .positive .now) (c .before .before .before .before .before .args .negative .now)) ≡ no-fault
-ten c = sym (c .before .before .formula-refusal .ensures) ∙ ap faultOf (c .enum-told .given .1)
+ten : (c : tie.After-enum-told) → let a = c .before .before .before .before .before .before .args in
+    formulaFault (formulaOf (a .f) (a .images .now)) (clauseSlices (a .positive .now) (a .negative .now)) ≡ no-fault
+ten c = sym (c .before .before .formula-refusal .ensures _) ∙ ap faultOf (c .enum-told .given .1)
 
 permutations-refusal-requires : tie.Need-permutations-refusal-requires
 permutations-refusal-requires c κs =
-    let few = formula-passes _ _ (ten (c .before .before .before)) .0 .few-variables in
-    (few, images-room (c .before .before .before .before .before .before .before .before .args .t1) (clauseSlices (c .before .before .before .before .before .before .before .before .args .positive .now) (c .before .before .before .before .before .before .before .before .args .negative .now)) few (size (c .before .before .before .before .before .before .before .before)))
+    let a = c .before .before .before .before .before .before .args in
+    let few = formula-passes _ _ (ten (c)) .0 .few-variables in
+    (few, images-room (formulaOf (a .f) (a .images .now)) (clauseSlices (a .positive .now) (a .negative .now)) few (c .before .before .before .before .before .before .pre))
 
 returns-2 : tie.Need-returns-2
 returns-2 c =
-    stops-11 _ _ (faultOf (c .before .before .permutations-refusal .result)) (ten (c .before .before .before .before .before .before)) (c .before .before .permutations-refusal .ensures)
+    stops-11 _ _ (faultOf (c .before .before .permutations-refusal .result)) (ten (c .before .before .before)) (c .before .before .permutations-refusal .ensures)
     (subst IsFault (sym (ap faultOf (c .enum-told4 .given .1))) tt)
 
 -- and the last call where refusal 11 did not either
-eleven : (c : tie.After-enum-told3)
-    → permutationFault (c .before .before .before .before .before .before .before .before .before .before .before .args .t1 .variables) (permutationsIn (c .before .before .before .before .before .before .before .before .before .before .before .args .t1 .variables) (c .before .before .before .before .before .before .before .before .before .before .before .args .t1 .permutations) (c .before .before .before .before .before .before .before .before .before .before .before .args .t1 .images)) ≡ no-fault
+eleven : (c : tie.After-enum-told3) → let a = c .before .before .before .before .before .before .before .before .before .args in
+    permutationFault (a .f .variables) (permutationsIn (a .f .variables) (a .f .permutations) (a .images .now)) ≡ no-fault
 eleven c = sym (c .before .before .permutations-refusal .ensures) ∙ ap faultOf (c .enum-told3 .given .1)
 
 symmetry-refusal-requires : tie.Need-symmetry-refusal-requires
 symmetry-refusal-requires c κs =
-    formula-listed (c .before .before .before .before .before .before .before .before .before .before .before .before .before .before .args .t1) (clauseSlices (c .before .before .before .before .before .before .before .before .before .before .before .before .before .before .args .positive .now) (c .before .before .before .before .before .before .before .before .before .before .before .before .before .before .args .negative .now)) (ten (c .before .before .before .before .before .before .before .before .before)) (eleven (c .before .before .before)) (size (c .before .before .before .before .before .before .before .before .before .before .before .before .before .before))
+    let a = c .before .before .before .before .before .before .before .before .before .args in
+    formula-listed (formulaOf (a .f) (a .images .now)) (clauseSlices (a .positive .now) (a .negative .now)) (ten (c .before .before .before)) (eleven (c)) (c .before .before .before .before .before .before .before .before .before .pre)
 
 returns-3 : tie.Need-returns-3
-returns-3 c = c .symmetry-refusal .ensures ∙ ends-12 _ _ (ten (c .before .before .before .before .before .before .before .before .before .before)) (eleven (c .before .before .before .before))
+returns-3 c = c .symmetry-refusal .ensures ∙ ends-12 _ _ (ten (c .before .before .before .before)) (eleven (c .before))
 
 pub problem-refusal-spec : {M : Type 1} → statement M
 problem-refusal-spec =
