@@ -2,6 +2,7 @@
 // the end of the room.
 use formula::Checked;
 use formula::Formula;
+use formula::Numbers;
 use formula::refusals::problem_refusal;
 use formula::room::room;
 use permutation_coverage::Lookup;
@@ -12,8 +13,10 @@ use search_stages::Answer;
 use search_step::Conclusion;
 ghost use mathlib.Core.Path.{_≡_};
 ghost use Rattle.point_slices.specs.Slices.{clauseSlices, slotSlices};
-ghost use Rattle.formula.specs.Limits.{capacity};
+ghost use lib.ListN.{length};
+ghost use Rattle.formula.specs.Limits.{maxImages, capacity};
 ghost use Rattle.formula.specs.Reply.{pointIn, no-fault};
+ghost use Rattle.formula.specs.Laws.Contracts.{formulaOf};
 ghost use Rattle.search_stages.specs.Laws.StageLaws.{replyOfAnswer};
 ghost use Rattle.search.specs.Search.{searchFault};
 ghost use Rattle.search.specs.Contract.{replyOfFound, Searched};
@@ -61,25 +64,28 @@ fn as_found(a: Answer) -> Found
     }
 }
 
-// The search of a formula that refusals 10 to 13 let pass. It takes at most as many steps as slots are filled: each a
-// scan of the clauses, one step for each permutation and each variable in which its point differs from the one before,
-// and for each variable of a clause at most permutations + 2 look-ups, none of more than n + 1 comparisons.
+// The search of a formula that refusals 10 to 13 let pass, by its numbers and images. It takes at most as many steps as
+// slots are filled: each a scan of the clauses, one step for each permutation and each variable in which its point
+// differs from the one before, and for each variable of a clause at most permutations + 2 look-ups, none of more than
+// n + 1 comparisons.
 pub fn search_accepted(
-    f: Formula,
+    f: Numbers,
+    images: &[u8],
     positive: &[u64],
     negative: &[u64],
     points: &mut [u64],
     falsified: &mut [u32],
     depths: &mut [Depth],
 ) -> Found
-    requires { ⌜ searchFault f (clauseSlices (now positive) (now negative))
-        (capacity (slotSlices (now points) (now falsified) (now depths))) ≡ no-fault ⌝ }
-    ensures { λ r. ⌜ Searched f (clauseSlices (now (positive .entry)) (now (negative .entry)))
+    requires { ⌜ (length (now images) ≡ maxImages) × (searchFault (formulaOf f (now images))
+        (clauseSlices (now positive) (now negative))
+        (capacity (slotSlices (now points) (now falsified) (now depths))) ≡ no-fault) ⌝ }
+    ensures { λ r. ⌜ Searched (formulaOf f (now (images .entry)))
+        (clauseSlices (now (positive .entry)) (now (negative .entry)))
         (slotSlices (now (points .entry)) (now (falsified .entry)) (now (depths .entry))) r
         (slotSlices (now (points .exit)) (now (falsified .exit)) (now (depths .exit))) ⌝ }
 {
     let lent = room(points, falsified, depths);
-    let images = f.images;
     // each stage has heads of its own
     let lookup = Lookup {
         variables: f.variables,
@@ -91,25 +97,27 @@ pub fn search_accepted(
         room: lent,
         target: f.target,
     };
-    let answer = search_stages::start(g, &images, positive, negative, points, falsified, depths);
+    let answer = search_stages::start(g, images, positive, negative, points, falsified, depths);
     as_found(answer)
 }
 
-// D2.2: searches from the formula's target, with the slots in the three lent slices; refusals 10 to 13 leave all three
-// as they were.
-pub fn search(
-    f: Formula,
+// The search of the formula that numbers and images make, of which no copy is made; as many images as a formula has.
+pub fn search_lent(
+    f: Numbers,
+    images: &[u8],
     positive: &[u64],
     negative: &[u64],
     points: &mut [u64],
     falsified: &mut [u32],
     depths: &mut [Depth],
 ) -> Found
-    ensures { λ r. ⌜ Searched f (clauseSlices (now (positive .entry)) (now (negative .entry)))
+    requires { ⌜ length (now images) ≡ maxImages ⌝ }
+    ensures { λ r. ⌜ Searched (formulaOf f (now (images .entry)))
+        (clauseSlices (now (positive .entry)) (now (negative .entry)))
         (slotSlices (now (points .entry)) (now (falsified .entry)) (now (depths .entry))) r
         (slotSlices (now (points .exit)) (now (falsified .exit)) (now (depths .exit))) ⌝ }
 {
-    let checked = problem_refusal(f, positive, negative);
+    let checked = problem_refusal(f, images, positive, negative);
     match checked {
         Checked::Passed => {}
         Checked::Refused { code, place } => {
@@ -129,5 +137,36 @@ pub fn search(
             point: points::EMPTY,
         };
     }
-    search_accepted(f, positive, negative, points, falsified, depths)
+    search_accepted(f, images, positive, negative, points, falsified, depths)
+}
+
+// D2.2: searches from the formula's target, with the slots in the three lent slices; refusals 10 to 13 leave all three
+// as they were.
+pub fn search(
+    f: Formula,
+    positive: &[u64],
+    negative: &[u64],
+    points: &mut [u64],
+    falsified: &mut [u32],
+    depths: &mut [Depth],
+) -> Found
+    ensures { λ r. ⌜ Searched f (clauseSlices (now (positive .entry)) (now (negative .entry)))
+        (slotSlices (now (points .entry)) (now (falsified .entry)) (now (depths .entry))) r
+        (slotSlices (now (points .exit)) (now (falsified .exit)) (now (depths .exit))) ⌝ }
+{
+    let numbers = Numbers {
+        variables: f.variables,
+        clauses: f.clauses,
+        target: f.target,
+        permutations: f.permutations,
+    };
+    search_lent(
+        numbers,
+        &f.images,
+        positive,
+        negative,
+        points,
+        falsified,
+        depths,
+    )
 }

@@ -1,8 +1,5 @@
 -- `search::search_accepted` meets its contract, by the laws of SearchLaws for a formula that is accepted. Assumes
 -- nothing.
-use mathlib.Core.Path.{_≡_, sym}
-use lib.ListN.{length}
-use Rattle.formula.specs.Limits.{maxImages}
 use Rattle.search.specs.Laws.SearchLaws.{startable-of, searched-of}
 use borrow.Author.Needs.{needs}
 use Rattle.search.proofs.search_accepted.Statement.{statement}
@@ -11,15 +8,8 @@ use Rattle.search.proofs.search_accepted.Tie as tie
 room-requires : tie.Need-room-requires
 room-requires c κs = tt
 
--- the array of the images is as long as its type says
-size : (c : tie.Start) → length (c .args .f .images) ≡ maxImages
-size c = search needs
-
-slice-aggregate-start : tie.Need-slice-aggregate-start
-slice-aggregate-start c = sym (size (c .before .before .before .before .before .before .before .before .before .before .before))
-
 start-requires : tie.Need-start-requires
-start-requires c κs = startable-of _ _ _ (c .before .before .before .before .before .before .before .before .before .before .before .before .before .before .pre) _ (c .before .before .before .before .before .room .ensures) (size (c .before .before .before .before .before .before .before .before .before .before .before .before .before .before))
+start-requires c κs = startable-of _ _ _ (c .before .before .before .before .before .before .before .before .before .before .before .before .before .pre .1) _ (c .before .before .before .room .ensures) (c .before .before .before .before .before .before .before .before .before .before .before .before .before .pre .0)
 
 as-found-requires : tie.Need-as-found-requires
 as-found-requires c κs = tt
@@ -34,14 +24,13 @@ same-length-3 : tie.Need-same-length-3
 same-length-3 c = c .before .before .before .before .before .before .before .start .kept .1 .1 .1 .1 .1 .1 .0
 
 returns : tie.Need-returns
-returns c = searched-of _ _ _ (c .before .before .before .before .before .before .before .before .before .before .before .before .before .before .before .before .before .before .before .before .before .before .pre) _ (c .before .before .before .before .before .before .before .before .before .before .before .before .before .room .ensures) _ _ _ (c .as-found .ensures) (c .before .before .before .before .before .before .before .start .ensures)
+returns c = searched-of _ _ _ (c .before .before .before .before .before .before .before .before .before .before .before .before .before .before .before .before .before .before .before .before .before .pre .1) _ (c .before .before .before .before .before .before .before .before .before .before .before .room .ensures) _ _ _ (c .as-found .ensures) (c .before .before .before .before .before .before .before .start .ensures)
 
 pub search-accepted-spec : {M : Type 1} → statement M
 search-accepted-spec =
     tie.close
     (tie.spec
     room-requires
-    slice-aggregate-start
     start-requires
     as-found-requires
     same-length
