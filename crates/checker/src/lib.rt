@@ -4,16 +4,19 @@ use certificate::Opened;
 use check_entries::decoded_refusal;
 use formula::Checked;
 use formula::Formula;
+use formula::Numbers;
 use formula::refusals::clauses_refusal;
 use formula::refusals::permutations_refusal;
 use formula::refusals::symmetry_refusal;
+ghost use mathlib.Core.List.{List};
 ghost use mathlib.Core.Path.{_≡_};
-ghost use Prim.Native.Nat.{_≤_};
+ghost use Prim.Native.Nat.{ℕ, _≤_};
 ghost use Rattle.point_slices.specs.Laws.Contracts.{lentClauses};
 ghost use Rattle.points.specs.Points.{numbered};
 ghost use Rattle.point_slices.specs.Slices.{clauseSlices};
 ghost use Rattle.point_theory.specs.Laws.Notions.{ClausesBelow};
 ghost use Rattle.formula.specs.Limits.{maxVariables};
+ghost use Rattle.formula.specs.Laws.Contracts.{formulaOf};
 ghost use Rattle.formula.specs.Refusals.{faultOf};
 ghost use Rattle.formula.specs.Reply.{accepted, unless};
 ghost use Rattle.certificate.specs.Certificate.{filePermutations, filePoints, fileNumbers};
@@ -97,10 +100,10 @@ fn file_refusal(n: u32, clauses: u32, positive: &[u64], negative: &[u64], file: 
     }
 }
 
-// D2.3, K1, N6: checks a file for the clauses of a formula, whose target and permutations it does not look at.
-pub fn check(f: Formula, positive: &[u64], negative: &[u64], file: &[u8]) -> Verdict
-    ensures { λ r. ⌜ CheckedAs f (clauseSlices (now (positive .entry)) (now (negative .entry))) (now (file .entry))
-        r ⌝ }
+// Checks a file for the clauses of a formula by its numbers: no image matters to it.
+pub fn check_numbers(f: Numbers, positive: &[u64], negative: &[u64], file: &[u8]) -> Verdict
+    ensures { λ r. ⌜ ((images : List ℕ) → CheckedAs (formulaOf f images)
+        (clauseSlices (now (positive .entry)) (now (negative .entry))) (now (file .entry)) r) ⌝ }
 {
     let ten = clauses_refusal(f, positive, negative);
     let Checked::Passed = ten else {
@@ -108,4 +111,18 @@ pub fn check(f: Formula, positive: &[u64], negative: &[u64], file: &[u8]) -> Ver
     };
     let rest = file_refusal(f.variables, f.clauses, positive, negative, file);
     as_verdict(rest)
+}
+
+// D2.3, K1, N6: checks a file for the clauses of a formula, whose target and permutations it does not look at.
+pub fn check(f: Formula, positive: &[u64], negative: &[u64], file: &[u8]) -> Verdict
+    ensures { λ r. ⌜ CheckedAs f (clauseSlices (now (positive .entry)) (now (negative .entry))) (now (file .entry))
+        r ⌝ }
+{
+    let numbers = Numbers {
+        variables: f.variables,
+        clauses: f.clauses,
+        target: f.target,
+        permutations: f.permutations,
+    };
+    check_numbers(numbers, positive, negative, file)
 }

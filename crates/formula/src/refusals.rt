@@ -67,9 +67,10 @@ fn fits(n: u32, clauses: u32, positive: &[u64], negative: &[u64]) -> bool
     }
 }
 
-// Refusal 10 without the target.
-pub fn clauses_refusal(f: Formula, positive: &[u64], negative: &[u64]) -> Checked
-    ensures { λ r. ⌜ faultOf r ≡ clausesFault f (clauseSlices (now (positive .entry)) (now (negative .entry))) ⌝ }
+// Refusal 10 without the target; no image matters to it.
+pub fn clauses_refusal(f: Numbers, positive: &[u64], negative: &[u64]) -> Checked
+    ensures { λ r. ⌜ ((images : List ℕ) → faultOf r ≡ clausesFault (formulaOf f images)
+        (clauseSlices (now (positive .entry)) (now (negative .entry)))) ⌝ }
 {
     if fits(f.variables, f.clauses, positive, negative) {
         Checked::Passed
@@ -78,7 +79,7 @@ pub fn clauses_refusal(f: Formula, positive: &[u64], negative: &[u64]) -> Checke
     }
 }
 
-// Refusal 10, which no image matters to.
+// Refusal 10; no image matters to it.
 pub fn formula_refusal(f: Numbers, positive: &[u64], negative: &[u64]) -> Checked
     ensures { λ r. ⌜ ((images : List ℕ) → faultOf r ≡ formulaFault (formulaOf f images)
         (clauseSlices (now (positive .entry)) (now (negative .entry)))) ⌝ }

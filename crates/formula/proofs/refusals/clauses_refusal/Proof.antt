@@ -10,11 +10,11 @@ fits-requires c κs = search needs
 
 returns : tie.Need-returns
 unfolding clausesFault
-returns c = rw (sym (c .before .fits2 .ensures) ∙ c .if1 .taken)
+returns c images = rw (sym (c .before .fits2 .ensures) ∙ c .if1 .taken)
 
 returns-2 : tie.Need-returns-2
 unfolding clausesFault
-returns-2 c = rw (sym (c .before .fits2 .ensures) ∙ c .if1 .left)
+returns-2 c images = rw (sym (c .before .fits2 .ensures) ∙ c .if1 .left)
 
 pub clauses-refusal-spec : {M : Type 1} → statement M
 clauses-refusal-spec = tie.close (tie.spec fits-requires returns returns-2)
