@@ -10,16 +10,19 @@ use check_distinct::local_refusal;
 use check_falsified::numbers_refusal;
 use formula::Checked;
 use formula::Formula;
+use formula::Numbers;
 use formula::refusals::problem_refusal;
 use formula::room::room;
 use points::Depth;
 ghost use mathlib.Core.Path.{_≡_};
 ghost use Prim.Native.Nat.{_≤_};
+ghost use lib.ListN.{length};
 ghost use Rattle.math.specs.Lists.{over};
 ghost use Rattle.point_slices.specs.Laws.Contracts.{lentClauses};
 ghost use Rattle.points.specs.Points.{numbered};
 ghost use Rattle.point_slices.specs.Slices.{pointsOf, clauseSlices, slotSlices};
-ghost use Rattle.formula.specs.Limits.{maxVariables, maxPermutations, maxSlots};
+ghost use Rattle.formula.specs.Limits.{maxVariables, maxPermutations, maxImages, maxSlots};
+ghost use Rattle.formula.specs.Laws.Contracts.{formulaOf};
 ghost use Rattle.formula.specs.Refusals.{faultOf};
 ghost use Rattle.formula.specs.Reply.{no-fault};
 ghost use Rattle.certificate.specs.Certificate.{certificateLength};
@@ -33,8 +36,8 @@ pub enum Written {
     Refused { code: u32, place: usize },
 }
 
-// What was found before; else refusals 16 and 17, in this order, of the first `filled` slots of at most `lent`. `write`
-// sees to what it requires.
+// What was found before; else refusals 16 and 17, in this order, of the first `filled` slots of at most `lent`.
+// `write_lent` sees to what it requires.
 fn slots_refusal(
     n: u32,
     positive: &[u64],
@@ -97,11 +100,12 @@ fn put_certificate(
     put_numbers(out, numbers_at, falsified, many);
 }
 
-// D2.4, N5, C6, R19: writes the certificate of the formula and of the first `filled` slots; refusals 10, 11, 12, 16, 17
-// and 19 leave `out` as it was. Beside refusal 12, it looks each point up among those before it, at most filled · (n +
-// 1) comparisons, and stores each byte once.
-pub fn write(
-    f: Formula,
+// The writer for the formula that numbers and images make, of which no copy is made; as many images as a formula has.
+// Beside refusal 12, it looks each point up among those before it, at most filled · (n + 1) comparisons, and stores each
+// byte once.
+pub fn write_lent(
+    f: Numbers,
+    images: &[u8],
     positive: &[u64],
     negative: &[u64],
     points: &[u64],
@@ -110,11 +114,13 @@ pub fn write(
     filled: u32,
     out: &mut [u8],
 ) -> Written
-    ensures { λ r. ⌜ Wrote f (clauseSlices (now (positive .entry)) (now (negative .entry)))
+    requires { ⌜ length (now images) ≡ maxImages ⌝ }
+    ensures { λ r. ⌜ Wrote (formulaOf f (now (images .entry)))
+        (clauseSlices (now (positive .entry)) (now (negative .entry)))
         (slotSlices (now (points .entry)) (now (falsified .entry)) (now (depths .entry))) filled (now (out .entry)) r
         (now (out .exit)) ⌝ }
 {
-    let found = problem_refusal(f, positive, negative);
+    let found = problem_refusal(f, images, positive, negative);
     let lent = room(points, falsified, depths);
     let n = f.variables;
     let permutations = f.permutations;
@@ -145,11 +151,46 @@ pub fn write(
         n,
         f.clauses,
         permutations,
-        &f.images,
+        images,
         points,
         falsified,
         filled,
         out,
     );
     Written::Bytes(size)
+}
+
+// D2.4, N5, C6, R19: writes the certificate of the formula and of the first `filled` slots; refusals 10, 11, 12, 16, 17
+// and 19 leave `out` as it was.
+pub fn write(
+    f: Formula,
+    positive: &[u64],
+    negative: &[u64],
+    points: &[u64],
+    falsified: &[u32],
+    depths: &[Depth],
+    filled: u32,
+    out: &mut [u8],
+) -> Written
+    ensures { λ r. ⌜ Wrote f (clauseSlices (now (positive .entry)) (now (negative .entry)))
+        (slotSlices (now (points .entry)) (now (falsified .entry)) (now (depths .entry))) filled (now (out .entry)) r
+        (now (out .exit)) ⌝ }
+{
+    let numbers = Numbers {
+        variables: f.variables,
+        clauses: f.clauses,
+        target: f.target,
+        permutations: f.permutations,
+    };
+    write_lent(
+        numbers,
+        &f.images,
+        positive,
+        negative,
+        points,
+        falsified,
+        depths,
+        filled,
+        out,
+    )
 }
