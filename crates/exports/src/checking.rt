@@ -2,14 +2,14 @@
 use certificate::bodies::image_at;
 use certificate::bodies::number_at;
 use certificate::bodies::point_at;
-use checker::check;
+use checker::check_numbers;
 use export_words::CONTENTS;
 use export_words::ENTRY;
 use export_words::WORDS;
-use export_words::formula_from;
 use export_words::put_entry;
 use export_words::put_opened;
 use export_words::put_verdict;
+use formula::Numbers;
 ghost use Rattle.point_slices.specs.Slices.{clauseSlices};
 ghost use Rattle.certificate.specs.Bytes.{pointWidth, numberWidth};
 ghost use Rattle.certificate.specs.Certificate.{numberAt, imageAt};
@@ -37,8 +37,13 @@ pub extern "C" fn jugbowo_check(
     if reply.len() < WORDS {
         return 0;
     }
-    let f = formula_from(variables, clauses, target, permutations, images);
-    let r = check(f, positive, negative, file);
+    let f = Numbers {
+        variables,
+        clauses,
+        target,
+        permutations,
+    };
+    let r = check_numbers(f, positive, negative, file);
     put_verdict(reply, r);
     1
 }

@@ -15,6 +15,12 @@ use Rattle.exports.specs.Searching.{SearchReturns}
 use Rattle.export_words.specs.Laws.RoomLaws.{with-room, without-room}
 use Rattle.export_words.specs.Words.{wordsOf}
 
+-- the same formula is searched the same way
+pub searched-as : {f g : Formula} {clauses : ClauseSlices} {slots slots₁ : SlotSlices} {r : Found} → g ≡ f
+    → Searched g clauses slots r slots₁ → Searched f clauses slots r slots₁
+searched-as {f} {g} {clauses} {slots} {slots₁} {r} same searched =
+    subst (λ h. Searched h clauses slots r slots₁) same searched
+
 module _ (f : Formula) (clauses : ClauseSlices) (slots : SlotSlices) (reply : List ℕ) where
   pub tells-nothing : length reply < 4 → SearchReturns f clauses slots reply 0 slots reply
   tells-nothing lt =
@@ -28,7 +34,7 @@ module _ (f : Formula) (clauses : ClauseSlices) (slots : SlotSlices) (reply : Li
       → Searched g clauses slots r slots₁ → reply₁ ≡ over (wordsOf (replyOfFound r)) reply
       → SearchReturns f clauses slots reply 1 slots₁ reply₁
   tells-search g r slots₁ reply₁ le same searched words =
-      let s = subst (λ h. Searched h clauses slots r slots₁) same searched in
+      let s = searched-as same searched in
       record {
         returned = with-room (le-leb 4 (length reply) le) 1 0;
         reply = words ∙ ap (λ (a : Reply). over (wordsOf a) reply) (s .reply)

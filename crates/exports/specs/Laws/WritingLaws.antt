@@ -15,6 +15,12 @@ use Rattle.export_words.specs.Laws.RoomLaws.{with-room, without-room}
 use Rattle.export_words.specs.Words.{wordsOf}
 use Rattle.exports.specs.Writing.{WriteReturns}
 
+-- the same formula is written the same way
+pub wrote-as : {f g : Formula} {clauses : ClauseSlices} {slots : SlotSlices} {filled : ℕ} {out out₁ : List ℕ}
+    {r : Written} → g ≡ f → Wrote g clauses slots filled out r out₁ → Wrote f clauses slots filled out r out₁
+wrote-as {f} {g} {clauses} {slots} {filled} {out} {out₁} {r} same wrote =
+    subst (λ h. Wrote h clauses slots filled out r out₁) same wrote
+
 module _ (f : Formula) (clauses : ClauseSlices) (slots : SlotSlices) (filled : ℕ) (out reply : List ℕ) where
   pub tells-nothing : length reply < 4
       → WriteReturns f clauses slots filled out reply 0 out reply
@@ -30,7 +36,7 @@ module _ (f : Formula) (clauses : ClauseSlices) (slots : SlotSlices) (filled : �
       → reply₁ ≡ over (wordsOf (replyOfWritten r)) reply
       → WriteReturns f clauses slots filled out reply 1 out₁ reply₁
   tells-writing g r out₁ reply₁ le same wrote words =
-      let w = subst (λ h. Wrote h clauses slots filled out r out₁) same wrote in
+      let w = wrote-as same wrote in
       record {
         returned = with-room (le-leb 4 (length reply) le) 1 0;
         reply = words ∙ ap (λ (a : Reply). over (wordsOf a) reply) (w .reply)
