@@ -1,5 +1,5 @@
--- A call of `search_prefix` in a walk, on three slices that are lent for it, and on two that the caller has: what it
--- asks for, and what is had after it. Assumes `Given`.
+-- A call of `search_prefix`, or of `search_accepted_prefix`, in a walk, on three slices that are lent for it, and on two
+-- that the caller has: what it asks for, and what is had after it. Assumes `Given`.
 use mathlib.Core.Path.{_≡_, refl}
 use Prim.Native.Nat.{ℕ, _<_, _^_}
 use mathlib.Core.List.{List, [], _∷_}
@@ -21,7 +21,9 @@ use types.Kit.{feqL}
 use denote.Laws.{Is}
 use denote.Plain.{uint-makes}
 use denote.Builtin.{usize, u32, u64}
+use denote.RattleType.{owns}
 use denote.Ref.{RefT}
+use denote.Signature.{typesAt}
 use denote.Slice.{sliceVal, MutSlice, ShrSlice, finally}
 use denote.Struct.Laws as LL
 use denote.Steps.{owned, nothing, heard}
@@ -29,18 +31,25 @@ use denote.Triple.Statement.{Contract}
 use Rattle.formula.specs.declared.Formula.{Formula}
 use Rattle.formula.proofs.Formula as F
 use Rattle.formula.proofs.Formula.Laws as F′
+use Rattle.formula.specs.Reply.{no-fault}
 use Rattle.point_slices.specs.Slices.{clauseSlices, slotSlices}
 use Rattle.search.specs.declared.Found.{Found}
 use Rattle.search.specs.Contract.{Searched}
+use Rattle.search.specs.Search.{searchFault}
 use Rattle.search.proofs.Found as O
 use Rattle.search.proofs.Found.Laws as O′
 use Rattle.slot_columns.specs.Laws.Copies.{Within}
 use Rattle.slot_proofs.proofs.Called.{Does, asked, answered}
 use Rattle.slot_proofs.proofs.Spelled.{formula-val}
+use Rattle.slot_prefixes.proofs.search_accepted_prefix as search-accepted-prefix
 use Rattle.slot_prefixes.proofs.search_prefix as search-prefix
 
 abbrev pub SearchFront : {M : Type 1} (𝓤 : URA M) (H : Heap 𝓤) (A : Atoms 𝓤) (mem : Memory → SProp 𝓤) (run : Routine → Fun 𝓤) → Contract 𝓤
 SearchFront 𝓤 H A mem run = Does 𝓤 H A search-prefix.ended (search-prefix.clauses 𝓤 H A mem run)
+
+-- it differs in what is required, and in nothing else
+abbrev pub AcceptedFront : {M : Type 1} (𝓤 : URA M) (H : Heap 𝓤) (A : Atoms 𝓤) (mem : Memory → SProp 𝓤) (run : Routine → Fun 𝓤) → Contract 𝓤
+AcceptedFront 𝓤 H A mem run = Does 𝓤 H A search-accepted-prefix.ended (search-accepted-prefix.clauses 𝓤 H A mem run)
 
 module _ {M : Type 1} (𝓤 : URA M) (H : Heap 𝓤) (A : Atoms 𝓤) (W : Given 𝓤 H A) where
   pub found-typed : (r : Found) (w : Val) → Is O.the-row r (w ∷ []) → T (hasTy O′.mir w) × WT w
@@ -67,18 +76,28 @@ module _ (f : Formula) (us vs : List ℕ) (κ₀ κ₁ : Lft) (q₀ q₁ : Share
     abbrev pub bound : SearchFront 𝓤 H A mem run .Ghost
     bound = (((κ₀, (κ₁, (ν₁ ∷ [], (ν₂ ∷ [], (ν₃ ∷ [], tt))))), (q₀, (q₁, (fullShare, (fullShare, (fullShare, tt))))), tt, x, at), tt)
 
+    -- what a call takes
+    abbrev Taken : List (Item 𝓤) → List (Item 𝓤)
+    Taken Γ =
+        ‵ (ShrSlice (named 0) κ₀ u64 .own (x .1 .0) (at .1 .0)) ∷ ‵ (flft κ₀ q₀) ∷ ‵ (ShrSlice (named 1) κ₁ u64 .own (x .1 .1 .0) (at .1 .1 .0)) ∷ ‵ (flft κ₁ q₁)
+        ∷ ‵ (MutSlice (named 2) (ν₁ ∷ []) u64 .own (x .1 .1 .1 .0) (at .1 .1 .1 .0)) ∷ ‵ (flft (ν₁ ∷ []) fullShare)
+        ∷ ‵ (MutSlice (named 3) (ν₂ ∷ []) u32 .own (x .1 .1 .1 .1 .0) (at .1 .1 .1 .1 .0)) ∷ ‵ (flft (ν₂ ∷ []) fullShare)
+        ∷ ‵ (MutSlice (named 4) (ν₃ ∷ []) u32 .own (x .1 .1 .1 .1 .1 .0) (at .1 .1 .1 .1 .1 .0)) ∷ ‵ (flft (ν₃ ∷ []) fullShare) ∷ Γ
+
     module _ {K : Type 0} (W : Given 𝓤 H A) {Γ : List (Item 𝓤)} {G : Goal 𝓤 H} where
-      pub asks : K → Is F.the-row f (formula-val f ∷ []) → k < 2 ^ 64 → Within k k (length ps) (length fs) (length ds) → Step K W (raw (SearchFront 𝓤 H A mem run .pre bound) ∷ Γ) G
-          (‵ (ShrSlice (named 0) κ₀ u64 .own (x .1 .0) (at .1 .0)) ∷ ‵ (flft κ₀ q₀) ∷ ‵ (ShrSlice (named 1) κ₁ u64 .own (x .1 .1 .0) (at .1 .1 .0)) ∷ ‵ (flft κ₁ q₁)
-          ∷ ‵ (MutSlice (named 2) (ν₁ ∷ []) u64 .own (x .1 .1 .1 .0) (at .1 .1 .1 .0)) ∷ ‵ (flft (ν₁ ∷ []) fullShare)
-          ∷ ‵ (MutSlice (named 3) (ν₂ ∷ []) u32 .own (x .1 .1 .1 .1 .0) (at .1 .1 .1 .1 .0)) ∷ ‵ (flft (ν₂ ∷ []) fullShare)
-          ∷ ‵ (MutSlice (named 4) (ν₃ ∷ []) u32 .own (x .1 .1 .1 .1 .1 .0) (at .1 .1 .1 .1 .1 .0)) ∷ ‵ (flft (ν₃ ∷ []) fullShare) ∷ Γ) G
-      asks t gf gk within = step (λ s. nothing t $ move t (10 ∷ 0 ∷ []) $ join t $ move t (8 ∷ 0 ∷ []) $ join t $ move t (6 ∷ 0 ∷ []) $ join t $ move t (4 ∷ 0 ∷ []) $ join t $ move t (2 ∷ 0 ∷ []) $ join t $
+      gathers : K → Is F.the-row f (formula-val f ∷ []) → k < 2 ^ 64 → Step K W (tokens 𝓤 ∷ ‵ (owns (typesAt (search-prefix.ended .signature .params) (bound .0 .0)) x at) ∷ Γ) G (Taken Γ) G
+      gathers t gf gk = step (λ s. nothing t $ move t (10 ∷ 0 ∷ []) $ join t $ move t (8 ∷ 0 ∷ []) $ join t $ move t (6 ∷ 0 ∷ []) $ join t $ move t (4 ∷ 0 ∷ []) $ join t $ move t (2 ∷ 0 ∷ []) $ join t $
           -- [the tokens; positive; negative; points; falsified; depths]
           nothing t $ owned t usize (Is usize) (uint-makes 𝓤 H A W w64) k (vint w64 k ∷ []) (refl, gk) $ fjoin t $
           move t (6 ∷ 0 ∷ []) $ fjoin t $ move t (5 ∷ 0 ∷ []) $ fjoin t $ move t (4 ∷ 0 ∷ []) $ fjoin t $ move t (3 ∷ 0 ∷ []) $ fjoin t $ move t (2 ∷ 0 ∷ []) $ fjoin t $
-          owned t F.the-row (Is F.the-row) (LL.makes F.the-type F′.the-plain 𝓤 H A) f (formula-val f ∷ []) gf $ fjoin t $ move t (1 ∷ 0 ∷ []) $
-          asked search-prefix.ended (search-prefix.clauses 𝓤 H A mem run) bound (tokens 𝓤) t (id⊢ 𝓤 _) (factI 𝓤 (Within k k (length ps) (length fs) (length ds)) (emp 𝓤) within) $ s)
+          owned t F.the-row (Is F.the-row) (LL.makes F.the-type F′.the-plain 𝓤 H A) f (formula-val f ∷ []) gf $ fjoin t $ move t (1 ∷ 0 ∷ []) $ s)
+
+      pub asks : K → Is F.the-row f (formula-val f ∷ []) → k < 2 ^ 64 → Within k k (length ps) (length fs) (length ds) → Step K W (raw (SearchFront 𝓤 H A mem run .pre bound) ∷ Γ) G (Taken Γ) G
+      asks t gf gk within = step (λ s. gathers t gf gk $ asked search-prefix.ended (search-prefix.clauses 𝓤 H A mem run) bound (tokens 𝓤) t (id⊢ 𝓤 _) (factI 𝓤 (Within k k (length ps) (length fs) (length ds)) (emp 𝓤) within) $ s)
+
+      pub accepted-asks : K → Is F.the-row f (formula-val f ∷ []) → k < 2 ^ 64 → Within k k (length ps) (length fs) (length ds) → searchFault f (clauseSlices us vs) k ≡ no-fault → Step K W (raw (AcceptedFront 𝓤 H A mem run .pre bound) ∷ Γ) G (Taken Γ) G
+      accepted-asks t gf gk within accepted = step (λ s. gathers t gf gk $
+          asked search-accepted-prefix.ended (search-accepted-prefix.clauses 𝓤 H A mem run) bound (tokens 𝓤) t (id⊢ 𝓤 _) (factI 𝓤 (Within k k (length ps) (length fs) (length ds) × (searchFault f (clauseSlices us vs) k ≡ no-fault)) (emp 𝓤) (within, accepted)) $ s)
 
       pub has : K → Soaks G → (w : Val) → ((r : Found) (ps′ fs′ ds′ : List ℕ) → length ps′ ≡ length ps → length fs′ ≡ length fs → length ds′ ≡ length ds → Searches r ps′ fs′ ds′
           → Seq K W (‵ (flft κ₀ q₀) ∷ ‵ (flft κ₁ q₁) ∷ ‵ (flft (ν₁ ∷ []) fullShare) ∷ ‵ (flft (ν₂ ∷ []) fullShare) ∷ ‵ (flft (ν₃ ∷ []) fullShare)

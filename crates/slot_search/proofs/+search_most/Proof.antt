@@ -4,6 +4,7 @@
 use mathlib.Core.Path.{refl, sym, _∙_, ap, subst}
 use Prim.Native.Nat.{ℕ, _≤_}
 use native.Mathlib.Nat.{le-refl}
+use native.Mathlib.Omega.{arith}
 use mathlib.Core.List.{[], _∷_, List}
 use lib.Dec.{T, lit<}
 use lib.ListN.{length}
@@ -44,6 +45,7 @@ use Rattle.point_slices.proofs.least.Symbol.{name as #point-slices·least}
 use Rattle.point_slices.proofs.least.Met as least-thm
 use Rattle.slot_columns.specs.declared.Slot.{Slot}
 use Rattle.slot_columns.proofs.Row.{R, mut-again}
+use Rattle.slot_search.specs.Laws.Contracts.{Accepted}
 use Rattle.slot_search.specs.Laws.SearchLaws.{same-all}
 use Rattle.slot_proofs.proofs.Called.{free-all, placed, given-up}
 use Rattle.slot_proofs.proofs.Lent.{at-list, lend, unlend, share, unshare, zeros-typed, abstracted, emptied, roomy, big-lit}
@@ -53,19 +55,20 @@ use Rattle.slot_columns.proofs.CopiedBack as Back
 use Rattle.slot_columns.proofs.CopiedBack.{CopyBack}
 use Rattle.slot_proofs.proofs.Spelled.{formula-val, formula-typed}
 use Rattle.slot_search.proofs.AnswerRead.{Filled, filled-bound, filled-asks, filled-has}
-use Rattle.slot_search.proofs.Fresh.{k, gk, searched-in, n, gn, never-more, copied-in, Z, same-count, searched-left}
+use Rattle.slot_search.proofs.Fresh.{k, gk, searched-in, searched-accepted, n, gn, never-more, copied-in, Z}
+use Rattle.slot_search.proofs.Fresh.{same-count, searched-left}
 use Rattle.slot_search.proofs.SearchedPrefix as Front
-use Rattle.slot_search.proofs.SearchedPrefix.{SearchFront, found-typed}
-use Rattle.slot_search.proofs.Searching.{args, Entry, Post, positive, negative, exits, meets}
+use Rattle.slot_search.proofs.SearchedPrefix.{AcceptedFront, found-typed}
+use Rattle.slot_search.proofs.Searching.{args, Entry, Post, positive, negative, exits, accepted-meets}
 use Rattle.slot_columns.proofs.copy_back.Symbol as copy-back-def
 use Rattle.slot_columns.proofs.copy_back.Symbol.{name as #slot-columns·copy-back}
 use Rattle.slot_columns.proofs.copy_back.Met as copy-back-thm
 use Rattle.slot_prefixes.proofs.filled.Symbol as filled-def
 use Rattle.slot_prefixes.proofs.filled.Symbol.{name as #slot-prefixes·filled}
 use Rattle.slot_prefixes.proofs.filled.Met as filled-thm
-use Rattle.slot_prefixes.proofs.search_prefix.Symbol as search-front-def
-use Rattle.slot_prefixes.proofs.search_prefix.Symbol.{name as #slot-prefixes·search-front}
-use Rattle.slot_prefixes.proofs.search_prefix.Met as search-front-thm
+use Rattle.slot_prefixes.proofs.search_accepted_prefix.Symbol as accepted-front-def
+use Rattle.slot_prefixes.proofs.search_accepted_prefix.Symbol.{name as #slot-prefixes·accepted-front}
+use Rattle.slot_prefixes.proofs.search_accepted_prefix.Met as accepted-front-thm
 use Rattle.slot_search.proofs.search_most.Key.{name as #slot-search·search-most}
 use Rattle.slot_search.proofs.search_most as this
 use Rattle.slot_search.proofs.+search_most as stated
@@ -75,9 +78,12 @@ use Rattle.slot_search.proofs.+search_most.Code.search_most as mirs
 few : maxSlots ≤ maxSlots
 few = le-refl maxSlots
 
+some : 1 ≤ maxSlots
+some = omega arith
+
 module _ {M : Type 1} (𝓤 : URA M) (H : Heap 𝓤) (A : Atoms 𝓤) (W : Given 𝓤 H A) (mem : Memory → SProp 𝓤) (run : Routine → Fun 𝓤) (C : Calls 𝓤 H) (Λ : Loops 𝓤 H) (fm : FmC 𝓤 H (W .laws) C)
-    (known₀ : Triple 𝓤 (C #point-slices·least) (Least 𝓤 H A mem run)) (known₁ : Triple 𝓤 (C #slot-prefixes·search-front) (SearchFront 𝓤 H A mem run)) (known₃ : Triple 𝓤 (C #slot-prefixes·filled) (Filled 𝓤 H A mem run)) (known₄ : Triple 𝓤 (C #slot-columns·copy-back) (CopyBack 𝓤 H A mem run)) where
-  module _ (κ₀ κ₁ κ₂ : Lft) (q₀ q₁ q₂ : Share) (c₀ d₀ c₁ d₁ b o : ℕ) (δ₀ δ₁ γ : GName) (f : Formula) (us vs : List ℕ) (ys : List Slot) (gf : Is F.the-row f (formula-val f ∷ [])) (room₀ : Room u64 (length us)) (room₁ : Room u64 (length vs)) (room : Room R (length ys)) where
+    (known₀ : Triple 𝓤 (C #point-slices·least) (Least 𝓤 H A mem run)) (known₁ : Triple 𝓤 (C #slot-prefixes·accepted-front) (AcceptedFront 𝓤 H A mem run)) (known₃ : Triple 𝓤 (C #slot-prefixes·filled) (Filled 𝓤 H A mem run)) (known₄ : Triple 𝓤 (C #slot-columns·copy-back) (CopyBack 𝓤 H A mem run)) where
+  module _ (κ₀ κ₁ κ₂ : Lft) (q₀ q₁ q₂ : Share) (c₀ d₀ c₁ d₁ b o : ℕ) (δ₀ δ₁ γ : GName) (f : Formula) (us vs : List ℕ) (ys : List Slot) (gf : Is F.the-row f (formula-val f ∷ [])) (room₀ : Room u64 (length us)) (room₁ : Room u64 (length vs)) (room : Room R (length ys)) (accepted : Accepted f (clauseSlices us vs) ys) where
     walk : ent 𝓤 (Entry 𝓤 H A W mem run κ₀ κ₁ κ₂ q₀ q₁ q₂ c₀ d₀ c₁ d₁ b o δ₀ δ₁ γ f us vs ys)
         (WpFn 𝓤 H C Λ code.search-most-function (args 𝓤 H A W mem run κ₀ κ₁ κ₂ q₀ q₁ q₂ c₀ d₀ c₁ d₁ b o δ₀ δ₁ γ f us vs ys) (Post 𝓤 H A W mem run κ₀ κ₁ κ₂ q₀ q₁ q₂ c₀ d₀ c₁ d₁ b o δ₀ δ₁ γ f us vs ys))
     walk =
@@ -114,8 +120,8 @@ module _ {M : Type 1} (𝓤 : URA M) (H : Heap 𝓤) (A : Atoms 𝓤) (W : Given
         use1 W (‵ neg ⊛ ‵ neg) (shr-slice-copy 𝓤 H A W (named 1) κ₁ u64 .twice (at-list c₁ d₁ δ₁ vs) (sliceVal (c₁, d₁) (length vs) ∷ [])) $ split ! $ move ! (6 ∷ []) $
         lend ! tt u64 (named 2) maxSlots ps l₅ 0 e₁ (roomy u64 ps (lit< tt, lit< tt) e₁) (λ ν₁ γ₁. move ! (8 ∷ []) $ lend ! tt u32 (named 3) maxSlots fs l₆ 0 e₂ (roomy u32 fs (lit< tt, lit< tt) e₂) (λ ν₂ γ₂. move ! (10 ∷ []) $
         lend ! tt u32 (named 4) maxSlots ds l₇ 0 e₃ (roomy u32 ds (lit< tt, lit< tt) e₃) (λ ν₃ γ₃. move ! (11 ∷ 15 ∷ 9 ∷ 14 ∷ 6 ∷ 7 ∷ 3 ∷ 4 ∷ []) $
-        Front.asks f us vs κ₀ κ₁ q₀ q₁ c₀ d₀ c₁ d₁ δ₀ δ₁ l₅ 0 l₆ 0 l₇ 0 γ₁ γ₂ γ₃ ps fs ds (k maxSlots few ys) maxSlots ν₁ ν₂ ν₃ 𝓤 H A mem run W ! gf (gk maxSlots few ys) (searched-in maxSlots few ys f us vs ps fs ds e₁ e₂ e₃) $
-        calls-at ! fm (SearchFront 𝓤 H A mem run) known₁ (Front.bound f us vs κ₀ κ₁ q₀ q₁ c₀ d₀ c₁ d₁ δ₀ δ₁ l₅ 0 l₆ 0 l₇ 0 γ₁ γ₂ γ₃ ps fs ds (k maxSlots few ys) maxSlots ν₁ ν₂ ν₃ 𝓤 H A mem run) (and-then ! (load ! (from ! (stop !)) (look ! 61 refl)) (and-then ! (load ! (from ! (stop !)) (look ! 59 refl)) (and-then ! (load ! (from ! (stop !)) (look ! 57 refl)) (and-then ! (load ! (from ! (stop !)) (look ! 40 refl)) (and-then ! (load ! (from ! (stop !)) (look ! 36 refl)) (and-then ! (load ! (from ! (stop !)) (look ! 32 refl)) (and-then ! (load ! (from ! (stop !)) (look ! 50 refl)) (no-more !)))))))) (λ w₁.
+        Front.accepted-asks f us vs κ₀ κ₁ q₀ q₁ c₀ d₀ c₁ d₁ δ₀ δ₁ l₅ 0 l₆ 0 l₇ 0 γ₁ γ₂ γ₃ ps fs ds (k maxSlots few ys) maxSlots ν₁ ν₂ ν₃ 𝓤 H A mem run W ! gf (gk maxSlots few ys) (searched-in maxSlots few ys f us vs ps fs ds e₁ e₂ e₃) (searched-accepted maxSlots few ys f us vs ps fs ds e₁ e₂ e₃ some accepted) $
+        calls-at ! fm (AcceptedFront 𝓤 H A mem run) known₁ (Front.bound f us vs κ₀ κ₁ q₀ q₁ c₀ d₀ c₁ d₁ δ₀ δ₁ l₅ 0 l₆ 0 l₇ 0 γ₁ γ₂ γ₃ ps fs ds (k maxSlots few ys) maxSlots ν₁ ν₂ ν₃ 𝓤 H A mem run) (and-then ! (load ! (from ! (stop !)) (look ! 61 refl)) (and-then ! (load ! (from ! (stop !)) (look ! 59 refl)) (and-then ! (load ! (from ! (stop !)) (look ! 57 refl)) (and-then ! (load ! (from ! (stop !)) (look ! 40 refl)) (and-then ! (load ! (from ! (stop !)) (look ! 36 refl)) (and-then ! (load ! (from ! (stop !)) (look ! 32 refl)) (and-then ! (load ! (from ! (stop !)) (look ! 50 refl)) (no-more !)))))))) (λ w₁.
         Front.has f us vs κ₀ κ₁ q₀ q₁ c₀ d₀ c₁ d₁ δ₀ δ₁ l₅ 0 l₆ 0 l₇ 0 γ₁ γ₂ γ₃ ps fs ds (k maxSlots few ys) maxSlots ν₁ ν₂ ν₃ 𝓤 H A mem run W ! tt w₁ (λ r ps′ fs′ ds′ s₁ s₂ s₃ promised. move ! (8 ∷ []) $
         peeks ! O.the-row (Is O.the-row) (shows 𝓤 H A O.the-row) r (w₁ ∷ []) (λ iso. land ! (from ! (stop !)) (init ! 56 refl (found-typed 𝓤 H A W r w₁ iso)) $ move ! (3 ∷ 11 ∷ 6 ∷ []) $ unlend ! tt u64 ps′ l₅ 0 $ move ! (4 ∷ 9 ∷ 6 ∷ []) $
         unlend ! tt u32 fs′ l₆ 0 $ move ! (5 ∷ 7 ∷ 6 ∷ []) $ unlend ! tt u32 ds′ l₇ 0 $
@@ -168,8 +174,8 @@ unfolding code.search-most-routine tablesOf
     let W : Given 𝓤 H (𝓖 .A) = givenOf 𝓤 H 𝓜 𝓖 in
     entered 𝓤 H (tripleOf 𝓤 H (𝓖 .A) this.signature (this.spec 𝓤 H (𝓖 .A) (𝓜 .mem) (𝓡 .run)))
     (tables 𝓤 H 𝓜 𝓡 code.env .C) (tables 𝓤 H 𝓜 𝓡 code.env .Λ) #slot-search·search-most code.search-most-function (code.search-most-unfolded 𝓤 H 𝓜 𝓡)
-    (meets 𝓤 H (𝓖 .A) W (𝓜 .mem) (𝓡 .run) T code.search-most-function (walk 𝓤 H (𝓖 .A) W (𝓜 .mem) (𝓡 .run) (T .C) (T .Λ) (fmOf 𝓤 H (W .laws) T)
+    (accepted-meets 𝓤 H (𝓖 .A) W (𝓜 .mem) (𝓡 .run) T code.search-most-function (walk 𝓤 H (𝓖 .A) W (𝓜 .mem) (𝓡 .run) (T .C) (T .Λ) (fmOf 𝓤 H (W .laws) T)
     (cited 𝓤 H (Least 𝓤 H (𝓖 .A) (𝓜 .mem) (𝓡 .run)) 𝓜 𝓡 code.env #point-slices·least least-def.routine code.calls-point-slices·least (least-thm.met 𝓤 H 𝓜 𝓖 𝓡))
-    (cited 𝓤 H (SearchFront 𝓤 H (𝓖 .A) (𝓜 .mem) (𝓡 .run)) 𝓜 𝓡 code.env #slot-prefixes·search-front search-front-def.routine code.calls-slot-prefixes·search-prefix (search-front-thm.met 𝓤 H 𝓜 𝓖 𝓡))
+    (cited 𝓤 H (AcceptedFront 𝓤 H (𝓖 .A) (𝓜 .mem) (𝓡 .run)) 𝓜 𝓡 code.env #slot-prefixes·accepted-front accepted-front-def.routine code.calls-slot-prefixes·search-accepted-prefix (accepted-front-thm.met 𝓤 H 𝓜 𝓖 𝓡))
     (cited 𝓤 H (Filled 𝓤 H (𝓖 .A) (𝓜 .mem) (𝓡 .run)) 𝓜 𝓡 code.env #slot-prefixes·filled filled-def.routine code.calls-slot-prefixes·filled (filled-thm.met 𝓤 H 𝓜 𝓖 𝓡))
     (cited 𝓤 H (CopyBack 𝓤 H (𝓖 .A) (𝓜 .mem) (𝓡 .run)) 𝓜 𝓡 code.env #slot-columns·copy-back copy-back-def.routine code.calls-slot-columns·copy-back (copy-back-thm.met 𝓤 H 𝓜 𝓖 𝓡))))

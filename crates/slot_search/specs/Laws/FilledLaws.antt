@@ -42,6 +42,12 @@ module _ (f : Formula) (clauses : ClauseSlices) where
     unfolding searchReply unless
     count-refused code place h = ap (λ t. reported (unless t (walked pb lent .reply))) h
 
+    -- a refusal is not 'no room'
+    pub room-refused : (code place : ℕ) → searchFault f clauses lent ≡ fault code place
+        → noRoom (searchReply f clauses lent) ≡ false
+    unfolding searchReply unless
+    room-refused code place h = ap (λ t. noRoom (unless t (walked pb lent .reply))) h
+
     -- no more than are lent
     pub count-lent : (t : Fault) → searchFault f clauses lent ≡ t → count ≤ lent
     unfolding searchSlots

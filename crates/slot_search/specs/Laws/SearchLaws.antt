@@ -21,6 +21,7 @@ use Rattle.formula.specs.Reply.{Fault, no-fault, fault, pointIn, unlessKept}
 use Rattle.search.specs.declared.Found.{Found}
 use Rattle.search.specs.Search.{searchReply, searchFault, searchSlots, searchSlices}
 use Rattle.search.specs.Contract.{replyOfFound, Searched}
+use Rattle.search.specs.Laws.Accepted.{lent-of-faults, some-passes}
 use Rattle.search_theory.specs.Filled.{filledWith}
 use Rattle.search_theory.specs.Laws.Promised.{reported}
 use Rattle.search_theory.specs.Walk as W
@@ -30,7 +31,7 @@ use Rattle.slot_columns.specs.Laws.Copies.{joined, front}
 use Rattle.slot_columns.specs.Laws.SlotLaws.{words-whole, joined-columns, min-thrice}
 use Rattle.slot_prefixes.specs.Laws.PrefixLaws.{noRoom}
 use Rattle.slot_search.specs.Laws.FilledLaws.{count-filled, count-refused, count-lent, SameSearch, same-lent}
-use Rattle.slot_search.specs.Laws.FilledLaws.{same-settled}
+use Rattle.slot_search.specs.Laws.FilledLaws.{same-settled, room-refused}
 
 map-take : (part : Slot → ℕ) (k : ℕ) (xs : List Slot) → map part (take k xs) ≡ take k (map part xs)
 map-take part zero xs = refl
@@ -102,6 +103,27 @@ module _ (f : Formula) (clauses : ClauseSlices) (ys : List Slot) (k : ℕ) where
           (le-trans (let z : k ≤ min maxSlots (length ys) = omega (arith, l, is, few) in z)
           (le-of-eq (sym (slots-room ys)))) h
       by true e true h t = absurd (true≢false t)
+
+  -- what is accepted with all the slots is accepted with those of them that there are places for
+  pub places-accepted : (places : ℕ) → 1 ≤ places → k ≡ min places (length ys)
+      → searchFault f clauses (capacity (slotsIn ys)) ≡ no-fault → searchFault f clauses k ≡ no-fault
+  places-accepted places some is h =
+      let lent : 1 ≤ capacity (slotsIn ys) = lent-of-faults f clauses (capacity (slotsIn ys)) h in
+      let room : 1 ≤ min maxSlots (length ys) = le-trans lent (le-of-eq (slots-room ys)) in
+      some-passes f clauses (capacity (slotsIn ys)) k (let z : 1 ≤ k = omega (arith, room, some, is) in z) h
+
+  -- and an answer 'no room' is one for a formula that is accepted
+  pub no-room-accepted : noRoom (searchReply f clauses k) ≡ true → k ≤ length ys
+      → searchFault f clauses (capacity (slotsIn ys)) ≡ no-fault
+  no-room-accepted full used = by (searchFault f clauses k) refl
+    where
+      by : (t : Fault) → searchFault f clauses k ≡ t → searchFault f clauses (capacity (slotsIn ys)) ≡ no-fault
+      by no-fault h =
+          let lent : 1 ≤ k = lent-of-faults f clauses k h in
+          some-passes f clauses k (capacity (slotsIn ys))
+          (le-trans (let z : 1 ≤ min maxSlots (length ys) = omega (arith, lent, used) in z)
+          (le-of-eq (sym (slots-room ys)))) h
+      by (fault code place) h = absurd (true≢false (sym full ∙ room-refused f clauses k code place h))
 
   module _ (ps₀ fs₀ ds₀ ps fs ds : List ℕ) (r : Found) (few : k ≤ maxSlots)
       (long₁ : k ≤ length ps₀) (long₂ : k ≤ length fs₀) (long₃ : k ≤ length ds₀)
