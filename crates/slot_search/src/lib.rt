@@ -51,8 +51,8 @@ fn search_most(f: Formula, positive: &[u64], negative: &[u64], slots: &mut [Slot
     r
 }
 
-// The search on 64 KiB of the stack, and only where that is too little again, on as many places as can be used. As above
-// it never calls itself.
+// The search on 64 KiB of the stack, and only where that is too little again, on as many places as can be used. As
+// above it never calls itself.
 fn search_many(f: Formula, positive: &[u64], negative: &[u64], slots: &mut [Slot]) -> Found
     requires { ⌜ Accepted f (clauseSlices (now positive) (now negative)) (now slots) ⌝ }
     ensures { λ r. ⌜ SearchedSlots f (clauseSlices (now (positive .entry)) (now (negative .entry)))
