@@ -1,5 +1,5 @@
 -- `slot_writer::write_slots` meets its contract: a walk of its MIR, by hand. Where more slots are taken than the
--- smaller arrays are for, all is handed on to `write_most`; else each of the three local arrays is a row in memory that
+-- smaller arrays are for, all is handed on to `write_many`; else each of the three local arrays is a row in memory that
 -- is lent to the calls, for a lifetime of the call's own, and is back after it. Assumes nothing.
 use mathlib.Core.Path.{refl, sym, ap, subst}
 use Prim.Native.Nat.{ℕ, _<_, _^_}
@@ -61,9 +61,9 @@ use Rattle.slot_columns.proofs.copy_out.Met as copy-out-thm
 use Rattle.slot_prefixes.proofs.write_prefix.Symbol as write-front-def
 use Rattle.slot_prefixes.proofs.write_prefix.Symbol.{name as #slot-prefixes·write-front}
 use Rattle.slot_prefixes.proofs.write_prefix.Met as write-front-thm
-use Rattle.slot_writer.proofs.write_most.Symbol as write-most-def
-use Rattle.slot_writer.proofs.write_most.Symbol.{name as #slot-writer·write-most}
-use Rattle.slot_writer.proofs.write_most.Met as write-most-thm
+use Rattle.slot_writer.proofs.write_many.Symbol as write-many-def
+use Rattle.slot_writer.proofs.write_many.Symbol.{name as #slot-writer·write-many}
+use Rattle.slot_writer.proofs.write_many.Met as write-many-thm
 use Rattle.slot_writer.proofs.write_slots.Key.{name as #slot-writer·write-slots}
 use Rattle.slot_writer.proofs.write_slots as this
 use Rattle.slot_writer.proofs.write_slots.Statement as stated
@@ -71,7 +71,7 @@ use Rattle.slot_writer.proofs.write_slots.Code as code
 use Rattle.slot_writer.proofs.write_slots.Code.Mir as mirs
 
 module _ {M : Type 1} (𝓤 : URA M) (H : Heap 𝓤) (A : Atoms 𝓤) (W : Given 𝓤 H A) (mem : Memory → SProp 𝓤) (run : Routine → Fun 𝓤) (C : Calls 𝓤 H) (Λ : Loops 𝓤 H) (fm : FmC 𝓤 H (W .laws) C)
-    (known₀ : Triple 𝓤 (C #slot-prefixes·slots-taken) (SlotsTaken 𝓤 H A mem run)) (known₁ : Triple 𝓤 (C #slot-columns·copy-out) (CopyOut 𝓤 H A mem run)) (known₂ : Triple 𝓤 (C #slot-prefixes·write-front) (WriteFront 𝓤 H A mem run)) (known₃ : Triple 𝓤 (C #slot-writer·write-most) (WriteSlots 𝓤 H A mem run)) where
+    (known₀ : Triple 𝓤 (C #slot-prefixes·slots-taken) (SlotsTaken 𝓤 H A mem run)) (known₁ : Triple 𝓤 (C #slot-columns·copy-out) (CopyOut 𝓤 H A mem run)) (known₂ : Triple 𝓤 (C #slot-prefixes·write-front) (WriteFront 𝓤 H A mem run)) (known₃ : Triple 𝓤 (C #slot-writer·write-many) (WriteSlots 𝓤 H A mem run)) where
   module _ (κ₀ κ₁ κ₂ κ₃ : Lft) (q₀ q₁ q₂ q₃ : Share) (c₀ d₀ c₁ d₁ b o b₃ o₃ : ℕ) (δ₀ δ₁ γ δ₃ : GName) (f : Formula) (us vs : List ℕ) (ys : List Slot) (filled : ℕ) (os : List ℕ)
       (gf : Is F.the-row f (formula-val f ∷ [])) (room₀ : Room u64 (length us)) (room₁ : Room u64 (length vs)) (room : Room R (length ys)) (gc : filled < 2 ^ 32) (room₃ : Room u8 (length os)) where
     walk : ent 𝓤 (Entry 𝓤 H A W mem run κ₀ κ₁ κ₂ κ₃ q₀ q₁ q₂ q₃ c₀ d₀ c₁ d₁ b o b₃ o₃ δ₀ δ₁ γ δ₃ f us vs ys filled os)
@@ -172,4 +172,4 @@ write-slots-spec 𝓤 H 𝓜 𝓖 𝓡 =
     (cited 𝓤 H (SlotsTaken 𝓤 H (𝓖 .A) (𝓜 .mem) (𝓡 .run)) 𝓜 𝓡 code.env #slot-prefixes·slots-taken slots-taken-def.routine code.calls-slot-prefixes·slots-taken (slots-taken-thm.met 𝓤 H 𝓜 𝓖 𝓡))
     (cited 𝓤 H (CopyOut 𝓤 H (𝓖 .A) (𝓜 .mem) (𝓡 .run)) 𝓜 𝓡 code.env #slot-columns·copy-out copy-out-def.routine code.calls-slot-columns·copy-out (copy-out-thm.met 𝓤 H 𝓜 𝓖 𝓡))
     (cited 𝓤 H (WriteFront 𝓤 H (𝓖 .A) (𝓜 .mem) (𝓡 .run)) 𝓜 𝓡 code.env #slot-prefixes·write-front write-front-def.routine code.calls-slot-prefixes·write-prefix (write-front-thm.met 𝓤 H 𝓜 𝓖 𝓡))
-    (cited 𝓤 H (WriteSlots 𝓤 H (𝓖 .A) (𝓜 .mem) (𝓡 .run)) 𝓜 𝓡 code.env #slot-writer·write-most write-most-def.routine code.calls-slot-writer·write-most (write-most-thm.met 𝓤 H 𝓜 𝓖 𝓡))))
+    (cited 𝓤 H (WriteSlots 𝓤 H (𝓖 .A) (𝓜 .mem) (𝓡 .run)) 𝓜 𝓡 code.env #slot-writer·write-many write-many-def.routine code.calls-slot-writer·write-many (write-many-thm.met 𝓤 H 𝓜 𝓖 𝓡))))
