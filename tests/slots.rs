@@ -124,6 +124,24 @@ fn certificates(count: &mut Count) {
     written(count, "the certificate of PH(6, 5)", &large, &slots, 33411, 500000, 5);
 }
 
+// As many slots lent as a search has places at each of its sizes, one fewer and one more; and as many written.
+fn sizes(count: &mut Count) {
+    let large = sheet(42, &pigeons(6), &[]);
+    for room in [255, 256, 257, 4095, 4096, 4097] {
+        let (found, parallel) = both(&large, room, 4);
+        let full = found.1[0] == UNKNOWN && found.1[2] == room as u64;
+        count.expect(&format!("PH(7, 6), P = {room}: all filled, as the parallel form"), full && found == parallel);
+    }
+    let s = sheet(20, &pigeons(4), &[]);
+    let slots = searched(count, "PH(5, 4), P = 2,290", &s, 2290, [UNSATISFIABLE, 2289, 0, 0]);
+    let reply = written(count, "the certificate of PH(5, 4)", &s, &slots, 2289, 50000, 5);
+    count.expect("the certificate of PH(5, 4) is written", reply[0] == WRITTEN);
+    for used in [1024, 1025, 8192, 8193] {
+        let more: Vec<Slot> = (0..8193).map(|i| *slots.get(i).unwrap_or(&held(i))).collect();
+        written(count, &format!("{used} slots asked for"), &s, &more, used, 200000, 5);
+    }
+}
+
 // More slots lent than are used: the first 65,536 are filled, and those behind them stay.
 fn all_used(count: &mut Count) {
     let (found, parallel) = both(&sheet(42, &pigeons(6), &[]), 65540, 4);
@@ -140,6 +158,7 @@ fn main() {
     worked(&mut count);
     refused(&mut count);
     certificates(&mut count);
+    sizes(&mut count);
     all_used(&mut count);
     count.finish("slots");
 }
