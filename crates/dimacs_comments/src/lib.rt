@@ -2,9 +2,9 @@
 // more, and the readers of their contents. They are handed what stands behind the head of the line.
 use dimacs_words::Class;
 use dimacs_words::Cursor;
-use dimacs_words::Number;
+use dimacs_words::Word;
 use dimacs_words::is_blank;
-use dimacs_words::read_number;
+use dimacs_words::read_digits;
 use dimacs_words::run_end;
 use formula::Checked;
 use formula::Formula;
@@ -98,7 +98,8 @@ pub fn read_target(bytes: &[u8], n: u32) -> Wanted
 }
 
 // S19: "numbers from 1 to n without sign, one to four digits each, .. parted and followed only by blanks": the next
-// one, but that it may be 0, which the permutation test finds. The loop over the numbers stands within the bytes.
+// one, but that it may be 0, which the permutation test finds. A byte 10, which no line has, would not end its word. The
+// loop over the numbers stands within the bytes.
 fn next_image(bytes: &[u8], cursor: Cursor, n: u32) -> Image
     requires { ⌜ cursor .at ≤ length (now bytes) ⌝ }
     ensures { λ r. ⌜ Imaging n (now (bytes .entry)) (cursor .at) r ⌝ }
@@ -108,22 +109,29 @@ fn next_image(bytes: &[u8], cursor: Cursor, n: u32) -> Image
     if bytes.len() <= from {
         return Image::End;
     }
-    let to = run_end(bytes, from, Class::Word);
-    let number = read_number(&bytes[from..to]);
-    let Number::Value(value) = number else {
+    let word = read_digits(bytes, false, from);
+    let Word::Read {
+        negated,
+        value,
+        next,
+    } = word
+    else {
         return Image::Malformed;
     };
+    let to = next.at;
+    if to < bytes.len() {
+        if bytes[to] == 10 {
+            return Image::Malformed;
+        }
+    }
     if n < value {
         return Image::Malformed;
     }
-    Image::Variable {
-        value,
-        next: Cursor { at: to },
-    }
+    Image::Variable { value, next }
 }
 
 // The numbers of a permutation line, into a part of n bytes; whether they are n numbers. A byte of the line is visited
-// at most three times.
+// at most twice, once more where a word begins or ends.
 fn store_numbers(bytes: &[u8], n: u32, part: &mut [u8]) -> bool
     requires { ⌜ (n ≤ maxVariables) × (length (now part) ≡ n) ⌝ }
     ensures { λ r. ⌜ Storing n (now (bytes .entry)) (now (part .exit)) r ⌝ }

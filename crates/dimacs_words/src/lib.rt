@@ -170,8 +170,8 @@ fn made_word(negated: bool, value: u32, at: usize) -> Word
 }
 
 // S13: "one to four digits, leading zeros allowed": the rest of a word, behind its sign. Its value is read in the pass
-// that finds its end: at most five steps. `read_word` stands within the text.
-fn read_digits(text: &[u8], negated: bool, from: usize) -> Word
+// that finds its end: at most five steps. Callers stand within the text.
+pub fn read_digits(text: &[u8], negated: bool, from: usize) -> Word
     requires { ⌜ from ≤ length (now text) ⌝ }
     ensures { λ r. ⌜ DigitsRead (now (text .entry)) negated from r ⌝ }
 {

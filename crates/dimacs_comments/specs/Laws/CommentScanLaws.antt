@@ -22,13 +22,17 @@ use Rattle.permutation_theory.specs.Permutations.{Permutation, isPermutation}
 use Rattle.formula.specs.Limits.{maxVariables}
 use Rattle.dimacs_words.specs.declared.Class.the-variants.{Blank, Word}
 use Rattle.dimacs_words.specs.declared.Cursor.{Cursor}
+use Rattle.dimacs_words.specs.declared.Word.{Word as WordAnswer}
+use Rattle.dimacs_words.specs.declared.Word.the-variants.{Read, Malformed as no-word}
 use Rattle.dimacs_comments.specs.declared.Image.{Image}
 use Rattle.dimacs_comments.specs.declared.Image.the-variants.{End, Variable, Malformed as Other}
+use Rattle.dimacs_format.specs.Text.{endsLine}
 use Rattle.dimacs_format.specs.Text.{isBlank, isDigit, allBlank, words, spelled, decimal, isNumber, numberIn, tokenIn}
 use Rattle.dimacs_format.specs.Text.{unsigned, negated, literal, malformed, neg, Token}
 use Rattle.dimacs_format.specs.Reader.{isBinary, binary, targetIn, beginsWord, bothNumbers, numbersIn, permuting}
 use Rattle.dimacs_format.specs.Reader.{permutationIn}
-use Rattle.dimacs_words.specs.Laws.Scans.{belongs, Stretch, WordAt}
+use Rattle.dimacs_words.specs.Laws.Scans.{belongs, Stretch, WordAt, signed, DigitsAt, DigitsRead}
+use Rattle.dimacs_words.specs.Laws.PlainLaws.{plain-word, plain-spoilt, plain-number, plain-malformed}
 use Rattle.dimacs_words.specs.Laws.ScanLaws.{here-on, part-end, run-all, words-skip, words-end, word-at, blanks-stop}
 use Rattle.dimacs_comments.specs.Laws.CommentScans.{withDigit, binaryIn, prepended, numbersFrom, Spoiled, Imaging}
 use Rattle.dimacs_comments.specs.Laws.CommentScans.{Storing}
@@ -226,6 +230,31 @@ module _ (n : ℕ) (bytes : List ℕ) (at from : ℕ) (run : Stretch (belongs Bl
         let o = run .ordered in
         let later = there .later in
         (omega arith, there .within, le, first e)
+
+  -- the same, of digits: those that go up to a line's end, or are malformed, are no number
+  module _ (inside : from < length bytes) where
+    bad-word : (e : ℕ) × Stretch (belongs Word) bytes from e × (numberIn (take (e - from) (drop from bytes)) ≡ none)
+        → Spoiled n (numbersFrom bytes at)
+    bad-word w = image-bad (w .0) (w .1) inside (w .2)
+
+    pub digits-malformed : {r : WordAnswer} → DigitsRead bytes false from r → r ≡ no-word
+        → Spoiled n (numbersFrom bytes at)
+    digits-malformed read e = bad-word (plain-malformed (subst (DigitsRead bytes false from) e read .1))
+
+    module _ {r : WordAnswer} (b : Bool) (v : ℕ) (c : Cursor) (read : DigitsRead bytes false from r) (is : r ≡ Read b v c)
+      where
+        digits : DigitsAt bytes false from (c .at) (signed b v)
+        digits = subst (DigitsRead bytes false from) is read
+
+        pub digits-over : c .at < length bytes → endsLine (getD bytes (c .at) 0) ≡ true → Spoiled n (numbersFrom bytes at)
+        digits-over lt e = bad-word (plain-spoilt digits lt e)
+
+        module _ (ends : c .at < length bytes → endsLine (getD bytes (c .at) 0) ≡ false) where
+          pub digits-above : n < v → Spoiled n (numbersFrom bytes at)
+          digits-above h = image-above (c .at) (plain-word digits ends) inside v (plain-number b v digits) h
+
+          pub digits-next : v ≤ n → Imaging n bytes at (Variable v c)
+          digits-next h = image-next (c .at) (plain-word digits ends) inside v (plain-number b v digits) h
 
 -- ---- the loop over the numbers
 
