@@ -7,7 +7,7 @@ use Prim.Native.Nat.{ℕ, suc, _+_, _-_, _^_, _≤_, _<_}
 use native.Mathlib.Decide.{ℕ-discrete}
 use native.Mathlib.Nat.{le-of-eq, lt-of-lt-of-le, le-antisymm}
 use native.Mathlib.Omega.{arith}
-use lib.Bits.{bitAnd, bitOr, bitXor, or-zero-l, or-zero-r, or-comm}
+use lib.Bits.{bitAnd, bitOr, bitXor, or-zero-l, or-zero-r}
 use lib.Dec.{eqb}
 use lib.ListN.{length, getD}
 use borrow.Author.Tests.{eq-eqb, ne-eqb, eqb-true}
@@ -94,7 +94,7 @@ module _ {es : List ℕ} (m : Movable es) {s : ℕ} where
 
 -- ---- the variables that stay
 
-pub fixes-none : {es : List ℕ} → Fixes es 0 0
+pub fixes-none : {es : List ℕ} {k : ℕ} → Fixes es k 0
 fixes-none = record { still = λ i e. absurd (true≢false (sym e ∙ bit-of-zero i)) }
 
 module _ {es : List ℕ} {k f : ℕ} (w : Fixes es k f) where

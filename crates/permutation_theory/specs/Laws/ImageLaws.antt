@@ -1,5 +1,6 @@
--- Laws of images under a permutation: the computed image is the one that the sentence fixes, and that of a flipped
--- point is the flipped image. Assumes nothing.
+-- Laws of images under a permutation: the computed image is the one that the sentence fixes, those of two points differ
+-- in the images of the variables in which the points do, and that of a flipped point is the flipped image. Assumes
+-- nothing.
 use mathlib.Core.Bool.{true, false, _&&_, _||_, and-true, and-false, or-false, xor, true≢false}
 use mathlib.Core.List.{List, [], _∷_, List·Memᴰ·head, List·Memᴰ·tail}
 use mathlib.Core.Logic.{⊎-elim}
@@ -8,12 +9,12 @@ use Prim.Native.Nat.{ℕ, zero, suc, _-_, _*_, _/_, _%_, _^_, _≤_, _<_, suc-le
 use native.Mathlib.Nat.{zero-mul, one-mul, not-suc-le-zero, le-of-suc-le-suc, lt-of-le-of-lt, mul-le-mul-right}
 use native.Mathlib.Nat.{le-of-eq, zero-lt-suc}
 use native.Mathlib.Omega.{arith}
-use lib.Bits.{bitOr, or-lt, or-zero-r}
+use lib.Bits.{bitOr, bitXor, or-lt, or-zero-r, xor-lt}
 use lib.Dec.{eqb}
 use lib.ListN.{length, getD}
 use lib.Pow.{pow-pos, pow-lt}
 use borrow.Author.Tests.{eqb-true, eq-eqb, ne-eqb}
-use Rattle.math.specs.Laws.BitLaws.{digit-lt, bit-zero, bit-suc, bit-of-zero, bit-or, bit-pow, bit-flip, flip-lt}
+use Rattle.math.specs.Laws.BitLaws.{digit-lt, bit-zero, bit-suc, bit-of-zero, bit-or, bit-xor, bit-pow}
 use Rattle.math.specs.Laws.BitLaws.{bits-ext-below, bits-ext, no-bits}
 use Rattle.math.specs.Bits.{bit, flip}
 use Rattle.math.specs.Laws.CountLaws.{distinct-index}
@@ -245,22 +246,23 @@ module _ (n : ℕ) (e : Permutation) (p : IsPermutation n e) (x : ℕ) where
           pred : (j : ℕ) → suc j - 1 ≡ j
           pred j = omega arith
 
--- ---- the image of a point with variable v flipped: one step, where the image of the point is known
+-- ---- the image of a point that differs from another in the variables of a set, where the image of that is known
 
+-- it differs from that in the images of the variables
+pub image-differing : (n : ℕ) (e : Permutation) → IsPermutation n e → (x s : ℕ)
+    → imageOfPoint e (bitXor x s) ≡ bitXor (imageOfPoint e x) (imageOfPoint e s)
+image-differing n e p x s =
+    sym (image-complete n e p (bitXor x s) (bitXor (imageOfPoint e x) (imageOfPoint e s))
+    (record {
+      within = xor-lt n (imageOfPoint e x) (imageOfPoint e s) (image-sound n e p x .within) (image-sound n e p s .within);
+      value = λ i lt.
+          bit-xor (imageOfPoint e x) (imageOfPoint e s) (sentTo e i)
+          ∙ ap₂ xor (image-sound n e p x .value i lt) (image-sound n e p s .value i lt) ∙ sym (bit-xor x s i);
+    }))
+
+-- with variable v flipped: one step
 pub image-flip : (n : ℕ) (e : Permutation) → IsPermutation n e → (x v : ℕ) → v < n
     → imageOfPoint e (flip x v) ≡ flip (imageOfPoint e x) (getD (e .images) v 0 - 1)
+unfolding flip imageOfPoint
 image-flip n e p x v h =
-    sym (image-complete n e p (flip x v) (flip (imageOfPoint e x) (sentTo e v))
-    (record {
-      within = flip-lt n (imageOfPoint e x) (sentTo e v) (image-sound n e p x .within) (sent-lt n e p v h);
-      value = λ i lt.
-          bit-flip (imageOfPoint e x) (sentTo e v) (sentTo e i) ∙ ap₂ xor (image-sound n e p x .value i lt) (same i lt)
-          ∙ sym (bit-flip x v i);
-    }))
-  where
-    -- variable i is flipped in the one exactly if it is in the other
-    same : (i : ℕ) → i < n → eqb (sentTo e v) (sentTo e i) ≡ eqb v i
-    same i lt =
-        same-tests (eqb (sentTo e v) (sentTo e i)) (eqb v i)
-        (λ t. eq-eqb v i (sent-injective n e p v i h lt (eqb-true (sentTo e v) (sentTo e i) t)))
-        (λ t. eq-eqb (sentTo e v) (sentTo e i) (ap (sentTo e) (eqb-true v i t)))
+    image-differing n e p x (2 ^ v) ∙ ap (bitXor (imageOfPoint e x)) (moved-one (e .images) v (index-lt n e p v h))
