@@ -4,23 +4,25 @@ use formula::Checked;
 use formula::Formula;
 use permutation_coverage::Lookup;
 use permutation_coverage::image_covered;
-use permutation_coverage::move_images;
+use permutation_coverage::next_images;
+use permutation_coverage::staying_sets;
 use point_index::contains;
 use point_slices::clause_at;
 use point_slices::clause_count;
+use point_slices::first_points;
 use point_slices::number_at;
 use point_slices::point_at;
 use points::Point;
 ghost use mathlib.Core.Path.{_≡_};
-ghost use Prim.Native.Nat.{_<_, _^_};
-ghost use lib.ListN.{take};
+ghost use Prim.Native.Nat.{_≤_, _<_, _^_};
+ghost use lib.ListN.{length, take};
 ghost use Rattle.math.specs.Bits.{flip};
 ghost use Rattle.math.specs.Lists.{firstFailing, below};
 ghost use Rattle.point_slices.specs.Laws.Contracts.{lentClauses};
 ghost use Rattle.points.specs.Points.{numbered};
 ghost use Rattle.point_slices.specs.Slices.{pointsOf};
 ghost use Rattle.permutation_theory.specs.Permutations.{covered, permutationsIn};
-ghost use Rattle.permutation_coverage.specs.Laws.Coverage.{Imaged};
+ghost use Rattle.permutation_coverage.specs.Laws.Coverage.{Permuting, Imaged, Staying};
 ghost use Rattle.formula.specs.Refusals.{faultOf};
 ghost use Rattle.certificate.specs.Rows.{clauseNumbered};
 ghost use Rattle.check_flips.specs.Flips.{flipsPass, flipsFault};
@@ -49,23 +51,25 @@ struct Tested {
     seen: Point,
 }
 
-// Whether x with variable v flipped is covered by the first `count` points; `moved` has the images of `seen`. Where the
-// flip itself is among the points that is one look-up. Else the images are turned into those of x, one step for each
-// permutation and each variable in which the two points differ, and at most one look-up each follows; a look-up takes at
-// most n + 1 comparisons. `flips_covered` hands on what it requires.
+// Whether x with variable v flipped is covered by the first `count` points; `moved` has the images of `seen`, and `stay`
+// sets of variables that stay, or none. Where the flip itself is among the points that is one look-up. Else the images
+// are turned into those of x, at most one step for each permutation and each variable in which the two points differ,
+// and at most one look-up each follows; a look-up takes at most n + 1 comparisons. `flips_covered` hands on what it
+// requires.
 fn flip_passes(
     g: Lookup,
     images: &[u8],
     points: &[u64],
     links: &[u32],
+    stay: &[u64],
     moved: &mut [u64],
     count: usize,
     seen: Point,
     x: Point,
     v: u32,
 ) -> Tested
-    requires { ⌜ Follows g (now images) (pointsOf (now points)) (now links) (pointsOf (now moved)) count seen x
-        × (v < g .variables) ⌝ }
+    requires { ⌜ Follows g (now images) (pointsOf (now points)) (now links) (pointsOf (now stay))
+        (pointsOf (now moved)) count seen x × (v < g .variables) ⌝ }
     ensures { λ r. ⌜ (r .passed ≡ covered (permutationsIn (g .variables) (g .permutations) (now (images .entry)))
         (take count (pointsOf (now (points .entry)))) (flip x v))
         × Imaged (g .variables) (g .permutations) (now (images .entry)) (r .seen) (pointsOf (now (moved .exit))) ⌝ }
@@ -75,7 +79,7 @@ fn flip_passes(
     if contains(n, points, links, g.heads, count, flipped) {
         return Tested { passed: true, seen };
     }
-    move_images(n, g.permutations, images, moved, seen, x);
+    next_images(n, g.permutations, images, stay, moved, seen, x);
     let passed = image_covered(g, images, points, links, moved, count, x, v);
     Tested { passed, seen: x }
 }
@@ -87,14 +91,15 @@ fn flips_covered(
     images: &[u8],
     points: &[u64],
     links: &[u32],
+    stay: &[u64],
     moved: &mut [u64],
     count: usize,
     seen: Point,
     x: Point,
     listed: Point,
 ) -> Tested
-    requires { ⌜ Follows g (now images) (pointsOf (now points)) (now links) (pointsOf (now moved)) count seen x
-        × (listed < 2 ^ g .variables) ⌝ }
+    requires { ⌜ Follows g (now images) (pointsOf (now points)) (now links) (pointsOf (now stay))
+        (pointsOf (now moved)) count seen x × (listed < 2 ^ g .variables) ⌝ }
     ensures { λ r. ⌜ (r .passed ≡ allFlips (covered (permutationsIn (g .variables) (g .permutations)
         (now (images .entry))) (take count (pointsOf (now (points .entry))))) (g .variables) x listed)
         × Imaged (g .variables) (g .permutations) (now (images .entry)) (r .seen) (pointsOf (now (moved .exit))) ⌝ }
@@ -104,7 +109,7 @@ fn flips_covered(
     let mut left = listed;
     let mut v = points::next_variable(left);
     while v < n {
-        let tested = flip_passes(g, images, points, links, moved, count, at, x, v);
+        let tested = flip_passes(g, images, points, links, stay, moved, count, at, x, v);
         at = tested.seen;
         if !tested.passed {
             return Tested {
@@ -130,10 +135,11 @@ fn first_uncovered(
     points: &[u64],
     falsified: &[u32],
     links: &[u32],
+    stay: &[u64],
     count: usize,
 ) -> usize
     requires { ⌜ Testable g (now images) (lentClauses (now positive) (now negative)) (pointsOf (now points))
-        (now links) count ⌝ }
+        (now links) count × Staying (g .variables) (g .permutations) (now images) (pointsOf (now stay)) ⌝ }
     ensures { λ r. ⌜ r ≡ firstFailing (flipsPass (g .variables)
         (numbered (lentClauses (now (positive .entry)) (now (negative .entry))))
         (permutationsIn (g .variables) (g .permutations) (now (images .entry)))
@@ -146,7 +152,18 @@ fn first_uncovered(
         let k = number_at(falsified, i);
         let x = point_at(points, i);
         let listed = variables_of(positive, negative, k);
-        let tested = flips_covered(g, images, points, links, &mut moved, count, seen, x, listed);
+        let tested = flips_covered(
+            g,
+            images,
+            points,
+            links,
+            stay,
+            &mut moved,
+            count,
+            seen,
+            x,
+            listed,
+        );
         if !tested.passed {
             return i + 1;
         }
@@ -154,6 +171,30 @@ fn first_uncovered(
         i += 1;
     }
     0
+}
+
+// For how many points at most no sets of the variables that stay are made: it would take longer than they save.
+const FEW: usize = 256;
+
+// Stores for each permutation the set of the variables that it sends to themselves, and says how many of the sets to go
+// by: all, or none where the points are few or the permutations move more than half of the variables. At most n steps
+// for each permutation.
+fn sets_at_hand(g: Lookup, images: &[u8], stay: &mut [u64], count: usize) -> usize
+    requires { ⌜ Permuting (g .variables) (g .permutations) (now images)
+        × (g .permutations ≤ length (pointsOf (now stay))) ⌝ }
+    ensures { λ r. ⌜ (r ≤ length (pointsOf (now (stay .exit))))
+        × Staying (g .variables) (g .permutations) (now (images .entry)) (take r (pointsOf (now (stay .exit)))) ⌝ }
+{
+    if count <= FEW {
+        return 0;
+    }
+    let total = staying_sets(g.variables, g.permutations, images, stay);
+    let end = g.permutations as usize;
+    let all = end * g.variables as usize;
+    if total < all / 2 {
+        return 0;
+    }
+    end
 }
 
 // R18: refusal 18, of the first `count` points and numbers. For each point at most n · (permutations + 1) look-ups, each
@@ -176,6 +217,9 @@ pub fn flips_refusal(
         (permutationsIn (g .variables) (g .permutations) (now (images .entry)))
         (take count (pointsOf (now (points .entry)))) (now (falsified .entry)) ⌝ }
 {
+    let mut stay = [0u64; Formula::MAX_PERMUTATIONS as usize];
+    let sets = sets_at_hand(g, images, &mut stay, count);
+    let known = first_points(&stay, sets);
     let k = first_uncovered(
         g,
         images,
@@ -184,6 +228,7 @@ pub fn flips_refusal(
         points,
         falsified,
         links,
+        known,
         count,
     );
     if k == 0 {

@@ -1,18 +1,25 @@
 // Which flips of a point are covered by the points of an index, modulo one listed permutation. The images of the
-// point are at hand: that of a flip is one of them with one more flip, and those of the next point are these with a
-// few.
+// point are at hand: that of a flip is one of them with one more flip, and those of the next point are these, changed
+// where the images of the variables are in which the two points differ.
+use permutation_images::fixed;
+use permutation_images::image_of_set;
+use permutation_images::permutation_at;
 use point_index::contains;
 use point_slices::point_at;
+use point_slices::point_count;
 use point_slices::put_point;
 use points::Point;
 ghost use mathlib.Core.Path.{_≡_};
 ghost use Prim.Native.Nat.{_+_, _-_, _*_, _^_, _≤_, _<_};
-ghost use lib.ListN.{length, getD, take};
+ghost use lib.Bits.{bitXor};
+ghost use lib.ListN.{length, getD, take, drop};
 ghost use Rattle.math.specs.Bits.{flip};
 ghost use Rattle.math.specs.Lists.{any};
 ghost use Rattle.point_slices.specs.Slices.{pointsOf};
-ghost use Rattle.permutation_theory.specs.Permutations.{imageIn, covered, permutationsIn};
-ghost use Rattle.permutation_coverage.specs.Laws.Coverage.{Permuting, Imaged, Coverable, Turns, Sends};
+ghost use Rattle.permutation_theory.specs.Permutations.{imageIn, imageOfPoint, covered};
+ghost use Rattle.permutation_theory.specs.Permutations.{permutationsIn};
+ghost use Rattle.permutation_coverage.specs.Laws.Coverage.{Permuting, Imaged, Coverable, Turns, Sends, Stays};
+ghost use Rattle.permutation_coverage.specs.Laws.Coverage.{Staying};
 
 // What a look-up goes by: the number of variables and of permutations, and the heads of the index.
 pub struct Lookup {
@@ -37,7 +44,7 @@ fn flipped_image(n: u32, images: &[u8], moved: &[u64], i: usize, v: u32) -> Poin
 // Turns the images of a point into those of the point with variable v flipped: one step for each permutation.
 fn flip_images(n: u32, permutations: u32, images: &[u8], moved: &mut [u64], v: u32)
     requires { ⌜ Permuting n permutations (now images) × (permutations ≤ length (pointsOf (now moved))) × (v < n) ⌝ }
-    ensures { λ _. ⌜ Turns n permutations (now (images .entry)) v (pointsOf (now (moved .entry)))
+    ensures { λ _. ⌜ Turns n permutations (now (images .entry)) (2 ^ v) (pointsOf (now (moved .entry)))
         (pointsOf (now (moved .exit))) ⌝ }
 {
     let permutations = permutations as usize;
@@ -63,6 +70,93 @@ pub fn move_images(n: u32, permutations: u32, images: &[u8], moved: &mut [u64], 
         left = points::flip(left, v);
         v = points::next_variable(left);
     }
+}
+
+// The image stored at index i, changed where the permutation of index i sends the variables of s: the image of a point
+// that differs in those (`image-differing`). The set at index i of `stay` has variables that the permutation sends to
+// themselves: one step for each other variable of s.
+fn changed_image(n: u32, images: &[u8], stay: &[u64], moved: &[u64], i: usize, s: Point) -> Point
+    requires { ⌜ Stays n i (now images) (pointsOf (now stay)) ⌝ }
+    ensures { λ r. ⌜ r ≡ bitXor (getD (pointsOf (now (moved .entry))) i 0)
+        (imageOfPoint (record { images = take n (drop (i * n) (now (images .entry))) }) s) ⌝ }
+{
+    let e = permutation_at(n as usize, images, i);
+    let staying = point_at(stay, i);
+    let change = image_of_set(e, staying, s);
+    let image = point_at(moved, i);
+    points::differing(image, change)
+}
+
+// Turns the images of a point into those of the point that differs from it in the variables of s: one step for each
+// permutation, and for each variable of s that it is not known to send to itself.
+fn change_images(
+    n: u32,
+    permutations: u32,
+    images: &[u8],
+    stay: &[u64],
+    moved: &mut [u64],
+    s: Point,
+)
+    requires { ⌜ Permuting n permutations (now images) × Staying n permutations (now images) (pointsOf (now stay))
+        × (permutations ≤ length (pointsOf (now moved))) ⌝ }
+    ensures { λ _. ⌜ Turns n permutations (now (images .entry)) s (pointsOf (now (moved .entry)))
+        (pointsOf (now (moved .exit))) ⌝ }
+{
+    let permutations = permutations as usize;
+    let mut i = 0;
+    while i < permutations {
+        let image = changed_image(n, images, stay, moved, i, s);
+        put_point(moved, i, image);
+        i += 1;
+    }
+}
+
+// In how many variables two points differ at most whose images are turned one variable at a time: so few turns take no
+// longer than one change of each image.
+const NEAR: u32 = 8;
+
+// Turns the images of x into those of y: as `move_images` does where the points are near or `stay` is empty, else one
+// change of each image, whose steps are the variables that differ and are not in its set of `stay`.
+pub fn next_images(
+    n: u32,
+    permutations: u32,
+    images: &[u8],
+    stay: &[u64],
+    moved: &mut [u64],
+    x: Point,
+    y: Point,
+)
+    requires { ⌜ Permuting n permutations (now images) × Staying n permutations (now images) (pointsOf (now stay))
+        × Imaged n permutations (now images) x (pointsOf (now moved)) × (y < 2 ^ n) ⌝ }
+    ensures { λ _. ⌜ Imaged n permutations (now (images .entry)) y (pointsOf (now (moved .exit))) ⌝ }
+{
+    let apart = points::distance(x, y);
+    if point_count(stay) == 0 || apart <= NEAR {
+        move_images(n, permutations, images, moved, x, y);
+    } else {
+        let s = points::differing(x, y);
+        change_images(n, permutations, images, stay, moved, s);
+    }
+}
+
+// Stores for each permutation the set of the variables that it sends to themselves, and says how many those are in all:
+// n steps for each permutation.
+pub fn staying_sets(n: u32, permutations: u32, images: &[u8], stay: &mut [u64]) -> usize
+    requires { ⌜ Permuting n permutations (now images) × (permutations ≤ length (pointsOf (now stay))) ⌝ }
+    ensures { λ _. ⌜ Staying n permutations (now (images .entry)) (pointsOf (now (stay .exit))) ⌝ }
+{
+    let permutations = permutations as usize;
+    let mut total = 0;
+    let mut i = 0;
+    while i < permutations {
+        let e = permutation_at(n as usize, images, i);
+        let still = fixed(e);
+        put_point(stay, i, still);
+        let size = points::distance(still, points::EMPTY);
+        total += size as usize;
+        i += 1;
+    }
+    total
 }
 
 // Whether an image of x with variable v flipped is among the first k points, of which the links are an index; `moved`

@@ -22,7 +22,7 @@ use Rattle.points.specs.Laws.NextLaws.{next-lowest, next-none}
 use Rattle.points.specs.Points.{pointDigits, Clause, Numbered, listed, variables, numbered, emptyClause}
 use Rattle.point_theory.specs.Laws.Notions.{ClausesBelow}
 use Rattle.permutation_theory.specs.Permutations.{Permutation, covered}
-use Rattle.permutation_coverage.specs.Laws.Coverage.{Permuting, Imaged, Coverable}
+use Rattle.permutation_coverage.specs.Laws.Coverage.{Permuting, Imaged, Coverable, Staying}
 use Rattle.formula.specs.Reply.{faultAt}
 use Rattle.certificate.specs.Laws.RowLaws.{clause-found}
 use Rattle.certificate.specs.Rows.{clauseNumbered}
@@ -123,9 +123,11 @@ module _ {g : Lookup} {images : List ℕ} {clauses : List Clause} {points links 
       (t .indexed .indexes .narrow i (subst (λ (m : ℕ). i < m) (sym (length-take-le count points (t .enough))) lt))
 
   -- the flips of a point that is indexed
-  pub tested-follows : (i x : ℕ) → x ≡ getD points i 0 → i < count → {seen : ℕ} {moved : List ℕ}
-      → Imaged (g .variables) (g .permutations) images seen moved → Follows g images points links moved count seen x
-  tested-follows i x at lt known =
+  pub tested-follows : (i x : ℕ) → x ≡ getD points i 0 → i < count → {seen : ℕ} {stay moved : List ℕ}
+      → Staying (g .variables) (g .permutations) images stay
+      → Imaged (g .variables) (g .permutations) images seen moved
+      → Follows g images points links stay moved count seen x
+  tested-follows i x at lt sets known =
       record {
         askable = record {
           few = digits-suffice (t .given .few);
@@ -133,21 +135,23 @@ module _ {g : Lookup} {images : List ℕ} {clauses : List Clause} {points links 
           narrow = subst (λ (y : ℕ). y < 2 ^ g .variables) (sym at) (tested-narrow i lt);
         };
         permuting = tested-permuting;
+        staying = sets;
         imaged = known;
       }
 
 -- where the images are those of x itself, its images can be looked up too
-pub follows-covers : {g : Lookup} {images points links moved₀ : List ℕ} {count seen x : ℕ}
-    → Follows g images points links moved₀ count seen x → {moved : List ℕ}
+pub follows-covers : {g : Lookup} {images points links stay moved₀ : List ℕ} {count seen x : ℕ}
+    → Follows g images points links stay moved₀ count seen x → {moved : List ℕ}
     → Imaged (g .variables) (g .permutations) images x moved
     → Coverable (g .heads) (g .variables) count points links (g .permutations) images moved x
 follows-covers f known = record { askable = f .askable; permuting = f .permuting; imaged = known .imaged }
 
 -- the images may be those of another point
-pub follows-on : {g : Lookup} {images points links moved₀ : List ℕ} {count seen x : ℕ}
-    → Follows g images points links moved₀ count seen x → {at : ℕ} {moved : List ℕ}
-    → Imaged (g .variables) (g .permutations) images at moved → Follows g images points links moved count at x
-follows-on f known = record { askable = f .askable; permuting = f .permuting; imaged = known }
+pub follows-on : {g : Lookup} {images points links stay moved₀ : List ℕ} {count seen x : ℕ}
+    → Follows g images points links stay moved₀ count seen x → {at : ℕ} {moved : List ℕ}
+    → Imaged (g .variables) (g .permutations) images at moved → Follows g images points links stay moved count at x
+follows-on f known =
+    record { askable = f .askable; permuting = f .permuting; staying = f .staying; imaged = known }
 
 -- ---- the test of one point, and the row
 

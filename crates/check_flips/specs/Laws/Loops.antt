@@ -14,7 +14,7 @@ use Rattle.permutation_theory.specs.Permutations.{Permutation, IsPermutation, p
 use Rattle.permutation_images.specs.Laws.Contracts.{Listed}
 use Rattle.point_index.specs.Laws.Index.{Indexed}
 use Rattle.point_index.specs.Laws.Looking.{Askable}
-use Rattle.permutation_coverage.specs.Laws.Coverage.{Permuting, Imaged}
+use Rattle.permutation_coverage.specs.Laws.Coverage.{Permuting, Imaged, Staying}
 use Rattle.permutation_coverage.specs.declared.Lookup.{Lookup}
 use Rattle.formula.specs.Limits.{maxVariables, maxPermutations}
 
@@ -44,10 +44,12 @@ pub record Testable (g : Lookup) (images : List ℕ) (clauses : List Clause) (po
     pub enough : tested ≤ length points
     pub indexed : Indexed (g .heads) (g .variables) (take tested points) links
 
--- flips of x, a point of n digits, can be looked up, and `moved` has the images of `seen`
-pub record Follows (g : Lookup) (images points links moved : List ℕ) (tested seen x : ℕ) : Type 0 where
+-- flips of x, a point of n digits, can be looked up, `stay` has sets of variables that stay, and `moved` has the images
+-- of `seen`
+pub record Follows (g : Lookup) (images points links stay moved : List ℕ) (tested seen x : ℕ) : Type 0 where
   pub askable : Askable (g .heads) (g .variables) (take tested points) links x
   pub permuting : Permuting (g .variables) (g .permutations) images
+  pub staying : Staying (g .variables) (g .permutations) images stay
   pub imaged : Imaged (g .variables) (g .permutations) images seen moved
 
 -- the loop over the variables of the set s: those of `left` are still to be tested, v the lowest of them, and they

@@ -1,18 +1,18 @@
 -- `permutation_coverage::flip_images` meets its contract: before index i the images are those of the flipped point.
 -- Assumes nothing.
 use mathlib.Core.Path.{_≡_, refl, _∙_}
-use Prim.Native.Nat.{_-_}
+use Prim.Native.Nat.{_-_, _^_}
 use lib.ListN.{length}
 use Rattle.point_slices.specs.Slices.{pointsOf}
 use Rattle.permutation_coverage.specs.Laws.Coverage.{Turning}
-use Rattle.permutation_coverage.specs.Laws.CoverageLaws.{flip-sends, turning-begins, turning-goes-on}
+use Rattle.permutation_coverage.specs.Laws.CoverageLaws.{flip-sends, turning-begins, turning-flips}
 use Rattle.permutation_coverage.specs.Laws.CoverageLaws.{turning-ends}
 use borrow.Author.Needs.{needs}
 use Rattle.permutation_coverage.proofs.flip_images.Statement.{statement}
 use Rattle.permutation_coverage.proofs.flip_images.Tie as tie
 
 abbrev Inv-loop : tie.InvT-loop
-Inv-loop n permutations images moved₀ v size i₀ moved i = (length moved ≡ length moved₀) × Turning n permutations images v (pointsOf moved₀) i (pointsOf moved)
+Inv-loop n permutations images moved₀ v size i₀ moved i = (length moved ≡ length moved₀) × Turning n permutations images (2 ^ v) (pointsOf moved₀) i (pointsOf moved)
 
 abbrev μ-loop : tie.MeasureT-loop
 μ-loop n permutations images moved₀ v size i₀ moved i = permutations - i
@@ -21,7 +21,7 @@ loop-holds : tie.Need-loop-holds Inv-loop μ-loop
 loop-holds c = (refl, turning-begins _ _ _ _ _)
 
 flipped-image-requires : tie.Need-flipped-image-requires Inv-loop μ-loop
-flipped-image-requires c κs = flip-sends (c .before .before .before .before .before .pre .0) _ (c .before .before .before .before .before .pre .2) _ (c .before .loop-test .taken)
+flipped-image-requires c κs = flip-sends (c .before .before .before .before .before .pre .0) _ (c .before .loop-test .taken) _ (c .before .before .before .before .before .pre .2)
 
 put-point-requires : tie.Need-put-point-requires Inv-loop μ-loop
 put-point-requires c κs = search needs
@@ -29,7 +29,7 @@ put-point-requires c κs = search needs
 loop-again : tie.Need-loop-again Inv-loop μ-loop
 loop-again c = (
   c .before .before .put-point .kept .0 ∙ c .before .before .before .before .before .before .before .loop .inv .0,
-  turning-goes-on _ _ _ _ _ (c .before .before .before .before .before .before .before .before .before .before .pre .0) (c .before .before .before .before .before .before .before .before .before .before .pre .2) (c .before .before .before .before .before .before .before .before .before .before .pre .1) (c .before .before .before .before .before .before .before .loop .inv .1) (c .before .before .before .before .before .before .loop-test .taken) _ (c .before .before .before .before .flipped-image .ensures) _ (c .before .before .put-point .ensures .0),
+  turning-flips _ _ _ _ _ (c .before .before .before .before .before .before .before .before .before .before .pre .0) (c .before .before .before .before .before .before .before .before .before .before .pre .1) (c .before .before .before .before .before .before .before .loop .inv .1) (c .before .before .before .before .before .before .loop-test .taken) _ _ (c .before .before .put-point .ensures .0) _ (c .before .before .before .before .before .before .before .before .before .before .pre .2) refl (c .before .before .before .before .flipped-image .ensures),
 )
 
 same-length : tie.Need-same-length Inv-loop μ-loop

@@ -22,7 +22,7 @@ abbrev μ-loop : tie.MeasureT-loop
 μ-loop g images points links moved k x v n size i₀ i = g .permutations - i
 
 flipped-image-requires : tie.Need-flipped-image-requires Inv-loop μ-loop
-flipped-image-requires c κs = let pre = c .before .before .before .before .before .before .before .pre in flip-sends (pre .0 .permuting) _ (pre .1) _ (c .loop-test .taken)
+flipped-image-requires c κs = let pre = c .before .before .before .before .before .before .before .pre in flip-sends (pre .0 .permuting) _ (c .loop-test .taken) _ (pre .1)
 
 contains-requires : tie.Need-contains-requires Inv-loop μ-loop
 contains-requires c κs =

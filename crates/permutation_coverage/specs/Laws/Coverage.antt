@@ -3,13 +3,14 @@ use mathlib.Core.Bool.{xor}
 use mathlib.Core.List.{List, map}
 use mathlib.Core.Path.{_≡_}
 use Prim.Native.Nat.{ℕ, _+_, _*_, _≤_, _<_, _^_}
-use lib.ListN.{length, getD, take}
-use Rattle.math.specs.Bits.{bit, flip}
+use lib.Bits.{bitXor}
+use lib.ListN.{length, getD, take, drop}
+use Rattle.math.specs.Bits.{bit}
 use Rattle.math.specs.Lists.{_∈_, over}
 use Rattle.points.specs.Points.{pointDigits}
 use Rattle.points.specs.Laws.Contracts.{NextVariable}
 use Rattle.permutation_theory.specs.Permutations.{Permutation, IsPermutation, imageOfPoint, permutationsIn}
-use Rattle.permutation_images.specs.Laws.Contracts.{Listed}
+use Rattle.permutation_images.specs.Laws.Contracts.{Listed, Movable, Fixes}
 use Rattle.point_index.specs.Laws.Looking.{Askable}
 
 -- the images of x under the permutations, in their order
@@ -35,17 +36,17 @@ pub record Coverable (heads n k : ℕ) (points links : List ℕ) (permutations :
     pub permuting : Permuting n permutations images
     pub imaged : take permutations moved ≡ imagesOf (permutationsIn n permutations images) x
 
--- what was the images of some point is those of the point with the variable v flipped
+-- what was the images of some point is those of the point that differs from it in the variables of s
 abbrev pub Turns : ℕ → ℕ → List ℕ → ℕ → List ℕ → List ℕ → Type 0
-Turns n permutations images v old new = (x : ℕ)
+Turns n permutations images s old new = (x : ℕ)
     → take permutations old ≡ imagesOf (permutationsIn n permutations images) x
-    → take permutations new ≡ imagesOf (permutationsIn n permutations images) (flip x v)
+    → take permutations new ≡ imagesOf (permutationsIn n permutations images) (bitXor x s)
 
--- before index i the images are flipped, whichever the point is; those from i on are as they were
-pub record Turning (n permutations : ℕ) (images : List ℕ) (v : ℕ) (old : List ℕ) (i : ℕ) (moved : List ℕ) : Type 0 where
+-- before index i the images are turned, whichever the point is; those from i on are as they were
+pub record Turning (n permutations : ℕ) (images : List ℕ) (s : ℕ) (old : List ℕ) (i : ℕ) (moved : List ℕ) : Type 0 where
   pub lengths : length moved ≡ length old
   pub turned : (x : ℕ) → take permutations old ≡ imagesOf (permutationsIn n permutations images) x
-      → moved ≡ over (take i (imagesOf (permutationsIn n permutations images) (flip x v))) old
+      → moved ≡ over (take i (imagesOf (permutationsIn n permutations images) (bitXor x s))) old
   pub rest : (j : ℕ) → i ≤ j → getD moved j 0 ≡ getD old j 0
 
 -- `moved` has the images of a point of n digits, which differs from y in the variables of `left`, v the lowest of them
@@ -63,3 +64,17 @@ pub record Sends (n i v : ℕ) (images : List ℕ) : Type 0 where
   pub room : i * n + v < length images
   pub low : 1 ≤ getD images (i * n + v) 0
   pub high : getD images (i * n + v) 0 ≤ pointDigits
+
+-- the numbers of the permutation of index i
+abbrev pub numbersAt : ℕ → ℕ → List ℕ → List ℕ
+numbersAt n i images = take n (drop (i * n) images)
+
+-- permutation i is there, and sends each variable of the set at index i to itself
+pub record Stays (n i : ℕ) (images stay : List ℕ) : Type 0 where
+  pub room : i * n + n ≤ length images
+  pub movable : Movable (numbersAt n i images)
+  pub still : Fixes (numbersAt n i images) (length (numbersAt n i images)) (getD stay i 0)
+
+-- each of the first k permutations sends the variables of its set to themselves
+pub record Staying (n k : ℕ) (images stay : List ℕ) : Type 0 where
+  pub still : (i : ℕ) → i < k → Fixes (numbersAt n i images) (length (numbersAt n i images)) (getD stay i 0)

@@ -4,14 +4,15 @@ use mathlib.Core.Bool.{Bool, true, false, xor, _||_}
 use mathlib.Core.List.{List, [], _∷_}
 use mathlib.Core.Path.{_≡_, refl, sym, ap, ap₂, _∙_, subst}
 use Prim.Native.Nat.{ℕ, suc, _+_, _-_, _*_, _≤_, _<_, _^_}
-use native.Mathlib.Nat.{le-of-eq, le-refl, le-trans, lt-of-lt-of-le}
+use native.Mathlib.Decide.{ℕ-discrete}
+use native.Mathlib.Nat.{le-of-eq, le-refl, le-trans, lt-of-lt-of-le, not-suc-le-zero}
 use native.Mathlib.Omega.{arith}
 use lib.Bits.{bitXor, xor-lt}
 use lib.Dec.{eqb}
 use lib.ListN.{length, getD, set, take, drop, replicate, length-map, length-replicate, length-set, List·getD-map}
 use lib.Pow.{pow-pos}
-use lib.Seq.{getD-take, getD-drop, getD-set-other, take-all}
-use Rattle.math.specs.Laws.BitLaws.{bit-of-zero, bit-xor, bit-flip, bits-ext-below, flip-lt}
+use lib.Seq.{getD-take, getD-drop, getD-set-same, getD-set-other, take-all}
+use Rattle.math.specs.Laws.BitLaws.{bit-of-zero, bit-xor, bit-flip, bits-ext, bits-ext-below, flip-lt}
 use Rattle.math.specs.Bits.{bit, flip, members}
 use Rattle.math.specs.Laws.ListLaws.{getD-in}
 use Rattle.math.specs.Lists.{any, has, over}
@@ -22,13 +23,16 @@ use Rattle.math.specs.Laws.SetLaws.{members-next}
 use Rattle.points.specs.Points.{pointDigits}
 use Rattle.points.specs.Laws.Contracts.{NextVariable}
 use Rattle.points.specs.Laws.NextLaws.{next-lowest, next-empty}
-use Rattle.permutation_theory.specs.Laws.ImageLaws.{image-flip, image-sound, moved-none, sent-range}
-use Rattle.permutation_theory.specs.Permutations.{Permutation, IsPermutation, imageOfPoint, imageIn, covered}
+use Rattle.permutation_theory.specs.Laws.ImageLaws.{image-differing, image-flip, image-sound, moved-none, sent-range}
+use Rattle.permutation_theory.specs.Permutations.{Permutation, IsPermutation, moved, imageOfPoint, imageIn, covered}
 use Rattle.permutation_theory.specs.Permutations.{permutationsIn}
+use Rattle.permutation_images.specs.Laws.Contracts.{Movable, Fixes}
 use Rattle.permutation_images.specs.Laws.LoopLaws.{noPermutation, length-permutations, permutation-at, listed-room}
+use Rattle.permutation_images.specs.Laws.LoopLaws.{listed-movable}
+use Rattle.permutation_images.specs.Laws.SetLaws.{fixes-none}
 use Rattle.point_index.specs.Laws.Looking.{Askable}
 use Rattle.permutation_coverage.specs.Laws.Coverage.{imagesOf, Permuting, Imaged, Coverable, Turns, Turning}
-use Rattle.permutation_coverage.specs.Laws.Coverage.{Moving, Sends}
+use Rattle.permutation_coverage.specs.Laws.Coverage.{Moving, Sends, Stays, Staying, numbersAt}
 
 -- ---- the images of a point, stored one by one
 
@@ -80,76 +84,166 @@ imaged-none n permutations size images le =
     each [] = refl
     each (e ∷ es) = ap₂ (λ (y : ℕ) (l : List ℕ). y ∷ l) (moved-none (e .images)) (each es)
 
--- ---- the image of a flipped point under one permutation
+-- ---- the image of a flipped point under one permutation, and of one that differs in several variables
 
-module _ {n permutations : ℕ} {images : List ℕ} (g : Permuting n permutations images) (v : ℕ) (inside : v < n) (i : ℕ)
-    (lt : i < permutations) where
-  inside-all : i < length (permutationsIn n permutations images)
-  inside-all = lt-of-lt-of-le lt (le-of-eq (sym (length-permutations n permutations images)))
+module _ {n permutations : ℕ} {images : List ℕ} (g : Permuting n permutations images) (i : ℕ) (lt : i < permutations)
+  where
+    inside-all : i < length (permutationsIn n permutations images)
+    inside-all = lt-of-lt-of-le lt (le-of-eq (sym (length-permutations n permutations images)))
 
-  abbrev own : Permutation
-  own = getD (permutationsIn n permutations images) i noPermutation
+    abbrev own : Permutation
+    own = getD (permutationsIn n permutations images) i noPermutation
 
-  own-proper : IsPermutation n own
-  own-proper = g .proper own (getD-in (permutationsIn n permutations images) i noPermutation inside-all)
+    own-proper : IsPermutation n own
+    own-proper = g .proper own (getD-in (permutationsIn n permutations images) i noPermutation inside-all)
 
-  -- where it sends v, read in the bytes
-  byte : getD images (i * n + v) 0 ≡ getD (own .images) v 0
-  byte =
-      sym (ap (λ (e : Permutation). getD (e .images) v 0) (permutation-at n permutations i images noPermutation lt)
-      ∙ getD-take n _ v 0 inside ∙ getD-drop (i * n) images v 0)
+    -- the image of a point under it is at index i
+    held : (moved : List ℕ) (x : ℕ) → take permutations moved ≡ imagesOf (permutationsIn n permutations images) x
+        → getD moved i 0 ≡ imageOfPoint own x
+    held moved x imaged = sym (getD-take permutations moved i 0 lt) ∙ ap (λ (l : List ℕ). getD l i 0) imaged
+        ∙ image-at n permutations images x i
 
-  pub flip-sends : Sends n i v images
-  flip-sends =
-      let room = listed-room n permutations i images (g .listed) lt in
-      let range = sent-range n own own-proper v inside in
-      let few = g .few in
-      record {
-        within = lt-of-lt-of-le inside few;
-        room = omega arith;
-        low = omega (arith, byte, range .0);
-        high = omega
-            (arith, byte, range .1, few);
-      }
+    -- that of another is this, changed where the variables are sent in which the points differ
+    pub image-changed : (moved : List ℕ) (x s y : ℕ)
+        → take permutations moved ≡ imagesOf (permutationsIn n permutations images) x
+        → y ≡ bitXor (getD moved i 0) (imageOfPoint (record { images = numbersAt n i images }) s)
+        → y ≡ imageOfPoint own (bitXor x s)
+    image-changed moved x s y imaged is =
+        is ∙ ap₂ bitXor (held moved x imaged)
+        (ap (λ (e : Permutation). imageOfPoint e s) (sym (permutation-at n permutations i images noPermutation lt)))
+        ∙ sym (image-differing n own own-proper x s)
 
-  -- it is the image, flipped where v is sent
-  pub image-flipped : (moved : List ℕ) (x y : ℕ)
-      → take permutations moved ≡ imagesOf (permutationsIn n permutations images) x
-      → y ≡ flip (getD moved i 0) (getD images (i * n + v) 0 - 1)
-      → y ≡ imageOfPoint own (flip x v)
-  image-flipped moved x y imaged is = is ∙ ap₂ (λ (z u : ℕ). flip z (u - 1)) at byte
-      ∙ sym (image-flip n own own-proper x v inside)
-    where
-      at : getD moved i 0 ≡ imageOfPoint own x
-      at = sym (getD-take permutations moved i 0 lt) ∙ ap (λ (l : List ℕ). getD l i 0) imaged
-          ∙ image-at n permutations images x i
+    module _ (v : ℕ) (inside : v < n) where
+      -- where it sends v, read in the bytes
+      byte : getD images (i * n + v) 0 ≡ getD (own .images) v 0
+      byte =
+          sym (ap (λ (e : Permutation). getD (e .images) v 0) (permutation-at n permutations i images noPermutation lt)
+          ∙ getD-take n _ v 0 inside ∙ getD-drop (i * n) images v 0)
 
--- ---- all images flipped, one by one
+      pub flip-sends : Sends n i v images
+      flip-sends =
+          let room = listed-room n permutations i images (g .listed) lt in
+          let range = sent-range n own own-proper v inside in
+          let few = g .few in
+          record {
+            within = lt-of-lt-of-le inside few;
+            room = omega arith;
+            low = omega (arith, byte, range .0);
+            high = omega (arith, byte, range .1, few);
+          }
 
-module _ (n permutations : ℕ) (images : List ℕ) (v : ℕ) (old : List ℕ) where
-  pub turning-begins : Turning n permutations images v old 0 old
+      -- and that of the point with v flipped is this, flipped there
+      pub image-flipped : (moved : List ℕ) (x y : ℕ)
+          → take permutations moved ≡ imagesOf (permutationsIn n permutations images) x
+          → y ≡ flip (getD moved i 0) (getD images (i * n + v) 0 - 1)
+          → y ≡ imageOfPoint own (flip x v)
+      image-flipped moved x y imaged is = is ∙ ap₂ (λ (z u : ℕ). flip z (u - 1)) (held moved x imaged) byte
+          ∙ sym (image-flip n own own-proper x v inside)
+
+-- ---- all images turned, one by one
+
+module _ (n permutations : ℕ) (images : List ℕ) (s : ℕ) (old : List ℕ) where
+  pub turning-begins : Turning n permutations images s old 0 old
   turning-begins = record { lengths = refl; turned = λ x e. sym (over-none old); rest = λ j le. refl }
 
-  pub turning-goes-on : Permuting n permutations images → v < n → permutations ≤ length old → {i : ℕ} {moved : List ℕ}
-      → Turning n permutations images v old i moved → i < permutations
-      → (y : ℕ) → y ≡ flip (getD moved i 0) (getD images (i * n + v) 0 - 1) → (moved′ : List ℕ) → moved′ ≡ set moved i y
-      → Turning n permutations images v old (i + 1) moved′
-  turning-goes-on g inside enough {i} {moved} t lt y is moved′ stored =
+  -- one image more, whichever way it was made
+  module _ (g : Permuting n permutations images) (enough : permutations ≤ length old) {i : ℕ} {moved : List ℕ}
+      (t : Turning n permutations images s old i moved) (lt : i < permutations) (y : ℕ) (moved′ : List ℕ)
+      (stored : moved′ ≡ set moved i y) where
+    goes-on : ((x : ℕ) → take permutations old ≡ imagesOf (permutationsIn n permutations images) x
+        → y ≡ imageOfPoint (own g i lt) (bitXor x s)) → Turning n permutations images s old (i + 1) moved′
+    goes-on is =
+        record {
+          lengths = ap length stored ∙ length-set moved i y ∙ t .lengths;
+          turned = λ x e.
+              stored ∙ ap (λ (l : List ℕ). set l i y) (t .turned x e)
+              ∙ images-next n permutations images (bitXor x s) old i y lt (lt-of-lt-of-le lt enough) (is x e);
+          rest = λ j le.
+              ap (λ (l : List ℕ). getD l j 0) stored
+              ∙ getD-set-other moved i j y 0 (λ e. let z : ⊥ = omega arith in z) ∙ t .rest j (omega arith);
+        }
+
+    pub turning-flips : (v : ℕ) → v < n → s ≡ 2 ^ v → y ≡ flip (getD moved i 0) (getD images (i * n + v) 0 - 1)
+        → Turning n permutations images s old (i + 1) moved′
+    unfolding flip
+    turning-flips v inside one is =
+        goes-on (λ x e. image-flipped g i lt v inside old x y e
+        (is ∙ ap (λ (z : ℕ). flip z (getD images (i * n + v) 0 - 1)) (t .rest i (le-refl i)))
+        ∙ ap (λ (z : ℕ). imageOfPoint (own g i lt) (bitXor x z)) (sym one))
+
+    pub turning-changes : y ≡ bitXor (getD moved i 0) (imageOfPoint (record { images = numbersAt n i images }) s)
+        → Turning n permutations images s old (i + 1) moved′
+    turning-changes is =
+        goes-on (λ x e. image-changed g i lt old x s y e
+        (is ∙ ap (λ (z : ℕ). bitXor z (imageOfPoint (record { images = numbersAt n i images }) s))
+        (t .rest i (le-refl i))))
+
+  pub turning-ends : {i : ℕ} {moved : List ℕ} → Turning n permutations images s old i moved → permutations ≤ i
+      → Turns n permutations images s old moved
+  turning-ends {i} {moved} t ge x e = images-end n permutations images (bitXor x s) moved old i ge (t .turned x e)
+
+-- ---- the variables that stay
+
+module _ {n : ℕ} {images : List ℕ} where
+  -- no set, for no permutation
+  pub staying-none : {stay : List ℕ} → Staying n 0 images stay
+  staying-none = record { still = λ i lt. absurd (not-suc-le-zero lt) }
+
+  -- one set more
+  pub staying-next : {i : ℕ} {stay : List ℕ} → Staying n i images stay → i < length stay → (f : ℕ)
+      → {es : List ℕ} → es ≡ numbersAt n i images → Fixes es (length es) f → (stay′ : List ℕ) → stay′ ≡ set stay i f
+      → Staying n (i + 1) images stay′
+  staying-next {i} {stay} w room f at own-set stay′ stored = record { still = λ j lt. by j lt (ℕ-discrete j i) }
+    where
+      by : (j : ℕ) → j < i + 1 → Dec (j ≡ i)
+          → Fixes (numbersAt n j images) (length (numbersAt n j images)) (getD stay′ j 0)
+      by j lt (yes e) =
+          subst (λ (k : ℕ). Fixes (numbersAt n k images) (length (numbersAt n k images)) (getD stay′ k 0)) (sym e)
+          (subst (Fixes (numbersAt n i images) (length (numbersAt n i images)))
+          (sym (ap (λ (l : List ℕ). getD l i 0) stored ∙ getD-set-same stay i f 0 room))
+          (subst (λ (l : List ℕ). Fixes l (length l) f) at own-set))
+      by j lt (no ne) =
+          subst (Fixes (numbersAt n j images) (length (numbersAt n j images)))
+          (sym (ap (λ (l : List ℕ). getD l j 0) stored ∙ getD-set-other stay i j f 0 ne))
+          (w .still j (let z : j < i = omega arith in z))
+
+  -- no set for any
+  pub staying-empty : {k : ℕ} → Staying n k images []
+  staying-empty = record { still = λ i lt. fixes-none }
+
+  -- the first k sets, for k permutations
+  pub staying-front : {k : ℕ} {stay : List ℕ} → Staying n k images stay → Staying n k images (take k stay)
+  staying-front {k} {stay} w = record {
+    still = λ i lt. subst (Fixes (numbersAt n i images) (length (numbersAt n i images)))
+        (sym (getD-take k stay i 0 lt)) (w .still i lt);
+  }
+
+  -- the last set
+  pub staying-all : {i k : ℕ} {stay : List ℕ} → Staying n i images stay → k ≤ i → Staying n k images stay
+  staying-all w le = record { still = λ j lt. w .still j (lt-of-lt-of-le lt le) }
+
+  -- the set of one permutation
+  pub staying-at : {permutations i : ℕ} → Permuting n permutations images → i < permutations → {stay : List ℕ}
+      → Staying n permutations images stay → Stays n i images stay
+  staying-at {permutations} {i} g lt w =
       record {
-        lengths = ap length stored ∙ length-set moved i y ∙ t .lengths;
-        turned = λ x e.
-            stored ∙ ap (λ (l : List ℕ). set l i y) (t .turned x e)
-            ∙ images-next n permutations images (flip x v) old i y lt (lt-of-lt-of-le lt enough)
-            (image-flipped g v inside i lt old x y e (is
-            ∙ ap (λ (z : ℕ). flip z (getD images (i * n + v) 0 - 1)) (t .rest i (le-refl i))));
-        rest = λ j le.
-            ap (λ (l : List ℕ). getD l j 0) stored ∙ getD-set-other moved i j y 0 (λ e. let z : ⊥ = omega arith in z)
-            ∙ t .rest j (omega arith);
+        room = listed-room n permutations i images (g .listed) lt;
+        movable = listed-movable n permutations i images (g .listed) lt;
+        still = w .still i lt;
       }
 
-  pub turning-ends : {i : ℕ} {moved : List ℕ} → Turning n permutations images v old i moved → permutations ≤ i
-      → Turns n permutations images v old moved
-  turning-ends {i} {moved} t ge x e = images-end n permutations images (flip x v) moved old i ge (t .turned x e)
+  -- by which a set is sent
+  module _ {i : ℕ} {stay es : List ℕ} (w : Stays n i images stay) (at : es ≡ numbersAt n i images) where
+    pub stays-sent : {f : ℕ} → f ≡ getD stay i 0 → Movable es × Fixes es (length es) f
+    stays-sent {f} is = (
+      subst Movable (sym at) (w .movable),
+      subst (λ (l : List ℕ). Fixes l (length l) f) (sym at)
+          (subst (Fixes (numbersAt n i images) (length (numbersAt n i images))) (sym is) (w .still)),
+    )
+
+    pub sent-by : (s : ℕ) {y : ℕ} → y ≡ moved es s → y ≡ imageOfPoint (record { images = numbersAt n i images }) s
+    unfolding imageOfPoint
+    sent-by s is = is ∙ ap (λ (l : List ℕ). moved l s) at
 
 -- ---- from the images of one point to those of another
 
@@ -192,8 +286,9 @@ module _ {n permutations : ℕ} {images : List ℕ} (few : n ≤ pointDigits) (y
     moving-less left′ lt q = le-of-eq (ap (λ (z : ℕ). suc (length (members n z))) q
         ∙ sym (ap length (members-next n left v (next-lowest n left v few (m .next) lt) lt)))
 
-    pub moving-goes-on : v < n → {moved′ : List ℕ} → Turns n permutations images v moved moved′ → (left′ v′ : ℕ)
+    pub moving-goes-on : v < n → {moved′ : List ℕ} → Turns n permutations images (2 ^ v) moved moved′ → (left′ v′ : ℕ)
         → left′ ≡ flip left v → NextVariable left′ v′ → Moving n permutations images y left′ v′ moved′
+    unfolding flip
     moving-goes-on lt turned left′ v′ q next =
         record {
           reached = flip (m .reached) v;
@@ -223,6 +318,30 @@ module _ {n permutations : ℕ} {images : List ℕ} (few : n ≤ pointDigits) (y
             bits-ext-below n (m .reached) y (m .narrow) small (λ i lt.
             no-difference (bit (m .reached) i) (bit y i)
             (sym (bit-of-zero i) ∙ ap (λ (z : ℕ). bit z i) (sym none) ∙ m .differ i))
+
+differs-twice : (a b : Bool) → xor a (xor a b) ≡ b
+unfolding xor
+differs-twice true true = refl
+differs-twice true false = refl
+differs-twice false true = refl
+differs-twice false false = refl
+
+-- all variables in which they differ at once
+pub turns-imaged : {n permutations : ℕ} {images : List ℕ} {x y s : ℕ} {old new : List ℕ}
+    → Imaged n permutations images x old → y < 2 ^ n → s ≡ bitXor x y → length new ≡ length old
+    → Turns n permutations images s old new → Imaged n permutations images y new
+turns-imaged {n} {permutations} {images} {x} {y} {s} {old} {new} m small is lengths turned =
+    record {
+      enough = le-trans (m .enough) (le-of-eq (sym lengths));
+      narrow = small;
+      imaged = turned x (m .imaged)
+          ∙ ap (imagesOf (permutationsIn n permutations images)) (ap (bitXor x) is ∙ there-and-back);
+    }
+  where
+    there-and-back : bitXor x (bitXor x y) ≡ y
+    there-and-back =
+        bits-ext (bitXor x (bitXor x y)) y (λ i.
+        bit-xor x (bitXor x y) i ∙ ap (xor (bit x i)) (bit-xor x y i) ∙ differs-twice (bit x i) (bit y i))
 
 -- ---- the look-ups of a flipped point and of its images
 
@@ -272,11 +391,11 @@ module _ {heads n k : ℕ} {points links : List ℕ} {permutations : ℕ} {image
     sender = getD listed i noPermutation
 
     among : i < length listed
-    among = inside-all (c .permuting) v inside i lt
+    among = inside-all (c .permuting) i lt
 
     module _ (y : ℕ) (is : y ≡ flip (getD moved i 0) (getD images (i * n + v) 0 - 1)) where
       image-is : y ≡ imageOfPoint sender (flip x v)
-      image-is = image-flipped (c .permuting) v inside i lt moved x y (c .imaged) is
+      image-is = image-flipped (c .permuting) i lt v inside moved x y (c .imaged) is
 
       pub image-askable : Askable heads n (take k points) links y
       image-askable =
