@@ -1,8 +1,9 @@
 // Guesses where a clause stands: links in a lent slice, each 0 or 1 more than the index of a clause. Nothing is promised
 // of what they hold, so the functions that store guesses say nothing of it: who takes a guess compares, and a wrong one
 // costs a scan and never an answer. As in `point_index`, a hash chooses one of the head links, and each clause has two
-// links behind the heads, for the clauses of the same head that differ from it, by their next digit: so clauses whose
-// hashes fall together stand in a tree.
+// links behind the heads, for the clauses of the same head that differ from it, by their next digit. A clause that finds
+// another at its head goes to a second head first, by the hash of its hash, so that clauses of one head are spread once
+// more before they stand in a tree.
 use point_index::hash_of;
 use point_slices::clause_at;
 use point_slices::clause_count;
@@ -12,7 +13,7 @@ use point_slices::put_number;
 use points::Clause;
 ghost use mathlib.Core.Bool.{true};
 ghost use mathlib.Core.Path.{_≡_};
-ghost use Prim.Native.Nat.{_≤_};
+ghost use Prim.Native.Nat.{_≤_, _<_};
 ghost use Rattle.math.specs.Lists.{any};
 ghost use Rattle.point_slices.specs.Laws.Contracts.{lentClauses};
 ghost use Rattle.points.specs.Laws.Contracts.{clauseOf};
@@ -31,14 +32,22 @@ pub(crate) const MOST_HEADS: usize = 2 * MOST_CLAUSES;
 // How many digits a clause has: those of its two sets.
 const DIGITS: u32 = 2 * points::DIGITS;
 
-// The head link of a clause, by the hashes of its two sets: a product and a quotient by a power of two bring their sum
-// below the number of heads. The factor keeps clauses apart whose two sets are exchanged.
-fn head_of(c: Clause, heads: usize) -> usize
-    requires { ⌜ heads ≤ 8192 ⌝ }
+// How many links the way to a clause has at most: its two heads, and one for each digit.
+const STEPS: u32 = DIGITS + 2;
+
+// The hash of a clause, by those of its two sets. The factor keeps clauses apart whose two sets are exchanged.
+fn clause_hash(c: Clause) -> usize
+    ensures { λ r. ⌜ r < 4294967296 ⌝ }
 {
     let p = hash_of(c.positive);
     let q = hash_of(c.negative);
-    let hash = (p + 5 * q) % 4294967296;
+    (p + 5 * q) % 4294967296
+}
+
+// The head link of a hash: a product and a quotient by a power of two bring it below the number of heads.
+fn head_of(hash: usize, heads: usize) -> usize
+    requires { ⌜ (hash < 4294967296) × (heads ≤ 8192) ⌝ }
+{
     hash * heads / 4294967296
 }
 
@@ -51,12 +60,17 @@ fn digit_of(c: Clause, d: u32) -> bool {
     }
 }
 
-// The link of the clause at index i for a digit of c.
-fn link_behind(heads: usize, i: usize, c: Clause, d: u32) -> usize
+// The link after step d on the way to c: first its second head, by the hash of its hash; then that of the clause at
+// index i for the next digit of c.
+fn link_after(heads: usize, i: usize, c: Clause, hash: usize, d: u32) -> usize
     requires { ⌜ (heads ≤ 8192) × (i ≤ 4294967296) ⌝ }
 {
+    if d == 0 {
+        let again = hash_of(hash as u64);
+        return head_of(again, heads);
+    }
     let first = heads + 2 * i;
-    if digit_of(c, d) { first + 1 } else { first }
+    if digit_of(c, d - 1) { first + 1 } else { first }
 }
 
 // Whether the clause at index i is the clause c.
@@ -78,16 +92,17 @@ struct Spot {
     link: usize,
 }
 
-// Goes the way to a clause, by its digits, until a guess is right or a link is 0. Where it is right, the clause is among
-// those of the slices. At most 129 comparisons, about one where hashes differ.
+// Goes the way to a clause, by its two heads and then its digits, until a guess is right or a link is 0. Where it is
+// right, the clause is among those of the slices. At most 130 comparisons, about one where hashes differ.
 fn way_to(positive: &[u64], negative: &[u64], guesses: &[u32], heads: usize, c: Clause) -> Spot
     requires { ⌜ heads ≤ 8192 ⌝ }
     ensures { λ r. ⌜ (r .held ≡ true → any (sameClause (clauseOf c))
         (lentClauses (now (positive .entry)) (now (negative .entry))) ≡ true) ⌝ }
 {
-    let mut link = head_of(c, heads);
+    let hash = clause_hash(c);
+    let mut link = head_of(hash, heads);
     let mut d = 0;
-    while d <= DIGITS {
+    while d < STEPS {
         let number = number_at(guesses, link);
         if number == 0 {
             break;
@@ -96,7 +111,7 @@ fn way_to(positive: &[u64], negative: &[u64], guesses: &[u32], heads: usize, c: 
         if stands_at(positive, negative, i, c) {
             return Spot { held: true, link };
         }
-        link = link_behind(heads, i, c, d);
+        link = link_after(heads, i, c, hash, d);
         d += 1;
     }
     Spot { held: false, link }

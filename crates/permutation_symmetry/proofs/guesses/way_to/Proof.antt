@@ -8,16 +8,16 @@ use Rattle.permutation_symmetry.proofs.guesses.way_to.Statement.{statem
 use Rattle.permutation_symmetry.proofs.guesses.way_to.Tie as tie
 
 abbrev Inv-loop : tie.InvT-loop
-Inv-loop positive negative guesses heads c link₀ d₀ link d = Unit {0}
+Inv-loop positive negative guesses heads c hash link₀ d₀ link d = Unit {0}
 
 abbrev μ-loop : tie.MeasureT-loop
-μ-loop positive negative guesses heads c link₀ d₀ link d = 129 - d
+μ-loop positive negative guesses heads c hash link₀ d₀ link d = 130 - d
 
 returns : tie.Need-returns Inv-loop μ-loop
 returns c e = c .before .stands-at .ensures (c .if2 .taken)
 
-link-behind-requires : tie.Need-link-behind-requires Inv-loop μ-loop
-link-behind-requires c κs = search needs
+link-after-requires : tie.Need-link-after-requires Inv-loop μ-loop
+link-after-requires c κs = search needs
 
 pub way-to-spec : {M : Type 1} → statement M
 way-to-spec =
@@ -26,13 +26,14 @@ way-to-spec =
     Inv-loop
     μ-loop
     (λ c κs. search needs)
+    (λ c κs. search needs)
     (λ c. tt)
     (λ c κs. search needs)
     (λ c. search needs)
     (λ c. search needs)
     (λ c κs. search needs)
     returns
-    link-behind-requires
+    link-after-requires
     (λ c. search needs)
     (λ c. search needs)
     (λ c. tt)
