@@ -205,9 +205,63 @@ fn most_refusal(
     )
 }
 
-// The same, with arrays of a size that suits the count, since each is made 0 first. Refusals 10, 11 and 14 see to what
-// it requires. A number takes a byte at least, so it never calls itself: the call keeps the arrays out of this function
-// and its callers, whose frames are then small.
+// The same of more than `FEW_POINTS` entries, with arrays of a size that suits the count, since each is made 0 first. A
+// number takes a byte at least, so it never calls itself: a compiler keeps large arrays out of the frame of a function
+// that calls itself, so that each of the two below has its own.
+fn large_refusal(
+    n: u32,
+    permutations: u32,
+    images: &[u8],
+    positive: &[u64],
+    negative: &[u64],
+    points: &[u8],
+    falsified: &[u8],
+    count: usize,
+) -> Checked
+    requires { ⌜ Decodable n permutations (now images) (lentClauses (now positive) (now negative)) (now points)
+        (now falsified) count maxSlots ⌝ }
+    ensures { λ r. ⌜ faultOf r ≡ entriesFault n permutations (now (images .entry))
+        (lentClauses (now (positive .entry)) (now (negative .entry))) (now (points .entry))
+        (now (falsified .entry)) count ⌝ }
+{
+    if count <= MANY_POINTS {
+        many_refusal(
+            n,
+            permutations,
+            images,
+            positive,
+            negative,
+            points,
+            falsified,
+            count,
+        )
+    } else if count <= falsified.len() {
+        most_refusal(
+            n,
+            permutations,
+            images,
+            positive,
+            negative,
+            points,
+            falsified,
+            count,
+        )
+    } else {
+        large_refusal(
+            n,
+            permutations,
+            images,
+            positive,
+            negative,
+            points,
+            falsified,
+            count,
+        )
+    }
+}
+
+// The same of any number of entries. Refusals 10, 11 and 14 see to what it requires. It never calls itself, as
+// `large_refusal` does not: so the arrays for few entries stay out of its frame and out of those of its callers.
 pub fn decoded_refusal(
     n: u32,
     permutations: u32,
@@ -235,19 +289,8 @@ pub fn decoded_refusal(
             falsified,
             count,
         )
-    } else if count <= MANY_POINTS {
-        many_refusal(
-            n,
-            permutations,
-            images,
-            positive,
-            negative,
-            points,
-            falsified,
-            count,
-        )
-    } else if count <= falsified.len() {
-        most_refusal(
+    } else if falsified.len() < count {
+        decoded_refusal(
             n,
             permutations,
             images,
@@ -258,7 +301,7 @@ pub fn decoded_refusal(
             count,
         )
     } else {
-        decoded_refusal(
+        large_refusal(
             n,
             permutations,
             images,

@@ -1,4 +1,4 @@
--- `check_entries::decoded_refusal` meets its contract: arrays for the count. Its numbers have a byte at least each, so
+-- `check_entries::decoded_refusal` meets its contract: the few or the others. Its numbers have a byte at least each, so
 -- that it never calls itself, and any measure will do. Assumes nothing.
 use Prim.Native.Nat.{ℕ, _<_}
 use borrow.Author.Needs.{needs}
@@ -8,8 +8,7 @@ use Rattle.check_entries.specs.Laws.EntryLaws.{numbers-fill}
 use Rattle.check_entries.proofs.decoded_refusal.Reads as decoded-refusal
 use Rattle.check_entries.proofs.decoded_refusal.Kinds as decoded-refusal-kinds
 use Rattle.check_entries.proofs.few_refusal.Reads as few-refusal
-use Rattle.check_entries.proofs.many_refusal.Reads as many-refusal
-use Rattle.check_entries.proofs.most_refusal.Reads as most-refusal
+use Rattle.check_entries.proofs.large_refusal.Reads as large-refusal
 use Rattle.check_entries.proofs.+decoded_refusal.Lts-decoded_refusal as lts
 use Rattle.check_entries.proofs.+decoded_refusal.{statement}
 use Rattle.check_entries.proofs.+decoded_refusal.Tie.{close}
@@ -30,20 +29,16 @@ pub +decoded-refusal-spec : {M : Type 1} → statement M
     close μ-decoded-refusal λ t. lts.spec (
       few-refusal.Asked,
       few-refusal.Learnt,
-      many-refusal.Asked,
-      many-refusal.Learnt,
-      most-refusal.Asked,
-      most-refusal.Learnt,
       asked-below t,
       decoded-refusal.Post,
+      large-refusal.Asked,
+      large-refusal.Learnt,
     )
     (given-at t)
     decoded-refusal.Post
     (λ c κs. search needs)
-    (λ c κs. search needs)
-    (λ c κs. search needs)
     (λ c κs. absurd (search (needs, numbers-fill)))
-    (λ c. search needs)
+    (λ c κs. search needs)
     (λ c. search needs)
     (λ c. search needs)
     (λ c. search needs)

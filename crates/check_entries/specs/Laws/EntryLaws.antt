@@ -117,7 +117,7 @@ zeros-lent heads limit k count h few =
       };
     }
 
--- the numbers of entries that there may be is of no account once there are no more
+-- how many entries there may be is of no account once there are no more
 pub decodable-within : {n permutations : ℕ} {images : List ℕ} {clauses : List Clause} {points falsified : List ℕ}
     {count limit : ℕ} → Decodable n permutations images clauses points falsified count limit → limit ≤ maxSlots
     → Decodable n permutations images clauses points falsified count maxSlots
