@@ -174,7 +174,7 @@ fn first_uncovered(
 }
 
 // For how many points at most no sets of the variables that stay are made: it would take longer than they save.
-const FEW: usize = 256;
+const FEW: usize = 1024;
 
 // Stores for each permutation the set of the variables that it sends to themselves, and says how many of the sets to go
 // by: all, or none where the points are few or the permutations move more than half of the variables. At most n steps
