@@ -86,6 +86,7 @@ pub fn search_accepted(
         (slotSlices (now (points .exit)) (now (falsified .exit)) (now (depths .exit))) ⌝ }
 {
     let lent = room(points, falsified, depths);
+    let target = f.target;
     // each stage has heads of its own
     let lookup = Lookup {
         variables: f.variables,
@@ -95,7 +96,7 @@ pub fn search_accepted(
     let g = Frame {
         lookup,
         room: lent,
-        target: f.target,
+        target,
     };
     let answer = search_stages::start(g, images, positive, negative, points, falsified, depths);
     as_found(answer)
