@@ -72,10 +72,10 @@ unfolding numberIn isNumber
 number-spoilt bytes {from} {e} k le lo hi d =
     let w = take (e - from) (drop from bytes) in
     let at : getD w (k - from) 0 ≡ getD bytes k 0 =
-        getD-take (e - from) (drop from bytes) (k - from) 0 (omega arith) ∙ getD-drop from bytes (k - from) 0
-        ∙ ap (λ (j : ℕ). getD bytes j 0) (let z : from + (k - from) ≡ k = omega arith in z) in
+    getD-take (e - from) (drop from bytes) (k - from) 0 (omega arith) ∙ getD-drop from bytes (k - from) 0
+    ∙ ap (λ (j : ℕ). getD bytes j 0) (let z : from + (k - from) ≡ k = omega arith in z) in
     let here : getD w (k - from) 0 ∈ w =
-        getD-in w (k - from) 0 (omega (arith, length-take (e - from) (drop from bytes), length-drop from bytes)) in
+    getD-in w (k - from) 0 (omega (arith, length-take (e - from) (drop from bytes), length-drop from bytes)) in
     rw (not-all isDigit here (ap isDigit at ∙ d), and-false (leb 1 (length w) && leb (length w) 4))
 
 -- ---- what the digits are in the line
