@@ -3,6 +3,7 @@
 use certificate_writer::Written;
 use certificate_writer::write;
 use formula::Formula;
+use formula::Numbers;
 use point_slices::least;
 use points::Depth;
 use search::Found;
@@ -66,8 +67,15 @@ pub fn search_accepted_prefix(
         (slotSlices (take k (now (points .entry))) (take k (now (falsified .entry))) (take k (now (depths .entry)))) r
         (slotSlices (take k (now (points .exit))) (take k (now (falsified .exit))) (take k (now (depths .exit)))) ⌝ }
 {
+    let numbers = Numbers {
+        variables: f.variables,
+        clauses: f.clauses,
+        target: f.target,
+        permutations: f.permutations,
+    };
     search_accepted(
-        f,
+        numbers,
+        &f.images,
         positive,
         negative,
         &mut points[..k],

@@ -13,31 +13,31 @@ use Rattle.slot_prefixes.proofs.search_accepted_prefix.Lts as lts
 use Rattle.search.proofs.search_accepted.Reads as search-accepted-reads
 
 slice-aggregate-search-accepted : tie.Need-slice-aggregate-search-accepted
-slice-aggregate-search-accepted c = sym (length-take-le (c .before .before .before .before .before .before .args .k) (c .before .before .before .before .before .before .args .points .now) (c .before .before .before .before .before .before .pre .0 .inPoints))
+slice-aggregate-search-accepted c = sym (length-take-le (c .before .before .before .before .before .before .before .before .before .args .k) (c .before .before .before .before .before .before .before .before .before .args .points .now) (c .before .before .before .before .before .before .before .before .before .pre .0 .inPoints))
 
 slice-aggregate-search-accepted-2 : tie.Need-slice-aggregate-search-accepted-2
-slice-aggregate-search-accepted-2 c = sym (length-take-le (c .before .before .before .before .before .before .before .args .k) (c .before .before .before .before .before .before .before .args .falsified .now) (c .before .before .before .before .before .before .before .pre .0 .inFalsified))
+slice-aggregate-search-accepted-2 c = sym (length-take-le (c .before .before .before .before .before .before .before .before .before .before .args .k) (c .before .before .before .before .before .before .before .before .before .before .args .falsified .now) (c .before .before .before .before .before .before .before .before .before .before .pre .0 .inFalsified))
 
 slice-aggregate-search-accepted-3 : tie.Need-slice-aggregate-search-accepted-3
-slice-aggregate-search-accepted-3 c = sym (length-take-le (c .before .before .before .before .before .before .before .before .args .k) (c .before .before .before .before .before .before .before .before .args .depths .now) (c .before .before .before .before .before .before .before .before .pre .0 .inDepths))
+slice-aggregate-search-accepted-3 c = sym (length-take-le (c .before .before .before .before .before .before .before .before .before .before .before .args .k) (c .before .before .before .before .before .before .before .before .before .before .before .args .depths .now) (c .before .before .before .before .before .before .before .before .before .before .before .pre .0 .inDepths))
 
 search-accepted-requires : tie.Need-search-accepted-requires
 search-accepted-requires c κs =
-    let start = c .before .before .before .before .before .before .before .before in
-    prefix-accepted (start .args .k) (start .args .f) (clauseSlices (start .args .positive .now) (start .args .negative .now)) (start .args .points .now) (start .args .falsified .now) (start .args .depths .now) (start .pre .0) (start .pre .1)
+    let start = c .before .before .before .before .before .before .before .before .before .before .before in
+    (search needs, prefix-accepted (start .args .k) (start .args .t1) (clauseSlices (start .args .positive .now) (start .args .negative .now)) (start .args .points .now) (start .args .falsified .now) (start .args .depths .now) (start .pre .0) (start .pre .1))
 
 returns : tie.Need-returns
 returns c =
-    let start = c .before .before .before .before .before .before .before .before .before .before .before .before .before .before .before in
+    let start = c .before .before .before .before .before .before .before .before .before .before .before .before .before .before .before .before .before .before in
     let called = c .before .before .before .before .before .before .search-accepted in
     let k = start .args .k in
     let points = start .args .points .now in
     let falsified = start .args .falsified .now in
     let depths = start .args .depths .now in
-    searched-fronts k (start .args .f) (clauseSlices (start .args .positive .now) (start .args .negative .now)) (slotSlices (take k points) (take k falsified) (take k depths)) (called .result)
-    (called .last .1 .1 .1 .0) (called .last .1 .1 .1 .1 .0) (called .last .1 .1 .1 .1 .1 .0) (drop k points) (drop k falsified) (drop k depths)
-    (called .kept .1 .1 .1 .0 ∙ length-take-le k points (start .pre .0 .inPoints)) (called .kept .1 .1 .1 .1 .0 ∙ length-take-le k falsified (start .pre .0 .inFalsified))
-    (called .kept .1 .1 .1 .1 .1 .0 ∙ length-take-le k depths (start .pre .0 .inDepths)) (called .ensures)
+    searched-fronts k (start .args .t1) (clauseSlices (start .args .positive .now) (start .args .negative .now)) (slotSlices (take k points) (take k falsified) (take k depths)) (called .result)
+    (called .last .1 .1 .1 .1 .0) (called .last .1 .1 .1 .1 .1 .0) (called .last .1 .1 .1 .1 .1 .1 .0) (drop k points) (drop k falsified) (drop k depths)
+    (called .kept .1 .1 .1 .1 .0 ∙ length-take-le k points (start .pre .0 .inPoints)) (called .kept .1 .1 .1 .1 .1 .0 ∙ length-take-le k falsified (start .pre .0 .inFalsified))
+    (called .kept .1 .1 .1 .1 .1 .1 .0 ∙ length-take-le k depths (start .pre .0 .inDepths)) (called .ensures)
 
 pub search-accepted-prefix-spec : {M : Type 1} → statement M
 search-accepted-prefix-spec =
