@@ -22,7 +22,7 @@ ghost use Rattle.point_slices.specs.Laws.Contracts.{lentClauses};
 ghost use Rattle.points.specs.Points.{numbered};
 ghost use Rattle.point_slices.specs.Slices.{pointsOf, clauseSlices, slotSlices};
 ghost use Rattle.formula.specs.Limits.{maxVariables, maxPermutations, maxImages, maxSlots};
-ghost use Rattle.formula.specs.Laws.Contracts.{formulaOf};
+ghost use Rattle.formula.specs.Laws.Contracts.{formulaWith};
 ghost use Rattle.formula.specs.Refusals.{faultOf};
 ghost use Rattle.formula.specs.Reply.{no-fault};
 ghost use Rattle.certificate.specs.Certificate.{certificateLength};
@@ -115,7 +115,7 @@ pub fn write_lent(
     out: &mut [u8],
 ) -> Written
     requires { ⌜ length (now images) ≡ maxImages ⌝ }
-    ensures { λ r. ⌜ Wrote (formulaOf f (now (images .entry)))
+    ensures { λ r. ⌜ Wrote (formulaWith f (now (images .entry)))
         (clauseSlices (now (positive .entry)) (now (negative .entry)))
         (slotSlices (now (points .entry)) (now (falsified .entry)) (now (depths .entry))) filled (now (out .entry)) r
         (now (out .exit)) ⌝ }

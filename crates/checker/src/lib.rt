@@ -16,7 +16,7 @@ ghost use Rattle.points.specs.Points.{numbered};
 ghost use Rattle.point_slices.specs.Slices.{clauseSlices};
 ghost use Rattle.point_theory.specs.Laws.Notions.{ClausesBelow};
 ghost use Rattle.formula.specs.Limits.{maxVariables};
-ghost use Rattle.formula.specs.Laws.Contracts.{formulaOf};
+ghost use Rattle.formula.specs.Laws.Contracts.{formulaWith};
 ghost use Rattle.formula.specs.Refusals.{faultOf};
 ghost use Rattle.formula.specs.Reply.{accepted, unless};
 ghost use Rattle.certificate.specs.Certificate.{filePermutations, filePoints, fileNumbers};
@@ -102,7 +102,7 @@ fn file_refusal(n: u32, clauses: u32, positive: &[u64], negative: &[u64], file: 
 
 // Checks a file for the clauses of a formula by its numbers: no image matters to it.
 pub fn check_numbers(f: Numbers, positive: &[u64], negative: &[u64], file: &[u8]) -> Verdict
-    ensures { λ r. ⌜ ((images : List ℕ) → CheckedAs (formulaOf f images)
+    ensures { λ r. ⌜ ((images : List ℕ) → CheckedAs (formulaWith f images)
         (clauseSlices (now (positive .entry)) (now (negative .entry))) (now (file .entry)) r) ⌝ }
 {
     let ten = clauses_refusal(f, positive, negative);

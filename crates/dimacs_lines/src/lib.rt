@@ -13,13 +13,15 @@ use dimacs_words::begins;
 use dimacs_words::line_end;
 use formula::Checked;
 use formula::Formula;
+use formula::Numbers;
 use point_slices::point_at;
 use point_slices::put_point;
 use points::Point;
 ghost use mathlib.Core.Bool.{true, false};
+ghost use mathlib.Core.List.{List};
 ghost use mathlib.Core.Option.{Option·getD};
 ghost use mathlib.Core.Path.{_≡_};
-ghost use Prim.Native.Nat.{_≤_};
+ghost use Prim.Native.Nat.{ℕ, _≤_};
 ghost use lib.ListN.{length};
 ghost use Rattle.point_slices.specs.Slices.{pointsOf, clauseSlices};
 ghost use Rattle.dimacs_format.specs.Text.{maxText, piece, isComment};
@@ -29,8 +31,8 @@ ghost use Rattle.dimacs_clauses.specs.Laws.ClauseScans.{Ready};
 ghost use Rattle.dimacs_comments.specs.Laws.CommentScans.{wantedOf};
 ghost use Rattle.dimacs_lines.specs.Laws.LineScans.{nothingSaid, Kept, Standing, CommentRead};
 ghost use Rattle.dimacs_lines.specs.Laws.LineScans.{opensComment, Following, Advancing, LinesRead};
-ghost use Rattle.dimacs_lines.specs.Laws.ParsedAs.{Copied, refusedWith, toldRefused, parsedWith, noImages};
-ghost use Rattle.dimacs_lines.specs.Laws.ParsedAs.{tinyClauses, fewClauses, someClauses, Limited, HasRoom};
+ghost use Rattle.dimacs_lines.specs.Laws.ParsedAs.{Copied, refusedNumbers, toldRefused, parsedWith, parsedIn};
+ghost use Rattle.dimacs_lines.specs.Laws.ParsedAs.{tinyClauses, fewClauses, someClauses, HasRoom};
 ghost use Rattle.dimacs_lines.specs.Laws.ParsedAs.{Collectable, ParsedAs, Accepting};
 
 // What the lines have said so far, beside the slices of the clauses and the images: a part for each kind of line.
@@ -253,13 +255,24 @@ pub struct Parsed {
     pub answer: Parse,
 }
 
-// N2: "a refusal carries one that is 0 throughout".
-pub fn refused(code: u32, place: usize) -> Parsed
-    ensures { λ r. ⌜ r ≡ refusedWith code place ⌝ }
+// The numbers of the formula read, beside the answer; its images stay where the lines were read to.
+pub struct ParsedNumbers {
+    pub numbers: Numbers,
+    pub answer: Parse,
+}
+
+// A refusal, with numbers that are 0.
+pub fn refused(code: u32, place: usize) -> ParsedNumbers
+    ensures { λ r. ⌜ r ≡ refusedNumbers code place ⌝ }
 {
-    let formula = Formula::empty();
-    Parsed {
-        formula,
+    let numbers = Numbers {
+        variables: 0,
+        clauses: 0,
+        target: points::EMPTY,
+        permutations: 0,
+    };
+    ParsedNumbers {
+        numbers,
         answer: Parse::Refused { code, place },
     }
 }
@@ -503,19 +516,59 @@ fn by_count(
     large_clauses(text, end, sizes, positive, negative, images)
 }
 
-// The formula read, with the images that the lines left, beside the answer.
-fn with_images(sizes: Sizes, told: Told, images: [u8; Formula::MAX_IMAGES]) -> Parsed
-    ensures { λ r. ⌜ r ≡ parsedWith sizes told images ⌝ }
+// The numbers of the formula read, beside the answer.
+fn with_numbers(sizes: Sizes, told: Told) -> ParsedNumbers
+    ensures { λ r. ⌜ ((images : List ℕ) → parsedIn r images ≡ parsedWith sizes told images) ⌝ }
 {
     let answer = told.answer;
+    let numbers = Numbers {
+        variables: sizes.variables,
+        clauses: sizes.total,
+        target: told.target,
+        permutations: told.permutations,
+    };
+    ParsedNumbers { numbers, answer }
+}
+
+// The lines, read into lent images, which are 0 before. `dimacs::read_sized` sees to what it requires, by refusals 1, 3
+// and 4.
+pub fn read_clauses(
+    text: &[u8],
+    end: usize,
+    sizes: Sizes,
+    positive: &mut [u64],
+    negative: &mut [u64],
+    images: &mut [u8],
+) -> ParsedNumbers
+    requires { ⌜ Collectable sizes (clauseSlices (now positive) (now negative)) (now text) end (now images) ⌝ }
+    ensures { λ r. ⌜ ParsedAs (textSays (length (now (text .entry))) sizes (linesBehind (now (text .entry)) end))
+        (clauseSlices (now (positive .entry)) (now (negative .entry))) (parsedIn r (now (images .exit)))
+        (clauseSlices (now (positive .exit)) (now (negative .exit))) ⌝ }
+{
+    let told = by_count(text, end, sizes, positive, negative, images);
+    with_numbers(sizes, told)
+}
+
+// The formula read with its images, 0 throughout after a refusal (N2: "a refusal carries one that is 0 throughout").
+pub fn with_images(r: ParsedNumbers, images: [u8; Formula::MAX_IMAGES]) -> Parsed
+    ensures { λ p. ⌜ p ≡ parsedIn r images ⌝ }
+{
+    let answer = r.answer;
+    let numbers = r.numbers;
     match answer {
-        Parse::Refused { code, place } => refused(code, place),
+        Parse::Refused { code, place } => {
+            let formula = Formula::empty();
+            Parsed {
+                formula,
+                answer: Parse::Refused { code, place },
+            }
+        }
         Parse::Accepted => {
             let formula = Formula {
-                variables: sizes.variables,
-                clauses: sizes.total,
-                target: told.target,
-                permutations: told.permutations,
+                variables: numbers.variables,
+                clauses: numbers.clauses,
+                target: numbers.target,
+                permutations: numbers.permutations,
                 images,
             };
             Parsed {
@@ -524,24 +577,4 @@ fn with_images(sizes: Sizes, told: Told, images: [u8; Formula::MAX_IMAGES]) -> P
             }
         }
     }
-}
-
-// The lines, read into images that are made 0 first and take 1 KiB of the stack. `dimacs::read_sized` sees to what it
-// requires, by refusals 1, 3 and 4.
-pub fn read_clauses(
-    text: &[u8],
-    end: usize,
-    sizes: Sizes,
-    positive: &mut [u64],
-    negative: &mut [u64],
-) -> Parsed
-    requires { ⌜ Limited sizes × HasRoom sizes (clauseSlices (now positive) (now negative))
-        × (length (now text) ≤ maxText) × (end ≤ length (now text)) ⌝ }
-    ensures { λ r. ⌜ ParsedAs (textSays (length (now (text .entry))) sizes (linesBehind (now (text .entry)) end))
-        (clauseSlices (now (positive .entry)) (now (negative .entry))) r
-        (clauseSlices (now (positive .exit)) (now (negative .exit))) ⌝ }
-{
-    let mut images = [0u8; Formula::MAX_IMAGES];
-    let told = by_count(text, end, sizes, positive, negative, &mut images);
-    with_images(sizes, told, images)
 }

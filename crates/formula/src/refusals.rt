@@ -12,7 +12,7 @@ ghost use mathlib.Core.Path.{_≡_};
 ghost use Prim.Native.Nat.{ℕ, _*_, _≤_};
 ghost use lib.ListN.{length};
 ghost use Rattle.math.specs.Lists.{firstFailing};
-ghost use Rattle.formula.specs.Laws.Contracts.{formulaOf, problemFault};
+ghost use Rattle.formula.specs.Laws.Contracts.{formulaWith, problemFault};
 ghost use Rattle.point_slices.specs.Laws.Contracts.{lentClauses};
 ghost use Rattle.points.specs.Points.{numbered};
 ghost use Rattle.point_slices.specs.Slices.{pointsOf, clauseSlices};
@@ -69,7 +69,7 @@ fn fits(n: u32, clauses: u32, positive: &[u64], negative: &[u64]) -> bool
 
 // Refusal 10 without the target; no image matters to it.
 pub fn clauses_refusal(f: Numbers, positive: &[u64], negative: &[u64]) -> Checked
-    ensures { λ r. ⌜ ((images : List ℕ) → faultOf r ≡ clausesFault (formulaOf f images)
+    ensures { λ r. ⌜ ((images : List ℕ) → faultOf r ≡ clausesFault (formulaWith f images)
         (clauseSlices (now (positive .entry)) (now (negative .entry)))) ⌝ }
 {
     if fits(f.variables, f.clauses, positive, negative) {
@@ -81,7 +81,7 @@ pub fn clauses_refusal(f: Numbers, positive: &[u64], negative: &[u64]) -> Checke
 
 // Refusal 10; no image matters to it.
 pub fn formula_refusal(f: Numbers, positive: &[u64], negative: &[u64]) -> Checked
-    ensures { λ r. ⌜ ((images : List ℕ) → faultOf r ≡ formulaFault (formulaOf f images)
+    ensures { λ r. ⌜ ((images : List ℕ) → faultOf r ≡ formulaFault (formulaWith f images)
         (clauseSlices (now (positive .entry)) (now (negative .entry)))) ⌝ }
 {
     if fits(f.variables, f.clauses, positive, negative) {
@@ -160,7 +160,7 @@ pub fn symmetry_refusal(
 // formula has.
 pub fn problem_refusal(f: Numbers, images: &[u8], positive: &[u64], negative: &[u64]) -> Checked
     requires { ⌜ length (now images) ≡ maxImages ⌝ }
-    ensures { λ r. ⌜ faultOf r ≡ problemFault (formulaOf f (now (images .entry)))
+    ensures { λ r. ⌜ faultOf r ≡ problemFault (formulaWith f (now (images .entry)))
         (clauseSlices (now (positive .entry)) (now (negative .entry))) ⌝ }
 {
     let ten = formula_refusal(f, positive, negative);

@@ -16,7 +16,7 @@ ghost use Rattle.point_slices.specs.Slices.{clauseSlices, slotSlices};
 ghost use lib.ListN.{length};
 ghost use Rattle.formula.specs.Limits.{maxImages, capacity};
 ghost use Rattle.formula.specs.Reply.{pointIn, no-fault};
-ghost use Rattle.formula.specs.Laws.Contracts.{formulaOf};
+ghost use Rattle.formula.specs.Laws.Contracts.{formulaWith};
 ghost use Rattle.search_stages.specs.Laws.StageLaws.{replyOfAnswer};
 ghost use Rattle.search.specs.Search.{searchFault};
 ghost use Rattle.search.specs.Contract.{replyOfFound, Searched};
@@ -77,10 +77,10 @@ pub fn search_accepted(
     falsified: &mut [u32],
     depths: &mut [Depth],
 ) -> Found
-    requires { ⌜ (length (now images) ≡ maxImages) × (searchFault (formulaOf f (now images))
+    requires { ⌜ (length (now images) ≡ maxImages) × (searchFault (formulaWith f (now images))
         (clauseSlices (now positive) (now negative))
         (capacity (slotSlices (now points) (now falsified) (now depths))) ≡ no-fault) ⌝ }
-    ensures { λ r. ⌜ Searched (formulaOf f (now (images .entry)))
+    ensures { λ r. ⌜ Searched (formulaWith f (now (images .entry)))
         (clauseSlices (now (positive .entry)) (now (negative .entry)))
         (slotSlices (now (points .entry)) (now (falsified .entry)) (now (depths .entry))) r
         (slotSlices (now (points .exit)) (now (falsified .exit)) (now (depths .exit))) ⌝ }
@@ -113,7 +113,7 @@ pub fn search_lent(
     depths: &mut [Depth],
 ) -> Found
     requires { ⌜ length (now images) ≡ maxImages ⌝ }
-    ensures { λ r. ⌜ Searched (formulaOf f (now (images .entry)))
+    ensures { λ r. ⌜ Searched (formulaWith f (now (images .entry)))
         (clauseSlices (now (positive .entry)) (now (negative .entry)))
         (slotSlices (now (points .entry)) (now (falsified .entry)) (now (depths .entry))) r
         (slotSlices (now (points .exit)) (now (falsified .exit)) (now (depths .exit))) ⌝ }

@@ -1,7 +1,7 @@
 -- `certificate_writer::write_lent` meets its contract: a law of WriteLaws for each way out. Assumes nothing.
 use borrow.Author.Needs.{needs}
 use Rattle.point_slices.specs.Slices.{clauseSlices, slotSlices}
-use Rattle.formula.specs.Laws.Contracts.{formulaOf}
+use Rattle.formula.specs.Laws.Contracts.{formulaWith}
 use Rattle.certificate_writer.specs.Laws.WriteLaws.{slots-counted, wrote-faulty, within-limits, wrote-too-short}
 use Rattle.certificate_writer.specs.Laws.WriteLaws.{storable-of, wrote-all}
 use Rattle.certificate_writer.proofs.write_lent.Statement.{statement}
@@ -23,7 +23,7 @@ returns c =
 length-needed-requires : tie.Need-length-needed-requires
 length-needed-requires c κs =
     let a = c .before .before .before .before .before .before .before .before .before .before .before .before .args in
-    within-limits (formulaOf (a .f) (a .images .now)) (clauseSlices (a .positive .now) (a .negative .now)) (slotSlices (a .points .now) (a .falsified .now) (a .depths .now)) (a .filled) (a .out .now)
+    within-limits (formulaWith (a .f) (a .images .now)) (clauseSlices (a .positive .now) (a .negative .now)) (slotSlices (a .points .now) (a .falsified .now) (a .depths .now)) (a .filled) (a .out .now)
     _ (c .before .before .before .before .problem-refusal .ensures) _ (c .before .before .before .room .ensures) _ (c .before .before .slots-refusal .ensures) (c .enum-told .given .1)
 
 returns-2 : tie.Need-returns-2
@@ -34,7 +34,7 @@ returns-2 c =
 put-certificate-requires : tie.Need-put-certificate-requires
 put-certificate-requires c κs =
     let a = c .before .before .before .before .before .before .before .before .before .before .before .before .before .before .before .args in
-    storable-of (formulaOf (a .f) (a .images .now)) (clauseSlices (a .positive .now) (a .negative .now)) (slotSlices (a .points .now) (a .falsified .now) (a .depths .now)) (a .filled) (a .out .now)
+    storable-of (formulaWith (a .f) (a .images .now)) (clauseSlices (a .positive .now) (a .negative .now)) (slotSlices (a .points .now) (a .falsified .now) (a .depths .now)) (a .filled) (a .out .now)
     _ (c .before .before .before .before .before .before .before .problem-refusal .ensures) _ (c .before .before .before .before .before .before .room .ensures) _ (c .before .before .before .before .before .slots-refusal .ensures) (c .before .before .before .enum-told .given .1)
     _ (c .before .before .length-needed .ensures) (c .before .if1 .left) (c .before .before .before .before .before .before .before .before .before .before .before .before .before .before .before .pre)
 

@@ -4,7 +4,7 @@ use mathlib.Core.Path.{_≡_, sym, ap, _∙_, subst}
 use Prim.Native.Nat.{ℕ}
 use borrow.Author.Needs.{needs}
 use Rattle.point_slices.specs.Slices.{clauseSlices}
-use Rattle.formula.specs.Laws.Contracts.{formulaOf}
+use Rattle.formula.specs.Laws.Contracts.{formulaWith}
 use Rattle.formula.specs.Refusals.{clausesFault, faultOf}
 use Rattle.formula.specs.Reply.{no-fault}
 use Rattle.formula.specs.Laws.ReplyLaws.{IsFault}
@@ -26,13 +26,13 @@ returns c images =
 
 -- what follows is reached where refusal 10 found nothing
 ten : (c : tie.After-enum-told) (images : List ℕ) → let a = c .before .before .before .before .before .before .args in
-    clausesFault (formulaOf (a .f) images) (clauseSlices (a .positive .now) (a .negative .now)) ≡ no-fault
+    clausesFault (formulaWith (a .f) images) (clauseSlices (a .positive .now) (a .negative .now)) ≡ no-fault
 ten c images = sym (c .before .before .clauses-refusal .ensures images) ∙ ap faultOf (c .enum-told .given .1)
 
 file-refusal-requires : tie.Need-file-refusal-requires
 file-refusal-requires c κs =
     let a = c .before .before .before .before .before .before .args in
-    clauses-fit (formulaOf (a .f) []) (clauseSlices (a .positive .now) (a .negative .now)) (a .file .now) (ten (c) [])
+    clauses-fit (formulaWith (a .f) []) (clauseSlices (a .positive .now) (a .negative .now)) (a .file .now) (ten (c) [])
 
 as-verdict-requires-2 : tie.Need-as-verdict-requires-2
 as-verdict-requires-2 c κs = search needs

@@ -6,10 +6,12 @@ use lib.ListN.{length, take, replicate}
 use Rattle.math.specs.Lists.{over}
 use Rattle.point_slices.specs.Slices.{ClauseSlices, pointsOf, restOf, clauseRoom}
 use Rattle.formula.specs.Limits.{maxVariables, maxClauses, maxImages}
+use Rattle.formula.specs.Laws.Contracts.{formulaWith}
 use Rattle.formula.specs.Problem.{emptyFormula}
 use Rattle.dimacs_lines.specs.declared.Parse.{Parse}
 use Rattle.dimacs_lines.specs.declared.Parse.the-variants.{Accepted, Refused}
 use Rattle.dimacs_lines.specs.declared.Parsed.{Parsed}
+use Rattle.dimacs_lines.specs.declared.ParsedNumbers.{ParsedNumbers}
 use Rattle.dimacs_lines.specs.declared.State.{State}
 use Rattle.dimacs_lines.specs.declared.Told.{Told}
 use Rattle.dimacs_lines.specs.Reply.{replyOfParse}
@@ -26,6 +28,22 @@ pub record Copied (from to₀ : List ℕ) (count : ℕ) (to₁ : List ℕ) : Typ
 -- a refusal beside the formula that is 0 throughout
 abbrev pub refusedWith : ℕ → ℕ → Parsed
 refusedWith code place = record { formula = emptyFormula; answer = Refused code place }
+
+-- a refusal beside numbers that are 0
+abbrev pub refusedNumbers : ℕ → ℕ → ParsedNumbers
+refusedNumbers code place =
+    record {
+      numbers = record { variables = 0; clauses = 0; target = 0; permutations = 0 };
+      answer = Refused code place;
+    }
+
+-- the reader's answer from the numbers read, and the images
+abbrev pub parsedIn : ParsedNumbers → List ℕ → Parsed
+parsedIn r images = by (r .answer)
+  where
+    by : Parse → Parsed
+    by Accepted = record { formula = formulaWith (r .numbers) images; answer = Accepted }
+    by (Refused code place) = refusedWith code place
 
 -- what the lines lead to where they are refused
 abbrev pub toldRefused : ℕ → ℕ → Told

@@ -17,8 +17,11 @@ use Rattle.permutation_theory.specs.Permutations.{permutationsIn}
 use Rattle.formula.specs.Limits.{maxVariables, maxPermutations, maxImages}
 use Rattle.formula.specs.declared.Checked.{Checked}
 use Rattle.formula.specs.declared.Checked.the-variants.{Passed, Refused}
+use Rattle.dimacs_lines.specs.declared.Parse.{Parse}
 use Rattle.dimacs_lines.specs.declared.Parse.the-variants.{Accepted, Refused as ParseRefused}
 use Rattle.dimacs_lines.specs.declared.Parsed.{Parsed}
+use Rattle.dimacs_lines.specs.declared.ParsedNumbers.{ParsedNumbers}
+use Rattle.formula.specs.Laws.Contracts.{formulaWith}
 use Rattle.dimacs_lines.specs.declared.State.{State}
 use Rattle.dimacs_lines.specs.declared.Advanced.{Advanced}
 use Rattle.dimacs_lines.specs.declared.Told.{Told}
@@ -34,7 +37,7 @@ use Rattle.dimacs_comments.specs.Laws.CommentScans.{wantedOf}
 use Rattle.dimacs_comments.specs.Laws.HandlerScans.{KeptImages}
 use Rattle.dimacs_comments.specs.Laws.HandlerLaws.{images-take}
 use Rattle.dimacs_lines.specs.Laws.LineScans.{nothingSaid, progressFrom, Standing, LinesRead}
-use Rattle.dimacs_lines.specs.Laws.ParsedAs.{refusedWith, toldRefused, parsedWith, noImages, Limited, HasRoom}
+use Rattle.dimacs_lines.specs.Laws.ParsedAs.{refusedWith, toldRefused, parsedWith, parsedIn, noImages, Limited, HasRoom}
 use Rattle.dimacs_lines.specs.Laws.ParsedAs.{ParsedAs, Accepting}
 
 -- ---- the formula
@@ -88,23 +91,28 @@ pub answers-as : {m : Step Input} {clauses₀ clauses₁ : ClauseSlices} {r x : 
     → ParsedAs m clauses₀ x clauses₁ → ParsedAs m clauses₀ r clauses₁
 answers-as {m} {clauses₀} {clauses₁} e a = subst (λ y. ParsedAs m clauses₀ y clauses₁) (sym e) a
 
--- the answer with the images, by what the lines lead to
-pub parsed-refused : (z : Sizes) (t : Told) (images : List ℕ) {code place : ℕ} → t .answer ≡ ParseRefused code place
-    → parsedWith z t images ≡ refusedWith code place
-parsed-refused z t images e = rw e
-
-pub parsed-accepted : (z : Sizes) (t : Told) (images : List ℕ) → t .answer ≡ Accepted
-    → parsedWith z t images ≡ record {
-      formula = record {
+-- the numbers and the images make what the lines lead to
+pub numbers-told : (z : Sizes) (target permutations : ℕ) (a : Parse) (images : List ℕ)
+    → parsedIn (record {
+      numbers = record {
         variables = z .variables;
         clauses = z .total;
-        target = t .target;
-        permutations = t .permutations;
-        images = images;
+        target = target;
+        permutations = permutations;
       };
-      answer = Accepted;
-    }
-parsed-accepted z t images e = rw e
+      answer = a;
+    }) images ≡ parsedWith z (record { answer = a; target = target; permutations = permutations }) images
+numbers-told z target permutations Accepted images = refl
+numbers-told z target permutations (ParseRefused code place) images = refl
+
+-- the answer with the images, by the answer
+pub parsed-refused : (r : ParsedNumbers) (images : List ℕ) {code place : ℕ} → r .answer ≡ ParseRefused code place
+    → parsedIn r images ≡ refusedWith code place
+parsed-refused r images e = rw e
+
+pub parsed-accepted : (r : ParsedNumbers) (images : List ℕ) → r .answer ≡ Accepted
+    → parsedIn r images ≡ record { formula = formulaWith (r .numbers) images; answer = Accepted }
+parsed-accepted r images e = rw e
 
 -- the lines' refusal
 told-answers : {m : Step Input} {code place : ℕ} {clauses : ClauseSlices} (z : Sizes) (t : Told) (images : List ℕ)

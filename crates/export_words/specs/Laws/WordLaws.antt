@@ -6,7 +6,7 @@ use lib.ListN.{length, take, drop, replicate}
 use lib.Seq.{length-take-le}
 use Rattle.math.specs.Lists.{over}
 use Rattle.formula.specs.declared.Numbers.{Numbers}
-use Rattle.formula.specs.Laws.Contracts.{formulaOf}
+use Rattle.formula.specs.Laws.Contracts.{formulaWith}
 use Rattle.formula.specs.Limits.{maxImages}
 use Rattle.export_words.specs.Words.{imagesFrom, formulaFrom}
 
@@ -17,10 +17,10 @@ case-words e words old put = put ∙ ap (λ s. over (words s) old) (sym e)
 
 -- where as many images are lent as a formula has, these are its images
 pub lent-images : (f : Numbers) (bytes : List ℕ) → maxImages ≤ length bytes
-    → formulaOf f (take maxImages bytes)
+    → formulaWith f (take maxImages bytes)
     ≡ formulaFrom (f .variables) (f .clauses) (f .target) (f .permutations) bytes
 unfolding formulaFrom imagesFrom over
 lent-images f bytes le =
     let part = take maxImages bytes in
     let rest = ap (λ (k : ℕ). drop {A = ℕ} k (replicate maxImages 0)) (length-take-le maxImages bytes le) in
-    ap (formulaOf f) (sym (ap (λ l. part ++ l) rest ∙ append-nil part))
+    ap (formulaWith f) (sym (ap (λ l. part ++ l) rest ∙ append-nil part))

@@ -9,8 +9,8 @@ use Rattle.formula.specs.Reply.{Fault, first}
 use Rattle.formula.specs.Refusals.{formulaFault, permutationFault, symmetryFault}
 
 -- the formula that numbers and images make
-abbrev pub formulaOf : Numbers → List ℕ → Formula
-formulaOf f images =
+abbrev pub formulaWith : Numbers → List ℕ → Formula
+formulaWith f images =
     record {
       variables = f .variables;
       clauses = f .clauses;

@@ -3,7 +3,7 @@
 use mathlib.Core.Path.{_≡_, sym, ap, _∙_, subst}
 use borrow.Author.Needs.{needs}
 use Rattle.point_slices.specs.Slices.{clauseSlices}
-use Rattle.formula.specs.Laws.Contracts.{formulaOf}
+use Rattle.formula.specs.Laws.Contracts.{formulaWith}
 use Rattle.formula.specs.Laws.RefusalLaws.{stops-10, stops-11, ends-12, formula-passes, images-room}
 use Rattle.formula.specs.Laws.RefusalLaws.{formula-listed}
 use Rattle.formula.specs.Refusals.{formulaFault, permutationFault, faultOf}
@@ -23,14 +23,14 @@ returns c =
 
 -- the second arm is reached where refusal 10 found nothing
 ten : (c : tie.After-enum-told) → let a = c .before .before .before .before .before .before .args in
-    formulaFault (formulaOf (a .f) (a .images .now)) (clauseSlices (a .positive .now) (a .negative .now)) ≡ no-fault
+    formulaFault (formulaWith (a .f) (a .images .now)) (clauseSlices (a .positive .now) (a .negative .now)) ≡ no-fault
 ten c = sym (c .before .before .formula-refusal .ensures _) ∙ ap faultOf (c .enum-told .given .1)
 
 permutations-refusal-requires : tie.Need-permutations-refusal-requires
 permutations-refusal-requires c κs =
     let a = c .before .before .before .before .before .before .args in
     let few = formula-passes _ _ (ten (c)) .0 .few-variables in
-    (few, images-room (formulaOf (a .f) (a .images .now)) (clauseSlices (a .positive .now) (a .negative .now)) few (c .before .before .before .before .before .before .pre))
+    (few, images-room (formulaWith (a .f) (a .images .now)) (clauseSlices (a .positive .now) (a .negative .now)) few (c .before .before .before .before .before .before .pre))
 
 returns-2 : tie.Need-returns-2
 returns-2 c =
@@ -45,7 +45,7 @@ eleven c = sym (c .before .before .permutations-refusal .ensures) ∙ ap faultOf
 symmetry-refusal-requires : tie.Need-symmetry-refusal-requires
 symmetry-refusal-requires c κs =
     let a = c .before .before .before .before .before .before .before .before .before .args in
-    formula-listed (formulaOf (a .f) (a .images .now)) (clauseSlices (a .positive .now) (a .negative .now)) (ten (c .before .before .before)) (eleven (c)) (c .before .before .before .before .before .before .before .before .before .pre)
+    formula-listed (formulaWith (a .f) (a .images .now)) (clauseSlices (a .positive .now) (a .negative .now)) (ten (c .before .before .before)) (eleven (c)) (c .before .before .before .before .before .before .before .before .before .pre)
 
 returns-3 : tie.Need-returns-3
 returns-3 c = c .symmetry-refusal .ensures ∙ ends-12 _ _ (ten (c .before .before .before .before)) (eleven (c .before))
