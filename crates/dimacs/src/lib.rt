@@ -2,8 +2,10 @@
 // text, its problem line, its limits and the room, then reads the lines.
 use dimacs_format::Sizes;
 use dimacs_lines::Parsed;
+use dimacs_lines::ParsedNumbers;
 use dimacs_lines::read_clauses;
 use dimacs_lines::refused;
+use dimacs_lines::with_images;
 use dimacs_words::Class;
 use dimacs_words::Cursor;
 use dimacs_words::Number;
@@ -21,7 +23,7 @@ ghost use Rattle.dimacs_format.specs.Reader.{problemIn, isSkipped, withSizes};
 ghost use Rattle.dimacs_format.specs.Text.{piece, sameBytes, maxText};
 ghost use Rattle.dimacs.specs.Laws.ProblemScans.{sizingOf, WordMatched, NumberMatched, ProblemFound};
 ghost use Rattle.dimacs_words.specs.Laws.Scans.{linesBehind};
-ghost use Rattle.dimacs_lines.specs.Laws.ParsedAs.{ParsedAs};
+ghost use Rattle.dimacs_lines.specs.Laws.ParsedAs.{noImages, parsedIn, ParsedAs};
 ghost use Rattle.dimacs.specs.Contract.{Read};
 
 // What a fixed word meets: itself, with the cursor behind it, or something else.
@@ -171,13 +173,14 @@ fn read_sized(
     sizes: Sizes,
     positive: &mut [u64],
     negative: &mut [u64],
-) -> Parsed
-    requires { ⌜ (length (now text) ≤ maxText) × (stop ≤ length (now text)) ⌝ }
+    images: &mut [u8],
+) -> ParsedNumbers
+    requires { ⌜ (length (now text) ≤ maxText) × (stop ≤ length (now text)) × (now images ≡ noImages) ⌝ }
     ensures { λ r. ⌜ ParsedAs (withSizes (length (now (text .entry)))
         (clauseRoom (clauseSlices (now (positive .entry)) (now (negative .entry))))
         (piece start (take (stop - start) (drop start (now (text .entry)))))
         (linesBehind (now (text .entry)) stop) sizes)
-        (clauseSlices (now (positive .entry)) (now (negative .entry))) r
+        (clauseSlices (now (positive .entry)) (now (negative .entry))) (parsedIn r (now (images .exit)))
         (clauseSlices (now (positive .exit)) (now (negative .exit))) ⌝ }
 {
     if sizes.variables < 1 {
@@ -194,15 +197,21 @@ fn read_sized(
     if room < total {
         return refused(4, start);
     }
-    read_clauses(text, stop, sizes, positive, negative)
+    read_clauses(text, stop, sizes, positive, negative, images)
 }
 
-// D2.1: "A sheet is read as DIMACS CNF, as document 01 fixes it." The work is linear in the text: a byte before the
-// problem line is visited at most four times, one of that line at most nine times, one behind it at most twenty-one
-// times (`read_lines`).
-pub fn read(text: &[u8], positive: &mut [u64], negative: &mut [u64]) -> Parsed
-    ensures { λ r. ⌜ Read (now (text .entry)) (clauseSlices (now (positive .entry)) (now (negative .entry))) r
-        (clauseSlices (now (positive .exit)) (now (negative .exit))) ⌝ }
+// The reader, to lent images, which are 0 before: the numbers of the formula, beside the answer. The work is linear in
+// the text: a byte before the problem line is visited at most four times, one of that line at most nine times, one
+// behind it at most twenty-one times (`read_lines`).
+pub fn read_lent(
+    text: &[u8],
+    positive: &mut [u64],
+    negative: &mut [u64],
+    images: &mut [u8],
+) -> ParsedNumbers
+    requires { ⌜ now images ≡ noImages ⌝ }
+    ensures { λ r. ⌜ Read (now (text .entry)) (clauseSlices (now (positive .entry)) (now (negative .entry)))
+        (parsedIn r (now (images .exit))) (clauseSlices (now (positive .exit)) (now (negative .exit))) ⌝ }
 {
     let size = text.len();
     if MAX_TEXT < size {
@@ -216,5 +225,16 @@ pub fn read(text: &[u8], positive: &mut [u64], negative: &mut [u64]) -> Parsed
     let Sizing::Read(sizes) = sizing else {
         return refused(2, start);
     };
-    read_sized(text, start, stop, sizes, positive, negative)
+    read_sized(text, start, stop, sizes, positive, negative, images)
+}
+
+// D2.1: "A sheet is read as DIMACS CNF, as document 01 fixes it." The formula by value: its images are read to 1 KiB of
+// the stack, which is made 0 first, and copied.
+pub fn read(text: &[u8], positive: &mut [u64], negative: &mut [u64]) -> Parsed
+    ensures { λ r. ⌜ Read (now (text .entry)) (clauseSlices (now (positive .entry)) (now (negative .entry))) r
+        (clauseSlices (now (positive .exit)) (now (negative .exit))) ⌝ }
+{
+    let mut images = [0u8; Formula::MAX_IMAGES];
+    let r = read_lent(text, positive, negative, &mut images);
+    with_images(r, images)
 }

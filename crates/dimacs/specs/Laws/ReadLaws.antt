@@ -65,6 +65,11 @@ pub answers-read : {text : List ℕ} {clauses₀ clauses₁ : ClauseSlices} {r :
 unfolding readReply readFormula readClauses
 answers-read a = record { reply = a .reply; formula = a .formula; clauses = a .clauses }
 
+-- the same answer is what was read
+pub read-as : {text : List ℕ} {clauses₀ clauses₁ : ClauseSlices} {r x : Parsed} → r ≡ x → Read text clauses₀ x clauses₁
+    → Read text clauses₀ r clauses₁
+read-as {text} {clauses₀} {clauses₁} e a = subst (λ y. Read text clauses₀ y clauses₁) (sym e) a
+
 module _ (text : List ℕ) (room : ℕ) where
   pub text-long : maxText < length text → reading text room ≡ refuses 1 maxText
   unfolding reading
