@@ -5,8 +5,9 @@ use certificate::Opened;
 use certificate_writer::Written;
 use checker::Verdict;
 use dimacs_lines::Parse;
-use dimacs_lines::Parsed;
+use dimacs_lines::ParsedNumbers;
 use formula::Formula;
+use formula::Numbers;
 use point_slices::least;
 use search::Found;
 use search::Outcome;
@@ -18,6 +19,7 @@ ghost use Prim.Native.Nat.{_≤_};
 ghost use lib.ListN.{length, take};
 ghost use Rattle.math.specs.Lists.{over};
 ghost use Rattle.formula.specs.Limits.{maxImages};
+ghost use Rattle.formula.specs.Laws.Contracts.{formulaWith};
 ghost use Rattle.export_words.specs.Words.{imagesFrom, formulaFrom, numbersOf, wordsOf, isParsed, putIfParsed};
 ghost use mathlib.Core.Option.{some};
 ghost use Rattle.dimacs_lines.specs.Reply.{replyOfParse};
@@ -84,12 +86,11 @@ pub fn put_words(to: &mut [u64], a: u64, b: u64, c: u64, d: u64)
 }
 
 // Writes a formula's four numbers and its images; `put_parsed` sees to the room. One step a byte of the images.
-fn put_formula(numbers: &mut [u64], images: &mut [u8], f: Formula)
-    requires { ⌜ (4 ≤ length (now numbers)) × (maxImages ≤ length (now images)) ⌝ }
-    ensures { λ _. ⌜ (now (numbers .exit) ≡ over (numbersOf f) (now (numbers .entry)))
-        × (now (images .exit) ≡ over (f .images) (now (images .entry))) ⌝ }
+fn put_formula(numbers: &mut [u64], images: &mut [u8], f: Numbers, held: &[u8])
+    requires { ⌜ (4 ≤ length (now numbers)) × (maxImages ≤ length (now images)) × (length (now held) ≡ maxImages) ⌝ }
+    ensures { λ _. ⌜ (now (numbers .exit) ≡ over (numbersOf (formulaWith f (now (held .entry)))) (now (numbers .entry)))
+        × (now (images .exit) ≡ over (now (held .entry)) (now (images .entry))) ⌝ }
 {
-    let bytes = f.images;
     put_words(
         numbers,
         f.variables as u64,
@@ -97,7 +98,7 @@ fn put_formula(numbers: &mut [u64], images: &mut [u8], f: Formula)
         f.target,
         f.permutations as u64,
     );
-    copy_bytes(images, &bytes, Formula::MAX_IMAGES);
+    copy_bytes(images, held, Formula::MAX_IMAGES);
 }
 
 // How many words an entry of a body takes, and how many a file's contents.
@@ -123,20 +124,27 @@ fn put_parse(reply: &mut [u64], r: Parse) -> bool
     }
 }
 
-// Writes the words of the reader's answer and, where the text is read, the formula. D1.2: "after a refusal each lent
-// slice holds what it held before". The callers see to the room for all of it.
-pub fn put_parsed(numbers: &mut [u64], images: &mut [u8], reply: &mut [u64], r: Parsed)
-    requires { ⌜ (4 ≤ length (now numbers)) × (maxImages ≤ length (now images)) × (4 ≤ length (now reply)) ⌝ }
-    ensures { λ _. ⌜ (now (numbers .exit) ≡ putIfParsed (replyOfParse (r .answer)) (numbersOf (r .formula))
-        (now (numbers .entry))) × (now (images .exit) ≡ putIfParsed (replyOfParse (r .answer)) (r .formula .images)
-        (now (images .entry))) × (now (reply .exit) ≡ over (wordsOf (replyOfParse (r .answer))) (now (reply .entry)))
-        ⌝ }
+// Writes the words of the reader's answer and, where the text is read, the formula of the numbers and of the images that
+// are held. D1.2: "after a refusal each lent slice holds what it held before". The callers see to the room for all of it.
+pub fn put_parsed(
+    numbers: &mut [u64],
+    images: &mut [u8],
+    reply: &mut [u64],
+    r: ParsedNumbers,
+    held: &[u8],
+)
+    requires { ⌜ (4 ≤ length (now numbers)) × (maxImages ≤ length (now images)) × (4 ≤ length (now reply))
+        × (length (now held) ≡ maxImages) ⌝ }
+    ensures { λ _. ⌜ (now (numbers .exit) ≡ putIfParsed (replyOfParse (r .answer))
+        (numbersOf (formulaWith (r .numbers) (now (held .entry)))) (now (numbers .entry)))
+        × (now (images .exit) ≡ putIfParsed (replyOfParse (r .answer)) (now (held .entry)) (now (images .entry)))
+        × (now (reply .exit) ≡ over (wordsOf (replyOfParse (r .answer))) (now (reply .entry))) ⌝ }
 {
-    let f = r.formula;
+    let f = r.numbers;
     let answer = r.answer;
     let read = put_parse(reply, answer);
     if read {
-        put_formula(numbers, images, f);
+        put_formula(numbers, images, f, held);
     }
 }
 

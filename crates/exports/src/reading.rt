@@ -1,5 +1,5 @@
 // The reader as an exported function.
-use dimacs::read;
+use dimacs::read_lent;
 use export_words::WORDS;
 use export_words::put_parsed;
 use formula::Formula;
@@ -33,7 +33,8 @@ pub extern "C" fn jugbowo_read(
     if images.len() < Formula::MAX_IMAGES {
         return 0;
     }
-    let r = read(text, positive, negative);
-    put_parsed(numbers, images, reply, r);
+    let mut held = [0u8; Formula::MAX_IMAGES];
+    let r = read_lent(text, positive, negative, &mut held);
+    put_parsed(numbers, images, reply, r, &held);
     1
 }

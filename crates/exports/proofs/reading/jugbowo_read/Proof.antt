@@ -1,6 +1,12 @@
 -- `exports::reading::jugbowo_read` meets its contract: with room for the answer it tells what the reader answers.
 -- Assumes nothing.
+use mathlib.Core.Path.{refl, sym, ap, _∙_}
+use Rattle.math.specs.Lists.{over}
 use Rattle.point_slices.specs.Slices.{clauseSlices}
+use Rattle.dimacs_lines.specs.Laws.ParsedAs.{parsedIn}
+use Rattle.dimacs_lines.specs.Reply.{replyOfParse}
+use Rattle.export_words.specs.Laws.WordLaws.{put-in, answer-in}
+use Rattle.export_words.specs.Words.{wordsOf, numbersOf}
 use Rattle.exports.specs.Laws.ReadingLaws.{without-reply, without-numbers, without-images, tells-reading}
 use Rattle.exports.proofs.reading.jugbowo_read.Statement.{statement}
 use Rattle.exports.proofs.reading.jugbowo_read.Tie as tie
@@ -20,17 +26,23 @@ returns-3 c =
     let a = c .before .before .before .before .before .before .before .before .before .args in
     without-images (a .text .now) (clauseSlices (a .positive .now) (a .negative .now)) (a .numbers .now) (a .images .now) (a .reply .now) (c .before .before .if1 .left) (c .before .if2 .left) (c .if3 .taken)
 
-read-requires : tie.Need-read-requires
-read-requires c κs = tt
+slice-aggregate-read-lent : tie.Need-slice-aggregate-read-lent
+slice-aggregate-read-lent c = refl
+
+read-lent-requires : tie.Need-read-lent-requires
+read-lent-requires c κs = refl
+
+slice-aggregate-put-parsed : tie.Need-slice-aggregate-put-parsed
+slice-aggregate-put-parsed c = sym (c .before .before .before .before .before .before .before .before .before .read-lent .kept .1 .1 .1 .0)
 
 put-parsed-requires : tie.Need-put-parsed-requires
-put-parsed-requires c κs = (c .before .before .before .before .before .before .before .before .before .before .before .if2 .left, c .before .before .before .before .before .before .before .before .before .before .if3 .left, c .before .before .before .before .before .before .before .before .before .before .before .before .if1 .left)
+put-parsed-requires c κs = (c .before .before .before .before .before .before .before .before .before .before .before .before .before .before .if2 .left, c .before .before .before .before .before .before .before .before .before .before .before .before .before .if3 .left, c .before .before .before .before .before .before .before .before .before .before .before .before .before .before .before .if1 .left, c .before .before .before .before .before .before .before .before .before .read-lent .kept .1 .1 .1 .0)
 
 same-length : tie.Need-same-length
-same-length c = c .before .before .before .before .before .before .before .before .before .before .before .before .before .before .read .kept .1 .0
+same-length c = c .before .before .before .before .before .before .before .before .before .before .before .before .before .before .before .before .read-lent .kept .1 .0
 
 same-length-2 : tie.Need-same-length-2
-same-length-2 c = c .before .before .before .before .before .before .before .before .before .before .before .before .before .before .read .kept .1 .1 .0
+same-length-2 c = c .before .before .before .before .before .before .before .before .before .before .before .before .before .before .before .before .read-lent .kept .1 .1 .0
 
 same-length-3 : tie.Need-same-length-3
 same-length-3 c = c .before .before .before .before .before .before .put-parsed .kept .0
@@ -43,10 +55,13 @@ same-length-5 c = c .before .before .before .before .before .before .put-parsed 
 
 returns-4 : tie.Need-returns-4
 returns-4 c =
-    let a = c .before .before .before .before .before .before .before .before .before .before .before .before .before .before .before .before .before .before .before .before .before .before .before .before .before .before .args in
+    let a = c .before .before .before .before .before .before .before .before .before .before .before .before .before .before .before .before .before .before .before .before .before .before .before .before .before .before .before .before .before .args in
     let put = c .before .before .before .before .before .before .put-parsed .ensures in
-    tells-reading (a .text .now) (clauseSlices (a .positive .now) (a .negative .now)) (a .numbers .now) (a .images .now) (a .reply .now) (c .before .before .before .before .before .before .before .before .before .before .before .before .before .before .read .result) _ _ _ _
-    (c .before .before .before .before .before .before .before .before .before .before .before .before .before .before .before .before .before .before .before .if1 .left) (c .before .before .before .before .before .before .before .before .before .before .before .before .before .before .before .before .before .before .if2 .left) (c .before .before .before .before .before .before .before .before .before .before .before .before .before .before .before .before .before .if3 .left) (c .before .before .before .before .before .before .before .before .before .before .before .before .before .before .read .ensures) (put .0) (put .1) (put .2)
+    let read = c .before .before .before .before .before .before .before .before .before .before .before .before .before .before .before .before .read-lent .result in
+    let held = c .before .before .before .before .before .before .before .before .before .before .before .before .before .before .before .before .read-lent .last .1 .1 .1 .0 in
+    tells-reading (a .text .now) (clauseSlices (a .positive .now) (a .negative .now)) (a .numbers .now) (a .images .now) (a .reply .now) (parsedIn read held) _ _ _ _
+    (c .before .before .before .before .before .before .before .before .before .before .before .before .before .before .before .before .before .before .before .before .before .before .if1 .left) (c .before .before .before .before .before .before .before .before .before .before .before .before .before .before .before .before .before .before .before .before .before .if2 .left) (c .before .before .before .before .before .before .before .before .before .before .before .before .before .before .before .before .before .before .before .before .if3 .left) (c .before .before .before .before .before .before .before .before .before .before .before .before .before .before .before .before .read-lent .ensures) (put .0 ∙ put-in (read .numbers) (read .answer) held numbersOf _) (put .1 ∙ put-in (read .numbers) (read .answer) held (λ f. f .images) _)
+    (put .2 ∙ ap (λ p. over (wordsOf (replyOfParse p)) (a .reply .now)) (answer-in (read .numbers) (read .answer) held))
 
 pub jugbowo-read-spec : {M : Type 1} → statement M
 jugbowo-read-spec =
@@ -55,7 +70,9 @@ jugbowo-read-spec =
     returns
     returns-2
     returns-3
-    read-requires
+    slice-aggregate-read-lent
+    read-lent-requires
+    slice-aggregate-put-parsed
     put-parsed-requires
     same-length
     same-length-2
