@@ -8,6 +8,7 @@ use native.Mathlib.Omega.{arith}
 use mathlib.Core.List.{List}
 use lib.Dec.{T, lit<, ltb, ltb→lt}
 use lib.ListN.{length, take}
+use borrow.Author.Tests.{ltb-false}
 use Rattle.point_slices.specs.Slices.{clauseSlices, slotSlices}
 use Rattle.formula.specs.declared.Formula.{Formula}
 use Rattle.formula.specs.Limits.{maxSlots, capacity}
@@ -24,7 +25,7 @@ use Rattle.slot_prefixes.specs.Laws.PrefixLaws.{noRoom}
 use Rattle.slot_proofs.proofs.Places.{places-many, places-in}
 use Rattle.slot_search.specs.Laws.FilledLaws.{SameSearch}
 use Rattle.slot_search.specs.Laws.Contracts.{Accepted}
-use Rattle.slot_search.specs.Laws.SearchLaws.{told, fresh-few, same-some, searched-fresh}
+use Rattle.slot_search.specs.Laws.SearchLaws.{told, fresh-few, same-all, same-some, searched-fresh}
 use Rattle.slot_search.specs.Laws.SearchLaws.{places-accepted, no-room-accepted}
 
 -- a test that failed, and the first of two that were met
@@ -50,12 +51,19 @@ module _ (places : ℕ) (few : places ≤ maxSlots) (ys : List Slot) where
   pub gk : k < 2 ^ 64
   gk = lt-of-le-of-lt (le-trans held few) (lit< tt)
 
+  -- no more slots are lent than there are places: all are searched
+  pub all-lent : T (not (ltb places (length ys))) → length ys ≡ k
+  all-lent all = let h = ltb-false places (length ys) (failed (ltb places (length ys)) all) in omega (arith, h)
+
   module _ (f : Formula) (us vs ps fs ds : List ℕ) (e₁ : length ps ≡ places) (e₂ : length fs ≡ places) (e₃ : length ds ≡ places) where
     pub searched-in : Within k k (length ps) (length fs) (length ds)
     searched-in = places-in held k ps fs ds (let z : k ≤ k = omega arith in z) e₁ e₂ e₃
 
     pub searched-accepted : 1 ≤ places → Accepted f (clauseSlices us vs) ys → searchFault f (clauseSlices us vs) k ≡ no-fault
     searched-accepted some accepted = places-accepted f (clauseSlices us vs) ys k places some refl accepted
+
+    pub same-within : T (not (ltb places (length ys))) → SameSearch f (clauseSlices us vs) k (capacity (slotsIn ys))
+    same-within all = same-all f (clauseSlices us vs) ys k (let e = all-lent all in omega (arith, e, few))
 
     module _ (r : Found) (ps′ fs′ ds′ : List ℕ) (s₁ : length ps′ ≡ length ps) (s₂ : length fs′ ≡ length fs) (s₃ : length ds′ ≡ length ds)
         (promised : Searched f (clauseSlices us vs) (slotSlices (take k ps) (take k fs) (take k ds)) r (slotSlices (take k ps′) (take k fs′) (take k ds′))) where

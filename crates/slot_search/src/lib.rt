@@ -17,7 +17,8 @@ ghost use Rattle.slot_search.specs.Laws.Contracts.{Accepted, SearchedSlo
 // A visited point, the number of the clause that it falsifies, and its depth.
 pub type Slot = slot_columns::Slot;
 
-// On how many places of its own a search is tried first, and on how many where those are too few.
+// On how many places of its own a search is tried first, and on how many where those are too few and no more slots are
+// lent.
 const FEW_PLACES: usize = 256;
 
 const MANY_PLACES: usize = 4096;
@@ -51,18 +52,20 @@ fn search_most(f: Formula, positive: &[u64], negative: &[u64], slots: &mut [Slot
     r
 }
 
-// The search on 64 KiB of the stack, and only where that is too little again, on as many places as can be used. As
-// above it never calls itself.
+// The search on 64 KiB of the stack where these have places for all the slots lent, else on as many places as can be
+// used: so a search begins again only once. As above it never calls itself.
 fn search_many(f: Formula, positive: &[u64], negative: &[u64], slots: &mut [Slot]) -> Found
     requires { ⌜ Accepted f (clauseSlices (now positive) (now negative)) (now slots) ⌝ }
     ensures { λ r. ⌜ SearchedSlots f (clauseSlices (now (positive .entry)) (now (negative .entry)))
         (now (slots .entry)) r (now (slots .exit)) ⌝ }
 {
+    let lent = slots.len();
+    if MANY_PLACES < lent {
+        return search_most(f, positive, negative, slots);
+    }
     let mut points = [0u64; MANY_PLACES];
     let mut falsified = [0u32; MANY_PLACES];
     let mut depths: [Depth; MANY_PLACES] = [0; MANY_PLACES];
-    let lent = slots.len();
-    let room = least(MANY_PLACES, lent);
     let r = search_accepted_prefix(
         f,
         positive,
@@ -70,13 +73,10 @@ fn search_many(f: Formula, positive: &[u64], negative: &[u64], slots: &mut [Slot
         &mut points,
         &mut falsified,
         &mut depths,
-        room,
+        lent,
     );
-    if outgrown(r, room, lent) {
-        return search_most(f, positive, negative, slots);
-    }
     let many = filled(r);
-    if room < many {
+    if lent < many {
         return search_many(f, positive, negative, slots);
     }
     copy_back(slots, many, &points, &falsified, &depths);
@@ -84,9 +84,9 @@ fn search_many(f: Formula, positive: &[u64], negative: &[u64], slots: &mut [Slot
 }
 
 // D2.2: the search with the slots in one lent slice, by the definition of `search::search`; refusals 10 to 13 leave the
-// slice as it was. It searches on 4 KiB of the stack, and only where that is too little again, on 64 KiB and then on as
-// many places as can be used; what the refusals test is tested once. The slots filled are copied back, one step each;
-// no other slot is read or stored.
+// slice as it was. It searches on 4 KiB of the stack, and only where that is too little again: on 64 KiB or, where more
+// slots are lent than these have places for, on as many places as can be used. What the refusals test is tested once.
+// The slots filled are copied back, one step each; no other slot is read or stored.
 pub fn search_slots(f: Formula, positive: &[u64], negative: &[u64], slots: &mut [Slot]) -> Found
     ensures { λ r. ⌜ Searched f (clauseSlices (now (positive .entry)) (now (negative .entry)))
         (slotsIn (now (slots .entry))) r (slotsIn (now (slots .exit))) ⌝ }
