@@ -111,6 +111,22 @@ fn change_images(
     }
 }
 
+// The same. There is an image for each permutation, so it never calls itself: the call keeps the loops of far points out
+// of the callers, whose loops over near ones and look-ups then have the registers to themselves.
+fn far_images(n: u32, permutations: u32, images: &[u8], stay: &[u64], moved: &mut [u64], s: Point)
+    requires { ⌜ Permuting n permutations (now images) × Staying n permutations (now images) (pointsOf (now stay))
+        × (permutations ≤ length (pointsOf (now moved))) ⌝ }
+    ensures { λ _. ⌜ Turns n permutations (now (images .entry)) s (pointsOf (now (moved .entry)))
+        (pointsOf (now (moved .exit))) ⌝ }
+{
+    let held = point_count(moved);
+    if permutations as usize <= held {
+        change_images(n, permutations, images, stay, moved, s);
+    } else {
+        far_images(n, permutations, images, stay, moved, s);
+    }
+}
+
 // In how many variables two points differ at most whose images are turned one variable at a time: so few turns take no
 // longer than one change of each image.
 const NEAR: u32 = 8;
@@ -135,7 +151,7 @@ pub fn next_images(
         move_images(n, permutations, images, moved, x, y);
     } else {
         let s = points::differing(x, y);
-        change_images(n, permutations, images, stay, moved, s);
+        far_images(n, permutations, images, stay, moved, s);
     }
 }
 

@@ -9,11 +9,11 @@ use Rattle.permutation_coverage.proofs.next_images.Tie as tie
 move-images-requires : tie.Need-move-images-requires
 move-images-requires c κs = search needs
 
-change-images-requires : tie.Need-change-images-requires
-change-images-requires c κs = search needs
+far-images-requires : tie.Need-far-images-requires
+far-images-requires c κs = search needs
 
 returns-2 : tie.Need-returns-2
-returns-2 c = turns-imaged (c .before .before .before .before .before .before .before .before .before .before .before .before .pre .2) (c .before .before .before .before .before .before .before .before .before .before .before .before .pre .3) (c .before .before .before .before .differing .ensures) (same-count _ _ (c .before .before .change-images .kept .1 .1 .1 .1 .0)) (c .before .before .change-images .ensures)
+returns-2 c = turns-imaged (c .before .before .before .before .before .before .before .before .before .before .before .before .pre .2) (c .before .before .before .before .before .before .before .before .before .before .before .before .pre .3) (c .before .before .before .before .differing .ensures) (same-count _ _ (c .before .before .far-images .kept .1 .1 .1 .1 .0)) (c .before .before .far-images .ensures)
 
 pub next-images-spec : {M : Type 1} → statement M
 next-images-spec =
@@ -23,7 +23,7 @@ next-images-spec =
     (λ c κs. search needs)
     move-images-requires
     (λ c κs. search needs)
-    change-images-requires
+    far-images-requires
     (λ c. search needs)
     (λ c. search needs)
     (λ c. search needs)
