@@ -132,7 +132,8 @@ fn far_images(n: u32, permutations: u32, images: &[u8], stay: &[u64], moved: &mu
 const NEAR: u32 = 8;
 
 // Turns the images of x into those of y: as `move_images` does where the points are near or `stay` is empty, else one
-// change of each image, whose steps are the variables that differ and are not in its set of `stay`.
+// change of each image, whose steps are the variables that differ and are not in its set of `stay`. Nothing is counted
+// where the points are the same, as they are for all flips of a point but the first.
 pub fn next_images(
     n: u32,
     permutations: u32,
@@ -146,6 +147,9 @@ pub fn next_images(
         × Imaged n permutations (now images) x (pointsOf (now moved)) × (y < 2 ^ n) ⌝ }
     ensures { λ _. ⌜ Imaged n permutations (now (images .entry)) y (pointsOf (now (moved .exit))) ⌝ }
 {
+    if points::same(x, y) {
+        return;
+    }
     let apart = points::distance(x, y);
     if point_count(stay) == 0 || apart <= NEAR {
         move_images(n, permutations, images, moved, x, y);
