@@ -2,7 +2,8 @@
 """What somebody has to read in order to believe the promises: the modules that the contracts of the entry points
 and the claim cite, and all that these import. Prints the list with line counts. Exit status 1 if the list reaches a
 law (a module below specs/Laws, or a declaration that is no definition), if an entry point has a `requires`, if a
-public function has a contract of its crate's specs/Contract and README's table does not list it, if a module of
+public function without `requires` has a contract of its crate's specs/Contract and README's table does not list it
+(one with a `requires` is for callers in Rattle), if a module of
 definitions stands in specs/ though nothing reads it, or if README has another figure.
 
 The entry points are those of README's table, and every exported function (`#[no_mangle]`)."""
@@ -38,13 +39,15 @@ def exported():
 
 
 def contracted():
-    """(crate, function) of each public function whose contract is one of its crate's specs/Contract."""
+    """(crate, function) of each public function that requires nothing and whose contract is one of its crate's
+    specs/Contract."""
     for path in sorted(glob.glob("crates/*/src/*.rt")):
         text, crate = open(path).read(), path.split("/")[1]
         records = [name for module, names in tree.imports(text) if module == (crate, "Contract") for name in names]
         for name, signature, contract, _ in tree.functions(text):
             promised = re.findall(r"⌜ (\w+)", contract)
-            if signature.lstrip().startswith("pub ") and promised[-1:] and promised[-1] in records:
+            free = signature.lstrip().startswith("pub ") and "requires {" not in contract
+            if free and promised[-1:] and promised[-1] in records:
                 yield crate, name
 
 

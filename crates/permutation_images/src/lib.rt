@@ -133,15 +133,15 @@ pub fn image_of_point(e: &[u8], x: Point) -> Point
     moved(e, x)
 }
 
-// The image of a set of variables, of which those in `fixed` stay: one step for each of the others, which are few as a
-// rule. Refusal 11 sees to what it requires.
+// The image of a set of variables, of which those in `fixed` stay: one step for each of the others, or one a variable
+// where these are many. Refusal 11 sees to what it requires.
 pub fn image_of_set(e: &[u8], fixed: Point, s: Point) -> Point
     requires { ⌜ Movable (now e) × Fixes (now e) (length (now e)) fixed ⌝ }
     ensures { λ r. ⌜ r ≡ moved (now (e .entry)) s ⌝ }
 {
     let staying = points::common(s, fixed);
     let leaving = points::differing(s, staying);
-    let arrived = moved_few(e, leaving);
+    let arrived = moved(e, leaving);
     points::union(staying, arrived)
 }
 

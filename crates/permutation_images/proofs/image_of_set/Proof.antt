@@ -11,7 +11,7 @@ returns : tie.Need-returns
 returns c =
     let a = c .before .before .before .before .before .args in
     c .union .ensures
-    ∙ ap₂ bitOr (c .before .before .before .common .ensures) (c .before .moved-few .ensures ∙ ap (moved (a .e .now)) (c .before .before .differing .ensures ∙ ap (bitXor (a .s)) (c .before .before .before .common .ensures)))
+    ∙ ap₂ bitOr (c .before .before .before .common .ensures) (c .before .moved .ensures ∙ ap (moved (a .e .now)) (c .before .before .differing .ensures ∙ ap (bitXor (a .s)) (c .before .before .before .common .ensures)))
     ∙ stays-and-leaves (c .before .before .before .before .before .pre .1) (a .s)
 
 pub image-of-set-spec : {M : Type 1} → statement M
