@@ -1,9 +1,9 @@
 // The reader: for any bytes a formula and its clauses, or a numbered refusal with its place. It tests the size of the
 // text, its problem line, its limits and the room, then reads the lines.
+use dimacs_arrays::read_clauses;
 use dimacs_format::Sizes;
 use dimacs_lines::Parsed;
 use dimacs_lines::ParsedNumbers;
-use dimacs_lines::read_clauses;
 use dimacs_lines::refused;
 use dimacs_lines::with_images;
 use dimacs_words::Class;

@@ -32,7 +32,7 @@ ghost use Rattle.dimacs_comments.specs.Laws.CommentScans.{wantedOf};
 ghost use Rattle.dimacs_lines.specs.Laws.LineScans.{nothingSaid, Kept, Standing, CommentRead};
 ghost use Rattle.dimacs_lines.specs.Laws.LineScans.{opensComment, Following, Advancing, LinesRead};
 ghost use Rattle.dimacs_lines.specs.Laws.ParsedAs.{Copied, refusedNumbers, toldRefused, parsedWith, parsedIn};
-ghost use Rattle.dimacs_lines.specs.Laws.ParsedAs.{tinyClauses, fewClauses, someClauses, HasRoom};
+ghost use Rattle.dimacs_lines.specs.Laws.ParsedAs.{HasRoom};
 ghost use Rattle.dimacs_lines.specs.Laws.ParsedAs.{Collectable, ParsedAs, Accepting};
 
 // What the lines have said so far, beside the slices of the clauses and the images: a part for each kind of line.
@@ -354,7 +354,7 @@ fn accept(
 
 // N1: the clauses are collected in `p` and `q`, so that a later refusal finds the lent slices unchanged. The functions
 // that make these arrays see to what it requires.
-fn collect(
+pub fn collect(
     text: &[u8],
     end: usize,
     sizes: Sizes,
@@ -380,144 +380,8 @@ fn collect(
     }
 }
 
-// How many clauses the smaller arrays have room for, since each array is made 0 first.
-const TINY_CLAUSES: usize = 32;
-
-pub const FEW_CLAUSES: usize = 256;
-
-const SOME_CLAUSES: usize = 1024;
-
-// Very few clauses, collected in local arrays of 256 bytes each.
-fn tiny_clauses(
-    text: &[u8],
-    end: usize,
-    sizes: Sizes,
-    positive: &mut [u64],
-    negative: &mut [u64],
-    images: &mut [u8],
-) -> Told
-    requires { ⌜ Collectable sizes (clauseSlices (now positive) (now negative)) (now text) end (now images)
-        × (sizes .total ≤ tinyClauses) ⌝ }
-    ensures { λ r. ⌜ ParsedAs (textSays (length (now (text .entry))) sizes (linesBehind (now (text .entry)) end))
-        (clauseSlices (now (positive .entry)) (now (negative .entry))) (parsedWith sizes r (now (images .exit)))
-        (clauseSlices (now (positive .exit)) (now (negative .exit))) ⌝ }
-{
-    let mut p = [0u64; TINY_CLAUSES];
-    let mut q = [0u64; TINY_CLAUSES];
-    collect(text, end, sizes, &mut p, &mut q, positive, negative, images)
-}
-
-// Few clauses, collected in local arrays of 2 KiB each.
-fn few_clauses(
-    text: &[u8],
-    end: usize,
-    sizes: Sizes,
-    positive: &mut [u64],
-    negative: &mut [u64],
-    images: &mut [u8],
-) -> Told
-    requires { ⌜ Collectable sizes (clauseSlices (now positive) (now negative)) (now text) end (now images)
-        × (sizes .total ≤ fewClauses) ⌝ }
-    ensures { λ r. ⌜ ParsedAs (textSays (length (now (text .entry))) sizes (linesBehind (now (text .entry)) end))
-        (clauseSlices (now (positive .entry)) (now (negative .entry))) (parsedWith sizes r (now (images .exit)))
-        (clauseSlices (now (positive .exit)) (now (negative .exit))) ⌝ }
-{
-    let mut p = [0u64; FEW_CLAUSES];
-    let mut q = [0u64; FEW_CLAUSES];
-    collect(text, end, sizes, &mut p, &mut q, positive, negative, images)
-}
-
-// Some more clauses, collected in local arrays of 8 KiB each.
-fn some_clauses(
-    text: &[u8],
-    end: usize,
-    sizes: Sizes,
-    positive: &mut [u64],
-    negative: &mut [u64],
-    images: &mut [u8],
-) -> Told
-    requires { ⌜ Collectable sizes (clauseSlices (now positive) (now negative)) (now text) end (now images)
-        × (sizes .total ≤ someClauses) ⌝ }
-    ensures { λ r. ⌜ ParsedAs (textSays (length (now (text .entry))) sizes (linesBehind (now (text .entry)) end))
-        (clauseSlices (now (positive .entry)) (now (negative .entry))) (parsedWith sizes r (now (images .exit)))
-        (clauseSlices (now (positive .exit)) (now (negative .exit))) ⌝ }
-{
-    let mut p = [0u64; SOME_CLAUSES];
-    let mut q = [0u64; SOME_CLAUSES];
-    collect(text, end, sizes, &mut p, &mut q, positive, negative, images)
-}
-
-// As many clauses as there can be, collected in local arrays of 32 KiB each.
-fn many_clauses(
-    text: &[u8],
-    end: usize,
-    sizes: Sizes,
-    positive: &mut [u64],
-    negative: &mut [u64],
-    images: &mut [u8],
-) -> Told
-    requires { ⌜ Collectable sizes (clauseSlices (now positive) (now negative)) (now text) end (now images) ⌝ }
-    ensures { λ r. ⌜ ParsedAs (textSays (length (now (text .entry))) sizes (linesBehind (now (text .entry)) end))
-        (clauseSlices (now (positive .entry)) (now (negative .entry))) (parsedWith sizes r (now (images .exit)))
-        (clauseSlices (now (positive .exit)) (now (negative .exit))) ⌝ }
-{
-    let mut p = [0u64; Formula::MAX_CLAUSES as usize];
-    let mut q = [0u64; Formula::MAX_CLAUSES as usize];
-    collect(text, end, sizes, &mut p, &mut q, positive, negative, images)
-}
-
-// More than few clauses. It never calls itself, since the lent slices have room for C clauses: the call is there so that
-// a compiler keeps this function and the large arrays below it out of the callers', and a small text takes little of the
-// stack.
-fn large_clauses(
-    text: &[u8],
-    end: usize,
-    sizes: Sizes,
-    positive: &mut [u64],
-    negative: &mut [u64],
-    images: &mut [u8],
-) -> Told
-    requires { ⌜ Collectable sizes (clauseSlices (now positive) (now negative)) (now text) end (now images) ⌝ }
-    ensures { λ r. ⌜ ParsedAs (textSays (length (now (text .entry))) sizes (linesBehind (now (text .entry)) end))
-        (clauseSlices (now (positive .entry)) (now (negative .entry))) (parsedWith sizes r (now (images .exit)))
-        (clauseSlices (now (positive .exit)) (now (negative .exit))) ⌝ }
-{
-    let total = sizes.total as usize;
-    if total <= SOME_CLAUSES {
-        return some_clauses(text, end, sizes, positive, negative, images);
-    }
-    if positive.len() < total {
-        return large_clauses(text, end, sizes, positive, negative, images);
-    }
-    many_clauses(text, end, sizes, positive, negative, images)
-}
-
-// The lines, with arrays to collect the clauses in whose size follows C.
-fn by_count(
-    text: &[u8],
-    end: usize,
-    sizes: Sizes,
-    positive: &mut [u64],
-    negative: &mut [u64],
-    images: &mut [u8],
-) -> Told
-    requires { ⌜ Collectable sizes (clauseSlices (now positive) (now negative)) (now text) end (now images) ⌝ }
-    ensures { λ r. ⌜ ParsedAs (textSays (length (now (text .entry))) sizes (linesBehind (now (text .entry)) end))
-        (clauseSlices (now (positive .entry)) (now (negative .entry))) (parsedWith sizes r (now (images .exit)))
-        (clauseSlices (now (positive .exit)) (now (negative .exit))) ⌝ }
-{
-    let total = sizes.total as usize;
-    if total <= TINY_CLAUSES {
-        return tiny_clauses(text, end, sizes, positive, negative, images);
-    }
-    if total <= FEW_CLAUSES {
-        return few_clauses(text, end, sizes, positive, negative, images);
-    }
-    large_clauses(text, end, sizes, positive, negative, images)
-}
-
 // The numbers of the formula read, beside the answer.
-fn with_numbers(sizes: Sizes, told: Told) -> ParsedNumbers
+pub fn with_numbers(sizes: Sizes, told: Told) -> ParsedNumbers
     ensures { λ r. ⌜ ((images : List ℕ) → parsedIn r images ≡ parsedWith sizes told images) ⌝ }
 {
     let answer = told.answer;
@@ -528,25 +392,6 @@ fn with_numbers(sizes: Sizes, told: Told) -> ParsedNumbers
         permutations: told.permutations,
     };
     ParsedNumbers { numbers, answer }
-}
-
-// The lines, read into lent images, which are 0 before. `dimacs::read_sized` sees to what it requires, by refusals 1, 3
-// and 4.
-pub fn read_clauses(
-    text: &[u8],
-    end: usize,
-    sizes: Sizes,
-    positive: &mut [u64],
-    negative: &mut [u64],
-    images: &mut [u8],
-) -> ParsedNumbers
-    requires { ⌜ Collectable sizes (clauseSlices (now positive) (now negative)) (now text) end (now images) ⌝ }
-    ensures { λ r. ⌜ ParsedAs (textSays (length (now (text .entry))) sizes (linesBehind (now (text .entry)) end))
-        (clauseSlices (now (positive .entry)) (now (negative .entry))) (parsedIn r (now (images .exit)))
-        (clauseSlices (now (positive .exit)) (now (negative .exit))) ⌝ }
-{
-    let told = by_count(text, end, sizes, positive, negative, images);
-    with_numbers(sizes, told)
 }
 
 // The formula read with its images, 0 throughout after a refusal (N2: "a refusal carries one that is 0 throughout").

@@ -1,5 +1,5 @@
 // What the program `nearest` prints for the bytes of a sheet, as a function.
-use dimacs_lines::FEW_CLAUSES;
+use dimacs_arrays::FEW_CLAUSES;
 use dimacs_lines::Parse;
 use formula::Formula;
 use point_slices::clause_count;

@@ -1,7 +1,7 @@
 // Reader, search, writer and checker in one call. Its contract has demand 3's sentences about what it returns.
 use certificate_writer::Written;
 use checker::Verdict;
-use dimacs_lines::FEW_CLAUSES;
+use dimacs_arrays::FEW_CLAUSES;
 use dimacs_lines::Parse;
 use formula::Formula;
 use point_slices::first_points;

@@ -1,9 +1,9 @@
--- `dimacs_lines::tiny_clauses` meets its contract: its arrays have room for the clauses. Assumes nothing.
+-- `dimacs_arrays::tiny_clauses` meets its contract: its arrays have room for the clauses. Assumes nothing.
 use borrow.Author.Needs.{needs}
 use Rattle.dimacs_lines.specs.Laws.ParsedAs.{tinyClauses}
 use Rattle.dimacs_lines.specs.Laws.ParsedLaws.{blank-room}
-use Rattle.dimacs_lines.proofs.tiny_clauses.Statement.{statement}
-use Rattle.dimacs_lines.proofs.tiny_clauses.Tie as tie
+use Rattle.dimacs_arrays.proofs.tiny_clauses.Statement.{statement}
+use Rattle.dimacs_arrays.proofs.tiny_clauses.Tie as tie
 
 collect-requires : tie.Need-collect-requires
 collect-requires c κs = (c .before .before .before .before .before .before .before .before .before .pre .0, blank-room _ tinyClauses (c .before .before .before .before .before .before .before .before .before .pre .1))

@@ -1,17 +1,17 @@
--- `dimacs_lines::large_clauses` meets its contract: arrays for the count. The slices have room for C clauses, so it never
+-- `dimacs_arrays::large_clauses` meets its contract: arrays for the count. The slices have room for C clauses, so it never
 -- calls itself, and any measure will do. Assumes nothing.
 use Prim.Native.Nat.{ℕ, _<_}
 use borrow.Author.Needs.{needs}
 use borrow.Fn.Kinds.{In}
 use borrow.Fn.PlainCycle.{Measures, is, falls, and}
 use Rattle.dimacs_lines.specs.Laws.ParsedLaws.{never-short}
-use Rattle.dimacs_lines.proofs.large_clauses.Reads as large-clauses
-use Rattle.dimacs_lines.proofs.large_clauses.Kinds as large-clauses-kinds
-use Rattle.dimacs_lines.proofs.many_clauses.Reads as many-clauses
-use Rattle.dimacs_lines.proofs.some_clauses.Reads as some-clauses
-use Rattle.dimacs_lines.proofs.+large_clauses.Lts-large_clauses as lts
-use Rattle.dimacs_lines.proofs.+large_clauses.{statement}
-use Rattle.dimacs_lines.proofs.+large_clauses.Tie.{close}
+use Rattle.dimacs_arrays.proofs.large_clauses.Reads as large-clauses
+use Rattle.dimacs_arrays.proofs.large_clauses.Kinds as large-clauses-kinds
+use Rattle.dimacs_arrays.proofs.many_clauses.Reads as many-clauses
+use Rattle.dimacs_arrays.proofs.some_clauses.Reads as some-clauses
+use Rattle.dimacs_arrays.proofs.+large_clauses.Lts-large_clauses as lts
+use Rattle.dimacs_arrays.proofs.+large_clauses.{statement}
+use Rattle.dimacs_arrays.proofs.+large_clauses.Tie.{close}
 
 abbrev μ-large-clauses : Measures 4 large-clauses-kinds.ps ℕ
 μ-large-clauses κs a = 0

@@ -1,8 +1,8 @@
--- `dimacs_lines::by_count` meets its contract: each array has room for as many clauses as are collected in it. Assumes
+-- `dimacs_arrays::by_count` meets its contract: each array has room for as many clauses as are collected in it. Assumes
 -- nothing.
 use borrow.Author.Needs.{needs}
-use Rattle.dimacs_lines.proofs.by_count.Statement.{statement}
-use Rattle.dimacs_lines.proofs.by_count.Tie as tie
+use Rattle.dimacs_arrays.proofs.by_count.Statement.{statement}
+use Rattle.dimacs_arrays.proofs.by_count.Tie as tie
 
 tiny-clauses-requires : tie.Need-tiny-clauses-requires
 tiny-clauses-requires c κs = search needs

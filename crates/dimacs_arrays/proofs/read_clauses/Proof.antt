@@ -1,8 +1,8 @@
--- `dimacs_lines::read_clauses` meets its contract. Assumes nothing.
+-- `dimacs_arrays::read_clauses` meets its contract. Assumes nothing.
 use borrow.Author.Needs.{needs}
 use Rattle.dimacs_lines.specs.Laws.ParsedLaws.{answers-as}
-use Rattle.dimacs_lines.proofs.read_clauses.Statement.{statement}
-use Rattle.dimacs_lines.proofs.read_clauses.Tie as tie
+use Rattle.dimacs_arrays.proofs.read_clauses.Statement.{statement}
+use Rattle.dimacs_arrays.proofs.read_clauses.Tie as tie
 
 by-count-requires : tie.Need-by-count-requires
 by-count-requires c κs = c .before .before .before .before .before .before .before .pre
