@@ -1,8 +1,8 @@
 // What a file can cost whoever checks it, and a sheet whoever searches: each ordinary case beside the worst that was
 // found, in one run, for the library and for the baseline. The index takes a tree by a hash of the point and goes down
 // by its lowest digits, so hostile points have the hash of one of a few trees and the same 30 lowest digits; a hostile
-// sheet repeats one clause, or has clauses that are all guessed in a few trees. Prints a table; 'times' says how many
-// times the ordinary time the hostile one is.
+// sheet repeats one clause, or has clauses of two hashes, which stand in two trees of guesses whatever is made of a hash.
+// Prints a table; 'times' says how many times the ordinary time the hostile one is.
 mod baseline;
 mod beside;
 mod clock;
@@ -24,18 +24,24 @@ const TOP: u64 = 1 << 63;
 const FIRST: u64 = 1 << 61;
 const SECOND: u64 = 1 << 62;
 
-// How many heads the checker's index of so many points has, and the guesses of 4,096 clauses.
+// How many heads the checker's index of so many points has.
 const HEADS: u64 = 131072;
-const GUESSES: u64 = 8192;
 
-// The tree of a point, or of a clause of positive literals, among so many, as crates/point_index and
-// crates/permutation_symmetry have it.
-fn head(x: u64, heads: u64) -> u64 {
-    ((x % (1 << 32)) * 1640531527 + (x >> 32) * 1779033703) % (1 << 32) * heads >> 32
+// The factors of a hash, of the lower and of the higher half, as crates/point_index has them.
+const LOW: u32 = 1640531527;
+const HIGH: u32 = 1779033703;
+
+// The tree of a point.
+fn tree(x: u64) -> usize {
+    let hash = (x as u32).wrapping_mul(LOW).wrapping_add(((x >> 32) as u32).wrapping_mul(HIGH));
+    (u64::from(hash) * HEADS >> 32) as usize
 }
 
-fn tree(x: u64) -> usize {
-    head(x, HEADS) as usize
+// The point with this lower half that has the hash.
+fn completed(low: u32, hash: u32) -> u64 {
+    let inverse = (0..5).fold(1u32, |i, _| i.wrapping_mul(2u32.wrapping_sub(HIGH.wrapping_mul(i))));
+    let high = hash.wrapping_sub(low.wrapping_mul(LOW)).wrapping_mul(inverse);
+    u64::from(high) << 32 | u64::from(low)
 }
 
 // Half as many points as a file holds, at random.
@@ -97,11 +103,11 @@ fn repeated() -> Vec<(u64, u64)> {
 }
 
 // Clauses of variable 1 or 2 and others, as the permutations exchange them: at random, or such that those of variable 1
-// share a tree of guesses, and so, nearly, do those of variable 2.
+// have one hash, and so those of variable 2.
 fn paired(crowded: bool) -> Vec<(u64, u64)> {
-    let fits = |others: &u64| !crowded || head(others | TOP | 1, GUESSES) == 17;
-    let others = files::random(88172645463325252).map(|x| x % TOP & !3).filter(fits).take(2048);
-    others.flat_map(|x| [(x | 1, 0), (x | 2, 0)]).collect()
+    let with_first = |x: u64| if crowded { completed(x as u32 & !2 | 1, 17) } else { x | TOP };
+    let all = files::random(88172645463325252).map(with_first).filter(|x| x & TOP != 0).take(2048);
+    all.map(|x| x & !TOP & !3).flat_map(|x| [(x | 1, 0), (x | 2, 0)]).collect()
 }
 
 // The clauses of a cube of 16 variables, the lowest or the highest of 64, with 16 permutations that move nothing, so
@@ -173,7 +179,7 @@ fn main() {
     row("check, the same sheet", checked(&distinct, refused), checked(&repeated, refused));
     let (spread, crowded) = (kept(&paired(false), 0), kept(&paired(true), 0));
     row(
-        "search, 4,096 clauses guessed in a few trees, 16 permutations",
+        "search, 4,096 clauses of two hashes, 16 permutations",
         searched(&spread.0, satisfied),
         searched(&crowded.0, satisfied),
     );
