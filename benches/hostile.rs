@@ -1,8 +1,8 @@
 // What a file can cost whoever checks it, and a sheet whoever searches: each ordinary case beside the worst that was
 // found, in one run, for the library and for the baseline. The index takes a tree by a hash of the point and goes down
 // by its lowest digits, so hostile points have the hash of one of a few trees and the same 30 lowest digits; a hostile
-// sheet repeats one clause, or has clauses of two hashes, which stand in two trees of guesses whatever is made of a hash.
-// Prints a table; 'times' says how many times the ordinary time the hostile one is.
+// sheet repeats one clause, or has clauses of two hashes, which stand in two trees of guesses whatever is made of a
+// hash. Prints a table; 'times' says how many times the ordinary time the hostile one is.
 mod baseline;
 mod beside;
 mod clock;

@@ -3,8 +3,8 @@
 and the claim cite, and all that these import. Prints the list with line counts. Exit status 1 if the list reaches a
 law (a module below specs/Laws, or a declaration that is no definition), if an entry point has a `requires`, if a
 public function without `requires` has a contract of its crate's specs/Contract and README's table does not list it
-(one with a `requires` is for callers in Rattle), if a module of
-definitions stands in specs/ though nothing reads it, or if README has another figure.
+(one with a `requires` is for callers in Rattle), if a module of definitions stands in specs/ though nothing reads it,
+or if README has another figure.
 
 The entry points are those of README's table, and every exported function (`#[no_mangle]`)."""
 import glob

@@ -124,8 +124,9 @@ fn put_parse(reply: &mut [u64], r: Parse) -> bool
     }
 }
 
-// Writes the words of the reader's answer and, where the text is read, the formula of the numbers and of the images that
-// are held. D1.2: "after a refusal each lent slice holds what it held before". The callers see to the room for all of it.
+// Writes the words of the reader's answer and, where the text is read, the formula of the numbers and of the images
+// that are held. D1.2: "after a refusal each lent slice holds what it held before". The callers see to the room for all
+// of it.
 pub fn put_parsed(
     numbers: &mut [u64],
     images: &mut [u8],

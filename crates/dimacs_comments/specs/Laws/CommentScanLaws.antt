@@ -241,20 +241,21 @@ module _ (n : ℕ) (bytes : List ℕ) (at from : ℕ) (run : Stretch (belongs Bl
         → Spoiled n (numbersFrom bytes at)
     digits-malformed read e = bad-word (plain-malformed (subst (DigitsRead bytes false from) e read .1))
 
-    module _ {r : WordAnswer} (b : Bool) (v : ℕ) (c : Cursor) (read : DigitsRead bytes false from r) (is : r ≡ Read b v c)
-      where
-        digits : DigitsAt bytes false from (c .at) (signed b v)
-        digits = subst (DigitsRead bytes false from) is read
+    module _ {r : WordAnswer} (b : Bool) (v : ℕ) (c : Cursor) (read : DigitsRead bytes false from r)
+        (is : r ≡ Read b v c) where
+      digits : DigitsAt bytes false from (c .at) (signed b v)
+      digits = subst (DigitsRead bytes false from) is read
 
-        pub digits-over : c .at < length bytes → endsLine (getD bytes (c .at) 0) ≡ true → Spoiled n (numbersFrom bytes at)
-        digits-over lt e = bad-word (plain-spoilt digits lt e)
+      pub digits-over : c .at < length bytes → endsLine (getD bytes (c .at) 0) ≡ true
+          → Spoiled n (numbersFrom bytes at)
+      digits-over lt e = bad-word (plain-spoilt digits lt e)
 
-        module _ (ends : c .at < length bytes → endsLine (getD bytes (c .at) 0) ≡ false) where
-          pub digits-above : n < v → Spoiled n (numbersFrom bytes at)
-          digits-above h = image-above (c .at) (plain-word digits ends) inside v (plain-number b v digits) h
+      module _ (ends : c .at < length bytes → endsLine (getD bytes (c .at) 0) ≡ false) where
+        pub digits-above : n < v → Spoiled n (numbersFrom bytes at)
+        digits-above h = image-above (c .at) (plain-word digits ends) inside v (plain-number b v digits) h
 
-          pub digits-next : v ≤ n → Imaging n bytes at (Variable v c)
-          digits-next h = image-next (c .at) (plain-word digits ends) inside v (plain-number b v digits) h
+        pub digits-next : v ≤ n → Imaging n bytes at (Variable v c)
+        digits-next h = image-next (c .at) (plain-word digits ends) inside v (plain-number b v digits) h
 
 -- ---- the loop over the numbers
 

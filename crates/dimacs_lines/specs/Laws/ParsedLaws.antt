@@ -37,7 +37,8 @@ use Rattle.dimacs_comments.specs.Laws.CommentScans.{wantedOf}
 use Rattle.dimacs_comments.specs.Laws.HandlerScans.{KeptImages}
 use Rattle.dimacs_comments.specs.Laws.HandlerLaws.{images-take}
 use Rattle.dimacs_lines.specs.Laws.LineScans.{nothingSaid, progressFrom, Standing, LinesRead}
-use Rattle.dimacs_lines.specs.Laws.ParsedAs.{refusedWith, toldRefused, parsedWith, parsedIn, noImages, Limited, HasRoom}
+use Rattle.dimacs_lines.specs.Laws.ParsedAs.{refusedWith, toldRefused, parsedWith, parsedIn, noImages}
+use Rattle.dimacs_lines.specs.Laws.ParsedAs.{Limited, HasRoom}
 use Rattle.dimacs_lines.specs.Laws.ParsedAs.{ParsedAs, Accepting}
 
 -- ---- the formula

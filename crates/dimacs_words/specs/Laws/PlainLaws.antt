@@ -1,6 +1,6 @@
--- A number without sign in a line: `read_digits` ends a word at byte 10 as well, which a line cut from its text does not
--- have; where one stands all the same, the word goes on and is no number. Assumes nothing.
-use mathlib.Core.Bool.{Bool, true, false, not, cond, _&&_, _||_, and-false}
+-- A number without sign in a line: `read_digits` ends a word at byte 10 as well, which a line cut from its text does
+-- not have; where one stands all the same, the word goes on and is no number. Assumes nothing.
+use mathlib.Core.Bool.{Bool, true, false, not, _&&_, _||_, and-false}
 use mathlib.Core.List.{List}
 use mathlib.Core.Option.{Option, some, none}
 use mathlib.Core.Path.{_≡_, refl, sym, ap, _∙_}
@@ -14,7 +14,7 @@ use borrow.Author.Tests.{eqb-true}
 use Rattle.math.specs.Laws.ListLaws.{not-all, getD-in}
 use Rattle.math.specs.Lists.{_∈_}
 use Rattle.dimacs_words.specs.declared.Class.the-variants.{Word}
-use Rattle.dimacs_format.specs.Text.{isBlank, endsLine, isDigit, isNumber, numberIn, decimal, unsigned}
+use Rattle.dimacs_format.specs.Text.{isBlank, endsLine, isDigit, isNumber, numberIn, unsigned}
 use Rattle.dimacs_format.specs.Text.{Token, literal, close, malformed, pos, neg}
 use Rattle.dimacs_words.specs.Laws.Scans.{belongs, endsWord, inWord, Stretch, signed, DigitsAt}
 use Rattle.dimacs_words.specs.Laws.ScanLaws.{run-exists, run-goes-on}
