@@ -18,7 +18,7 @@ ghost use Rattle.points.specs.Points.{pointDigits};
 ghost use Rattle.formula.specs.Limits.{maxVariables};
 ghost use Rattle.dimacs_format.specs.Reader.{targetIn};
 ghost use Rattle.dimacs_comments.specs.Laws.CommentScans.{wantedOf, noTarget, withDigit, binaryIn, Imaging};
-ghost use Rattle.dimacs_comments.specs.Laws.CommentScans.{Storing};
+ghost use Rattle.dimacs_comments.specs.Laws.CommentScans.{imageMade, Storing};
 ghost use Rattle.dimacs_comments.specs.Laws.CommentScans.{Permuting};
 ghost use Rattle.dimacs_comments.specs.Laws.HandlerScans.{TargetRead, PermutationRead, KeptImages};
 
@@ -97,6 +97,19 @@ pub fn read_target(bytes: &[u8], n: u32) -> Wanted
     target_digits(bytes, n)
 }
 
+// The number of a variable with the place where the next one is looked for, unless it is above n.
+fn image_made(n: u32, value: u32, at: usize) -> Image
+    ensures { λ r. ⌜ r ≡ imageMade n value at ⌝ }
+{
+    if n < value {
+        return Image::Malformed;
+    }
+    Image::Variable {
+        value,
+        next: Cursor { at },
+    }
+}
+
 // S19: "numbers from 1 to n without sign, one to four digits each, .. parted and followed only by blanks": the next
 // one, but that it may be 0, which the permutation test finds. A byte 10, which no line has, would not end its word. The
 // loop over the numbers stands within the bytes.
@@ -119,19 +132,19 @@ fn next_image(bytes: &[u8], cursor: Cursor, n: u32) -> Image
         return Image::Malformed;
     };
     let to = next.at;
-    if to < bytes.len() {
-        if bytes[to] == 10 {
-            return Image::Malformed;
-        }
+    if bytes.len() <= to {
+        return image_made(n, value, to);
     }
-    if n < value {
+    if bytes[to] == 10 {
         return Image::Malformed;
     }
-    Image::Variable { value, next }
+    // the blank that ends the word need not be looked at again
+    let behind = to + 1;
+    image_made(n, value, behind)
 }
 
 // The numbers of a permutation line, into a part of n bytes; whether they are n numbers. A byte of the line is visited
-// at most twice, once more where a word begins or ends.
+// once, the first of a word twice.
 fn store_numbers(bytes: &[u8], n: u32, part: &mut [u8]) -> bool
     requires { ⌜ (n ≤ maxVariables) × (length (now part) ≡ n) ⌝ }
     ensures { λ r. ⌜ Storing n (now (bytes .entry)) (now (part .exit)) r ⌝ }

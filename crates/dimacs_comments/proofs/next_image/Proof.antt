@@ -1,12 +1,9 @@
 -- `dimacs_comments::next_image` meets its contract: one law for each way out. Assumes nothing.
-use mathlib.Core.Logic.{⊎-elim}
-use Prim.Native.Nat.{_<_}
-use native.Mathlib.Omega.{arith}
 use borrow.Author.Needs.{needs}
 use borrow.Author.Tests.{eq-eqb, ne-eqb}
 use Rattle.dimacs_format.specs.Text.{endsLine}
-use Rattle.dimacs_comments.specs.Laws.CommentScanLaws.{images-end, digits-malformed, digits-over, digits-above}
-use Rattle.dimacs_comments.specs.Laws.CommentScanLaws.{digits-next}
+use Rattle.dimacs_comments.specs.Laws.CommentScanLaws.{images-end, digits-malformed, digits-over, digits-last}
+use Rattle.dimacs_comments.specs.Laws.CommentScanLaws.{digits-parted}
 use Rattle.dimacs_comments.proofs.next_image.Statement.{statement}
 use Rattle.dimacs_comments.proofs.next_image.Tie as tie
 
@@ -24,21 +21,18 @@ returns-2 c =
     digits-malformed (c .before .before .before .before .before .before .args .n) (c .before .before .before .before .before .before .args .bytes .now) _ _ (c .before .before .before .before .run-end .ensures) (c .before .before .before .if1 .left) (c .before .before .read-digits .ensures) (c .enum-told .given .1)
 
 returns-3 : tie.Need-returns-3
-unfolding endsLine
 returns-3 c =
-    digits-over (c .before .before .before .before .before .before .before .before .before .before .args .n) (c .before .before .before .before .before .before .before .before .before .before .args .bytes .now) _ _ (c .before .before .before .before .before .before .before .before .run-end .ensures) (c .before .before .before .before .before .before .before .if1 .left) _ _ _ (c .before .before .before .before .before .before .read-digits .ensures) (c .before .before .before .before .word .given .1) (c .before .before .if2 .taken) (eq-eqb _ _ (c .if3 .taken))
+    digits-last (c .before .before .before .before .before .before .before .before .before .args .n) (c .before .before .before .before .before .before .before .before .before .args .bytes .now) _ _ (c .before .before .before .before .before .before .before .run-end .ensures) (c .before .before .before .before .before .before .if1 .left) _ _ _ (c .before .before .before .before .before .read-digits .ensures) (c .before .before .before .word .given .1) (c .before .if2 .taken) (c .image-made .ensures)
 
 returns-4 : tie.Need-returns-4
 unfolding endsLine
 returns-4 c =
-    digits-above (c .before .before .before .before .before .before .before .before .before .args .n) (c .before .before .before .before .before .before .before .before .before .args .bytes .now) _ _ (c .before .before .before .before .before .before .before .run-end .ensures) (c .before .before .before .before .before .before .if1 .left) _ _ _ (c .before .before .before .before .before .read-digits .ensures) (c .before .before .before .word .given .1)
-    (λ lt. ⊎-elim (λ w. ne-eqb _ _ (w .2 .left)) (λ w. absurd (let z : ⊥ = omega (arith, lt, w .left) in z)) (c .before .if2 .came)) (c .if4 .taken)
+    digits-over (c .before .before .before .before .before .before .before .before .before .before .args .n) (c .before .before .before .before .before .before .before .before .before .before .args .bytes .now) _ _ (c .before .before .before .before .before .before .before .before .run-end .ensures) (c .before .before .before .before .before .before .before .if1 .left) _ _ _ (c .before .before .before .before .before .before .read-digits .ensures) (c .before .before .before .before .word .given .1) (c .before .before .if2 .left) (eq-eqb _ _ (c .if3 .taken))
 
 returns-5 : tie.Need-returns-5
 unfolding endsLine
 returns-5 c =
-    digits-next (c .before .before .before .before .before .before .before .before .before .args .n) (c .before .before .before .before .before .before .before .before .before .args .bytes .now) _ _ (c .before .before .before .before .before .before .before .run-end .ensures) (c .before .before .before .before .before .before .if1 .left) _ _ _ (c .before .before .before .before .before .read-digits .ensures) (c .before .before .before .word .given .1)
-    (λ lt. ⊎-elim (λ w. ne-eqb _ _ (w .2 .left)) (λ w. absurd (let z : ⊥ = omega (arith, lt, w .left) in z)) (c .before .if2 .came)) (c .if4 .left)
+    digits-parted (c .before .before .before .before .before .before .before .before .before .before .before .args .n) (c .before .before .before .before .before .before .before .before .before .before .before .args .bytes .now) _ _ (c .before .before .before .before .before .before .before .before .before .run-end .ensures) (c .before .before .before .before .before .before .before .before .if1 .left) _ _ _ (c .before .before .before .before .before .before .before .read-digits .ensures) (c .before .before .before .before .before .word .given .1) (c .before .before .before .if2 .left) (ne-eqb _ _ (c .before .if3 .left)) (c .image-made2 .ensures)
 
 pub next-image-spec : {M : Type 1} → statement M
 next-image-spec =
@@ -50,7 +44,10 @@ next-image-spec =
     (λ c. search needs)
     (λ c. search needs)
     returns-2
-    (λ c. search needs)
+    (λ c κs. search needs)
     returns-3
+    (λ c. search needs)
     returns-4
+    (λ c. search needs)
+    (λ c κs. search needs)
     returns-5)

@@ -5,16 +5,16 @@ use mathlib.Core.Logic.{_⊎_, inl, inr, ⊎-elim}
 use mathlib.Core.Option.{Option, some, none}
 use mathlib.Core.Path.{_≡_, refl, sym, ap, ap₂, _∙_, subst}
 use Prim.Native.Nat.{ℕ, zero, suc, _+_, _-_, _*_, _^_, _≤_, _<_, zero-le}
-use native.Mathlib.Nat.{add-sub-cancel-left, le-of-eq, le-trans, zero-add, add-zero, one-mul, mul-zero, mul-add}
+use native.Mathlib.Nat.{add-sub-cancel-left, le-of-eq, le-refl, le-trans, zero-add, add-zero, one-mul, mul-zero, mul-add}
 use native.Mathlib.Nat.{zero-mul, mul-comm, mul-assoc, pow-suc}
 use native.Mathlib.Numerals.{add-one}
 use native.Mathlib.Decide.{ℕ-discrete}
 use native.Mathlib.Omega.{arith}
 use lib.Bits.{bitOr, or-shifted-r}
-use lib.Dec.{eqb, leb}
+use lib.Dec.{eqb, leb, ltb}
 use lib.ListN.{length, getD, take, drop, set, length-append, length-drop, length-set, drop-of-length-le}
 use lib.Seq.{getD-take, getD-drop, take-all, take-suc-set, length-take-le, append-snoc, take-at, drop-at, drop-drop}
-use borrow.Author.Tests.{le-leb, lt-leb, eq-eqb, ne-eqb, eqb-true, eqb-false}
+use borrow.Author.Tests.{le-leb, lt-leb, eq-eqb, ne-eqb, eqb-true, eqb-false, ltb-true, ltb-false, not-false}
 use Rattle.math.specs.Laws.ListLaws.{not-true-false, not-all, getD-in}
 use Rattle.math.specs.Lists.{_∈_, all}
 use Rattle.permutation_theory.specs.Laws.PermutationLaws.{isPermutation-sound, permutation-within}
@@ -33,9 +33,10 @@ use Rattle.dimacs_format.specs.Reader.{isBinary, binary, targetIn, beginsWord, 
 use Rattle.dimacs_format.specs.Reader.{permutationIn}
 use Rattle.dimacs_words.specs.Laws.Scans.{belongs, Stretch, WordAt, signed, DigitsAt, DigitsRead}
 use Rattle.dimacs_words.specs.Laws.PlainLaws.{plain-word, plain-spoilt, plain-number, plain-malformed}
-use Rattle.dimacs_words.specs.Laws.ScanLaws.{here-on, part-end, run-all, words-skip, words-end, word-at, blanks-stop}
+use Rattle.dimacs_words.specs.Laws.ScanLaws.{here-on, part-end, run-all, word-skip, words-skip, words-end, word-at}
+use Rattle.dimacs_words.specs.Laws.ScanLaws.{blanks-stop}
 use Rattle.dimacs_comments.specs.Laws.CommentScans.{withDigit, binaryIn, prepended, numbersFrom, Spoiled, Imaging}
-use Rattle.dimacs_comments.specs.Laws.CommentScans.{Storing}
+use Rattle.dimacs_comments.specs.Laws.CommentScans.{imageMade, Storing}
 use Rattle.dimacs_comments.specs.Laws.CommentScans.{Collecting, Permuting}
 
 -- ---- the target line
@@ -197,6 +198,11 @@ spoiled-size n vs ne = rw (ne-eqb (length vs) n ne)
 
 -- ---- the next number of a permutation line, where the blanks end at `from`
 
+-- what ends a word of a line is a blank
+word-ended : (b : ℕ) → belongs Word b ≡ false → isBlank b ≡ true
+unfolding belongs
+word-ended b e = not-false (isBlank b) e
+
 module _ (n : ℕ) (bytes : List ℕ) (at from : ℕ) (run : Stretch (belongs Blank) bytes at from) where
   skipped : numbersFrom bytes at ≡ numbersFrom bytes from
   skipped = ap (λ l. numbersIn (spelled l)) (words-skip bytes 0 run)
@@ -250,12 +256,33 @@ module _ (n : ℕ) (bytes : List ℕ) (at from : ℕ) (run : Stretch (belongs Bl
           → Spoiled n (numbersFrom bytes at)
       digits-over lt e = bad-word (plain-spoilt digits lt e)
 
-      module _ (ends : c .at < length bytes → endsLine (getD bytes (c .at) 0) ≡ false) where
-        pub digits-above : n < v → Spoiled n (numbersFrom bytes at)
-        digits-above h = image-above (c .at) (plain-word digits ends) inside v (plain-number b v digits) h
+      -- the number is taken, and the next is looked for behind nothing but blanks
+      taken : (c .at < length bytes → endsLine (getD bytes (c .at) 0) ≡ false) → {next : ℕ} → c .at ≤ next
+          → next ≤ length bytes → numbersFrom bytes (c .at) ≡ numbersFrom bytes next
+          → Imaging n bytes at (imageMade n v next)
+      taken ends {next} later within same = by (ltb n v) refl
+        where
+          by : (b : Bool) → ltb n v ≡ b → Imaging n bytes at (cond b Other (Variable v (record { at = next })))
+          by true t = image-above (c .at) (plain-word digits ends) inside v (plain-number b v digits) (ltb-true n v t)
+          by false t =
+              let i = image-next (c .at) (plain-word digits ends) inside v (plain-number b v digits) (ltb-false n v t) in
+              let past = i .0 in
+              (omega arith, within, i .2, i .3 ∙ ap (bothNumbers (some v)) same)
 
-        pub digits-next : v ≤ n → Imaging n bytes at (Variable v c)
-        digits-next h = image-next (c .at) (plain-word digits ends) inside v (plain-number b v digits) h
+      -- at the end of the bytes
+      pub digits-last : length bytes ≤ c .at → {i : Image} → i ≡ imageMade n v (c .at) → Imaging n bytes at i
+      digits-last past e =
+          subst (Imaging n bytes at) (sym e)
+          (taken (λ lt. absurd (let z : ⊥ = omega arith in z)) (le-refl (c .at)) (digits .run .within) refl)
+
+      -- before a blank
+      pub digits-parted : c .at < length bytes → endsLine (getD bytes (c .at) 0) ≡ false → {i : Image}
+          → i ≡ imageMade n v (c .at + 1) → Imaging n bytes at i
+      digits-parted lt plain e =
+          subst (Imaging n bytes at) (sym e)
+          (taken (λ _. plain) (omega arith) (omega arith)
+          (ap (λ l. numbersIn (spelled l)) (word-skip bytes 0 (c .at) lt
+          (word-ended (getD bytes (c .at) 0) (plain-word digits (λ _. plain) .stops lt)))))
 
 -- ---- the loop over the numbers
 

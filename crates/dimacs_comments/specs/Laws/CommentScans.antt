@@ -5,6 +5,7 @@ use mathlib.Core.Option.{Option, some, none}
 use mathlib.Core.Path.{_≡_}
 use Prim.Native.Nat.{ℕ, _+_, _^_, _≤_, _<_}
 use lib.Bits.{bitOr}
+use lib.Dec.{ltb}
 use lib.ListN.{length, take, drop}
 use Rattle.math.specs.Lists.{all}
 use Rattle.formula.specs.Limits.{maxVariables}
@@ -53,6 +54,10 @@ Imaging n bytes at End = numbersFrom bytes at ≡ some []
 Imaging n bytes at (Variable v c) = (at < c .at) × (c .at ≤ length bytes) × (v ≤ n)
     × (numbersFrom bytes at ≡ bothNumbers (some v) (numbersFrom bytes (c .at)))
 Imaging n bytes at Malformed = Spoiled n (numbersFrom bytes at)
+
+-- a number with the place where the next is looked for, unless it is above n
+abbrev pub imageMade : ℕ → ℕ → ℕ → Image
+imageMade n v at = cond (ltb n v) Malformed (Variable v (record { at = at }))
 
 -- the part holds the numbers of all words, or no permutation comes of these
 abbrev pub Storing : ℕ → List ℕ → List ℕ → Bool → Type 0
