@@ -4,6 +4,7 @@ use certificate::bodies::points_into;
 use check_distinct::FEW_POINTS;
 use check_distinct::MANY_POINTS;
 use check_distinct::MOST_POINTS;
+use check_distinct::TINY_POINTS;
 use check_distinct::points_refusal;
 use check_falsified::numbers_refusal;
 use check_flips::flips_refusal;
@@ -17,7 +18,7 @@ ghost use Rattle.point_slices.specs.Slices.{pointsOf};
 ghost use Rattle.permutation_theory.specs.Permutations.{permutationsIn};
 ghost use Rattle.formula.specs.Limits.{maxSlots};
 ghost use Rattle.formula.specs.Refusals.{faultOf};
-ghost use Rattle.check_distinct.specs.Laws.Indexing.{fewPoints, manyPoints};
+ghost use Rattle.check_distinct.specs.Laws.Indexing.{tinyPoints, fewPoints, manyPoints};
 ghost use Rattle.check_entries.specs.Laws.Entries.{listsFault, entriesFault, Ready, Decodable, Lent};
 
 // N8: the tests of the first `count` points and numbers of two slices, in their order. The first leaves an index of the
@@ -84,10 +85,10 @@ fn copied_refusal(
     lists_refusal(g, images, positive, negative, held, named, links, count)
 }
 
-// The same of at most `FEW_POINTS` entries, copied to local arrays: 24 KiB of the stack.
-fn few_refusal(
-    n: u32,
-    permutations: u32,
+// The same of at most `TINY_POINTS` entries, copied to local arrays: 1.5 KiB of the stack. The index has heads of its
+// own, whatever `g` says.
+fn tiny_refusal(
+    g: Lookup,
     images: &[u8],
     positive: &[u64],
     negative: &[u64],
@@ -95,22 +96,60 @@ fn few_refusal(
     falsified: &[u8],
     count: usize,
 ) -> Checked
-    requires { ⌜ Decodable n permutations (now images) (lentClauses (now positive) (now negative)) (now points)
-        (now falsified) count fewPoints ⌝ }
-    ensures { λ r. ⌜ faultOf r ≡ entriesFault n permutations (now (images .entry))
+    requires { ⌜ Decodable (g .variables) (g .permutations) (now images) (lentClauses (now positive) (now negative))
+        (now points) (now falsified) count tinyPoints ⌝ }
+    ensures { λ r. ⌜ faultOf r ≡ entriesFault (g .variables) (g .permutations) (now (images .entry))
         (lentClauses (now (positive .entry)) (now (negative .entry))) (now (points .entry))
         (now (falsified .entry)) count ⌝ }
 {
-    let g = Lookup {
-        variables: n,
-        permutations,
+    let headed = Lookup {
+        variables: g.variables,
+        permutations: g.permutations,
+        heads: TINY_POINTS,
+    };
+    let mut held = [0u64; TINY_POINTS];
+    let mut named = [0u32; TINY_POINTS];
+    let mut links = [0u32; 3 * TINY_POINTS];
+    copied_refusal(
+        headed,
+        images,
+        positive,
+        negative,
+        points,
+        falsified,
+        &mut held,
+        &mut named,
+        &mut links,
+        count,
+    )
+}
+
+// The same of at most `FEW_POINTS` entries: 24 KiB of the stack.
+fn few_refusal(
+    g: Lookup,
+    images: &[u8],
+    positive: &[u64],
+    negative: &[u64],
+    points: &[u8],
+    falsified: &[u8],
+    count: usize,
+) -> Checked
+    requires { ⌜ Decodable (g .variables) (g .permutations) (now images) (lentClauses (now positive) (now negative))
+        (now points) (now falsified) count fewPoints ⌝ }
+    ensures { λ r. ⌜ faultOf r ≡ entriesFault (g .variables) (g .permutations) (now (images .entry))
+        (lentClauses (now (positive .entry)) (now (negative .entry))) (now (points .entry))
+        (now (falsified .entry)) count ⌝ }
+{
+    let headed = Lookup {
+        variables: g.variables,
+        permutations: g.permutations,
         heads: FEW_POINTS,
     };
     let mut held = [0u64; FEW_POINTS];
     let mut named = [0u32; FEW_POINTS];
     let mut links = [0u32; 3 * FEW_POINTS];
     copied_refusal(
-        g,
+        headed,
         images,
         positive,
         negative,
@@ -125,8 +164,7 @@ fn few_refusal(
 
 // The same of at most `MANY_POINTS` entries: 192 KiB of the stack.
 fn many_refusal(
-    n: u32,
-    permutations: u32,
+    g: Lookup,
     images: &[u8],
     positive: &[u64],
     negative: &[u64],
@@ -134,22 +172,22 @@ fn many_refusal(
     falsified: &[u8],
     count: usize,
 ) -> Checked
-    requires { ⌜ Decodable n permutations (now images) (lentClauses (now positive) (now negative)) (now points)
-        (now falsified) count manyPoints ⌝ }
-    ensures { λ r. ⌜ faultOf r ≡ entriesFault n permutations (now (images .entry))
+    requires { ⌜ Decodable (g .variables) (g .permutations) (now images) (lentClauses (now positive) (now negative))
+        (now points) (now falsified) count manyPoints ⌝ }
+    ensures { λ r. ⌜ faultOf r ≡ entriesFault (g .variables) (g .permutations) (now (images .entry))
         (lentClauses (now (positive .entry)) (now (negative .entry))) (now (points .entry))
         (now (falsified .entry)) count ⌝ }
 {
-    let g = Lookup {
-        variables: n,
-        permutations,
+    let headed = Lookup {
+        variables: g.variables,
+        permutations: g.permutations,
         heads: MANY_POINTS,
     };
     let mut held = [0u64; MANY_POINTS];
     let mut named = [0u32; MANY_POINTS];
     let mut links = [0u32; 3 * MANY_POINTS];
     copied_refusal(
-        g,
+        headed,
         images,
         positive,
         negative,
@@ -168,8 +206,7 @@ const MOST_HEADS: usize = 2 * MOST_POINTS;
 
 // The same of as many entries as there can be: 1.75 MiB of the stack.
 fn most_refusal(
-    n: u32,
-    permutations: u32,
+    g: Lookup,
     images: &[u8],
     positive: &[u64],
     negative: &[u64],
@@ -177,22 +214,22 @@ fn most_refusal(
     falsified: &[u8],
     count: usize,
 ) -> Checked
-    requires { ⌜ Decodable n permutations (now images) (lentClauses (now positive) (now negative)) (now points)
-        (now falsified) count maxSlots ⌝ }
-    ensures { λ r. ⌜ faultOf r ≡ entriesFault n permutations (now (images .entry))
+    requires { ⌜ Decodable (g .variables) (g .permutations) (now images) (lentClauses (now positive) (now negative))
+        (now points) (now falsified) count maxSlots ⌝ }
+    ensures { λ r. ⌜ faultOf r ≡ entriesFault (g .variables) (g .permutations) (now (images .entry))
         (lentClauses (now (positive .entry)) (now (negative .entry))) (now (points .entry))
         (now (falsified .entry)) count ⌝ }
 {
-    let g = Lookup {
-        variables: n,
-        permutations,
+    let headed = Lookup {
+        variables: g.variables,
+        permutations: g.permutations,
         heads: MOST_HEADS,
     };
     let mut held = [0u64; MOST_POINTS];
     let mut named = [0u32; MOST_POINTS];
     let mut links = [0u32; MOST_HEADS + 2 * MOST_POINTS];
     copied_refusal(
-        g,
+        headed,
         images,
         positive,
         negative,
@@ -209,8 +246,7 @@ fn most_refusal(
 // number takes a byte at least, so it never calls itself: a compiler keeps large arrays out of the frame of a function
 // that calls itself, so that each of the two below has its own.
 fn large_refusal(
-    n: u32,
-    permutations: u32,
+    g: Lookup,
     images: &[u8],
     positive: &[u64],
     negative: &[u64],
@@ -218,53 +254,25 @@ fn large_refusal(
     falsified: &[u8],
     count: usize,
 ) -> Checked
-    requires { ⌜ Decodable n permutations (now images) (lentClauses (now positive) (now negative)) (now points)
-        (now falsified) count maxSlots ⌝ }
-    ensures { λ r. ⌜ faultOf r ≡ entriesFault n permutations (now (images .entry))
+    requires { ⌜ Decodable (g .variables) (g .permutations) (now images) (lentClauses (now positive) (now negative))
+        (now points) (now falsified) count maxSlots ⌝ }
+    ensures { λ r. ⌜ faultOf r ≡ entriesFault (g .variables) (g .permutations) (now (images .entry))
         (lentClauses (now (positive .entry)) (now (negative .entry))) (now (points .entry))
         (now (falsified .entry)) count ⌝ }
 {
     if count <= MANY_POINTS {
-        many_refusal(
-            n,
-            permutations,
-            images,
-            positive,
-            negative,
-            points,
-            falsified,
-            count,
-        )
+        many_refusal(g, images, positive, negative, points, falsified, count)
     } else if count <= falsified.len() {
-        most_refusal(
-            n,
-            permutations,
-            images,
-            positive,
-            negative,
-            points,
-            falsified,
-            count,
-        )
+        most_refusal(g, images, positive, negative, points, falsified, count)
     } else {
-        large_refusal(
-            n,
-            permutations,
-            images,
-            positive,
-            negative,
-            points,
-            falsified,
-            count,
-        )
+        large_refusal(g, images, positive, negative, points, falsified, count)
     }
 }
 
 // The same of any number of entries. Refusals 10, 11 and 14 see to what it requires. It never calls itself, as
-// `large_refusal` does not: so the arrays for few entries stay out of its frame and out of those of its callers.
+// `large_refusal` does not: so the arrays stay out of its frame and out of those of its callers.
 pub fn decoded_refusal(
-    n: u32,
-    permutations: u32,
+    g: Lookup,
     images: &[u8],
     positive: &[u64],
     negative: &[u64],
@@ -272,44 +280,19 @@ pub fn decoded_refusal(
     falsified: &[u8],
     count: usize,
 ) -> Checked
-    requires { ⌜ Decodable n permutations (now images) (lentClauses (now positive) (now negative)) (now points)
-        (now falsified) count maxSlots ⌝ }
-    ensures { λ r. ⌜ faultOf r ≡ entriesFault n permutations (now (images .entry))
+    requires { ⌜ Decodable (g .variables) (g .permutations) (now images) (lentClauses (now positive) (now negative))
+        (now points) (now falsified) count maxSlots ⌝ }
+    ensures { λ r. ⌜ faultOf r ≡ entriesFault (g .variables) (g .permutations) (now (images .entry))
         (lentClauses (now (positive .entry)) (now (negative .entry))) (now (points .entry))
         (now (falsified .entry)) count ⌝ }
 {
-    if count <= FEW_POINTS {
-        few_refusal(
-            n,
-            permutations,
-            images,
-            positive,
-            negative,
-            points,
-            falsified,
-            count,
-        )
+    if count <= TINY_POINTS {
+        tiny_refusal(g, images, positive, negative, points, falsified, count)
+    } else if count <= FEW_POINTS {
+        few_refusal(g, images, positive, negative, points, falsified, count)
     } else if falsified.len() < count {
-        decoded_refusal(
-            n,
-            permutations,
-            images,
-            positive,
-            negative,
-            points,
-            falsified,
-            count,
-        )
+        decoded_refusal(g, images, positive, negative, points, falsified, count)
     } else {
-        large_refusal(
-            n,
-            permutations,
-            images,
-            positive,
-            negative,
-            points,
-            falsified,
-            count,
-        )
+        large_refusal(g, images, positive, negative, points, falsified, count)
     }
 }

@@ -8,6 +8,7 @@ use formula::Numbers;
 use formula::refusals::clauses_refusal;
 use formula::refusals::permutations_refusal;
 use formula::refusals::symmetry_refusal;
+use permutation_coverage::Lookup;
 ghost use mathlib.Core.List.{List};
 ghost use mathlib.Core.Path.{_≡_};
 ghost use Prim.Native.Nat.{ℕ, _≤_};
@@ -67,16 +68,13 @@ fn bodies_refusal(c: Contents, positive: &[u64], negative: &[u64], file: &[u8]) 
     let count = c.points as usize;
     let points = &file[second..third];
     let falsified = &file[third..file.len()];
-    decoded_refusal(
-        n,
+    // each index of points has heads of its own
+    let g = Lookup {
+        variables: n,
         permutations,
-        images,
-        positive,
-        negative,
-        points,
-        falsified,
-        count,
-    )
+        heads: 0,
+    };
+    decoded_refusal(g, images, positive, negative, points, falsified, count)
 }
 
 // R15: refusals 14 and 15, then those of the bodies. Refusal 10 sees to what it requires.

@@ -1,4 +1,4 @@
--- `check_entries::decoded_refusal` meets its contract: the few or the others. Its numbers have a byte at least each, so
+-- `check_entries::decoded_refusal` meets its contract: arrays for the count. Its numbers have a byte at least each, so
 -- that it never calls itself, and any measure will do. Assumes nothing.
 use Prim.Native.Nat.{ℕ, _<_}
 use borrow.Author.Needs.{needs}
@@ -9,6 +9,7 @@ use Rattle.check_entries.proofs.decoded_refusal.Reads as decoded-refusa
 use Rattle.check_entries.proofs.decoded_refusal.Kinds as decoded-refusal-kinds
 use Rattle.check_entries.proofs.few_refusal.Reads as few-refusal
 use Rattle.check_entries.proofs.large_refusal.Reads as large-refusal
+use Rattle.check_entries.proofs.tiny_refusal.Reads as tiny-refusal
 use Rattle.check_entries.proofs.+decoded_refusal.Lts-decoded_refusal as lts
 use Rattle.check_entries.proofs.+decoded_refusal.{statement}
 use Rattle.check_entries.proofs.+decoded_refusal.Tie.{close}
@@ -27,6 +28,8 @@ asked-below t =
 pub +decoded-refusal-spec : {M : Type 1} → statement M
 +decoded-refusal-spec =
     close μ-decoded-refusal λ t. lts.spec (
+      tiny-refusal.Asked,
+      tiny-refusal.Learnt,
       few-refusal.Asked,
       few-refusal.Learnt,
       asked-below t,
@@ -37,8 +40,10 @@ pub +decoded-refusal-spec : {M : Type 1} → statement M
     (given-at t)
     decoded-refusal.Post
     (λ c κs. search needs)
+    (λ c κs. search needs)
     (λ c κs. absurd (search (needs, numbers-fill)))
     (λ c κs. search needs)
+    (λ c. search needs)
     (λ c. search needs)
     (λ c. search needs)
     (λ c. search needs)
