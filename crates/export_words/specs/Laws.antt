@@ -1,3 +1,5 @@
 -- Laws, and what functions inside the library promise each other: no contract of an entry point cites any of it.
 pub mod RoomLaws
 pub mod WordLaws
+pub mod SearchingLaws
+pub mod WritingLaws

@@ -1,4 +1,7 @@
--- Formulas and answers as numbers, bytes and words.
+-- Formulas and answers as numbers, bytes and words, and what the exported search and writer return, whatever holds the
+-- slots.
 pub mod Words
 pub mod Replies
+pub mod Searching
+pub mod Writing
 pub mod Laws

@@ -1,7 +1,5 @@
 -- Laws, and what functions inside the library promise each other: no contract of an entry point cites any of it.
-pub mod SearchingLaws
 pub mod ReadingLaws
-pub mod WritingLaws
 pub mod CheckingLaws
 pub mod SolvingLaws
 pub mod PrintingLaws

@@ -11,7 +11,7 @@ use search::search_lent;
 ghost use Rattle.point_slices.specs.Slices.{clauseSlices, slotSlices};
 ghost use Rattle.export_words.specs.Words.{formulaFrom};
 ghost use Rattle.search.specs.Contract.{Searched};
-ghost use Rattle.exports.specs.Searching.{SearchReturns};
+ghost use Rattle.export_words.specs.Searching.{SearchReturns};
 
 // The search of the formula that numbers and lent images make. Where as many images are lent as a formula has, they stay
 // where they lie; else they are copied.

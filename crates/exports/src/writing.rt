@@ -11,7 +11,7 @@ use points::Depth;
 ghost use Rattle.point_slices.specs.Slices.{clauseSlices, slotSlices};
 ghost use Rattle.export_words.specs.Words.{formulaFrom};
 ghost use Rattle.certificate_writer.specs.Contract.{Wrote};
-ghost use Rattle.exports.specs.Writing.{WriteReturns};
+ghost use Rattle.export_words.specs.Writing.{WriteReturns};
 
 // The writer for the formula that numbers and lent images make. Where as many images are lent as a formula has, they
 // stay where they lie; else they are copied.

@@ -8,8 +8,8 @@ use slot_search::search_slots;
 use slot_writer::write_slots;
 ghost use Rattle.point_slices.specs.Slices.{clauseSlices};
 ghost use Rattle.slot_columns.specs.Slots.{slotsIn};
-ghost use Rattle.exports.specs.Searching.{SearchReturns};
-ghost use Rattle.exports.specs.Writing.{WriteReturns};
+ghost use Rattle.export_words.specs.Searching.{SearchReturns};
+ghost use Rattle.export_words.specs.Writing.{WriteReturns};
 ghost use Rattle.export_words.specs.Words.{formulaFrom};
 
 // The search over a slice of slots, its answer put into the first four words of `reply`. It returns 1; where `reply`

@@ -54,8 +54,8 @@ use Rattle.slot_columns.specs.declared.Slot.{Slot}
 use Rattle.point_slices.specs.Slices.{clauseSlices}
 use Rattle.slot_columns.specs.Slots.{slotsIn}
 use Rattle.slot_columns.proofs.Row.{R}
-use Rattle.exports.specs.Searching.{SearchReturns}
-use Rattle.exports.specs.Laws.SearchingLaws.{tells-nothing, tells-search}
+use Rattle.export_words.specs.Searching.{SearchReturns}
+use Rattle.export_words.specs.Laws.SearchingLaws.{tells-nothing, tells-search}
 use Rattle.slot_proofs.proofs.Lent.{at-list}
 use Rattle.slot_proofs.proofs.Called.{given-up, free-all, placed}
 use Rattle.slot_exports.proofs.FormulaMade as Made

@@ -2,7 +2,7 @@
 -- Assumes nothing.
 use mathlib.Core.Path.{refl}
 use Rattle.point_slices.specs.Slices.{clauseSlices, slotSlices}
-use Rattle.exports.specs.Laws.SearchingLaws.{tells-nothing, tells-search}
+use Rattle.export_words.specs.Laws.SearchingLaws.{tells-nothing, tells-search}
 use Rattle.exports.proofs.searching.jugbowo_search.Statement.{statement}
 use Rattle.exports.proofs.searching.jugbowo_search.Tie as tie
 

@@ -2,7 +2,7 @@
 -- Assumes nothing.
 use mathlib.Core.Path.{refl}
 use Rattle.point_slices.specs.Slices.{clauseSlices, slotSlices}
-use Rattle.exports.specs.Laws.WritingLaws.{tells-nothing, tells-writing}
+use Rattle.export_words.specs.Laws.WritingLaws.{tells-nothing, tells-writing}
 use Rattle.exports.proofs.writing.jugbowo_write.Statement.{statement}
 use Rattle.exports.proofs.writing.jugbowo_write.Tie as tie
 

@@ -11,9 +11,9 @@ use Rattle.formula.specs.declared.Formula.{Formula}
 use Rattle.formula.specs.Reply.{Reply}
 use Rattle.certificate_writer.specs.declared.Written.{Written}
 use Rattle.certificate_writer.specs.Contract.{replyOfWritten, Wrote}
 use Rattle.export_words.specs.Laws.RoomLaws.{with-room, without-room}
 use Rattle.export_words.specs.Words.{wordsOf}
-use Rattle.exports.specs.Writing.{WriteReturns}
+use Rattle.export_words.specs.Writing.{WriteReturns}
 
 -- the same formula is written the same way
 pub wrote-as : {f g : Formula} {clauses : ClauseSlices} {slots : SlotSlices} {filled : ℕ} {out out₁ : List ℕ}

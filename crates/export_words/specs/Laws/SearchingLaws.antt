@@ -11,9 +11,9 @@ use Rattle.formula.specs.declared.Formula.{Formula}
 use Rattle.formula.specs.Reply.{Reply}
 use Rattle.search.specs.declared.Found.{Found}
 use Rattle.search.specs.Contract.{replyOfFound, Searched}
-use Rattle.exports.specs.Searching.{SearchReturns}
+use Rattle.export_words.specs.Searching.{SearchReturns}
 use Rattle.export_words.specs.Laws.RoomLaws.{with-room, without-room}
 use Rattle.export_words.specs.Words.{wordsOf}
 
 -- the same formula is searched the same way
 pub searched-as : {f g : Formula} {clauses : ClauseSlices} {slots slots₁ : SlotSlices} {r : Found} → g ≡ f
