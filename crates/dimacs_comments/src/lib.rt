@@ -195,6 +195,19 @@ pub fn read_permutation(bytes: &[u8], n: u32, images: &mut [u8], at: usize) -> b
     is_permutation(n, &images[at..end])
 }
 
+// The same. The images have room at the place, so it never calls itself: the call keeps the loops over the numbers out of
+// the callers, so that these loops have the registers to themselves.
+fn read_apart(bytes: &[u8], n: u32, images: &mut [u8], at: usize) -> bool
+    requires { ⌜ (n ≤ maxVariables) × (at + n ≤ length (now images)) ⌝ }
+    ensures { λ r. ⌜ Permuting n (now (bytes .entry)) at (now (images .entry)) (now (images .exit)) r ⌝ }
+{
+    if at <= images.len() {
+        read_permutation(bytes, n, images, at)
+    } else {
+        read_apart(bytes, n, images, at)
+    }
+}
+
 // What comes of a target line: on with its target, or a refusal.
 pub struct TargetTaken {
     pub answer: Checked,
@@ -260,7 +273,7 @@ pub fn permutation_line(
         };
     }
     let at = permutations * n;
-    let fine = read_permutation(bytes, n, images, at as usize);
+    let fine = read_apart(bytes, n, images, at as usize);
     if !fine {
         return PermutationTaken {
             answer: refusal,
