@@ -24,8 +24,9 @@ ghost use Rattle.search_loop.specs.Laws.Exploring.{Explores, Concludes};
 ghost use Rattle.search_stages.specs.Laws.StageLaws.{headedBy, replyOfAnswer};
 
 // The heads of the stages' indexes: for the dozens of slots that most searches fill, for some hundreds, for thousands,
-// and for all that there can be.
-const TINY_HEADS: usize = 64;
+// and for all that there can be. A stage pauses where a step might fill more slots than it has heads, one for each
+// variable: so the first has as many heads as there can be variables, and as many again.
+const TINY_HEADS: usize = 128;
 
 const FEW_HEADS: usize = 512;
 
@@ -233,7 +234,7 @@ fn proceed(
     }
 }
 
-// W3: stores the target in the first slot and searches from there; up to 64 slots in the first stage, 768 bytes of
+// W3: stores the target in the first slot and searches from there; up to 128 slots in the first stage, 1.5 KiB of
 // links. `search::search` sees to what it requires, by refusals 10 to 13.
 pub fn start(
     g: Frame,

@@ -36,7 +36,7 @@ replyOfAnswer a = replyOfConclusion (a .point) (a .conclusion)
 
 -- the heads of the stages' indexes but for the last, which has one for each slot that can be lent
 abbrev pub tinyHeads : ℕ
-tinyHeads = 64
+tinyHeads = 128
 
 abbrev pub fewHeads : ℕ
 fewHeads = 512
