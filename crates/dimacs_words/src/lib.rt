@@ -5,7 +5,7 @@ ghost use lib.ListN.{length, getD};
 ghost use mathlib.Core.Bool.{false};
 ghost use Rattle.math.specs.Lists.{any};
 ghost use Rattle.dimacs_format.specs.Text.{endsLine, isBlank, isDigit, numberIn, begins};
-ghost use Rattle.dimacs_words.specs.Laws.Scans.{belongs, Stretch, endsWord, numberOf, wordMade};
+ghost use Rattle.dimacs_words.specs.Laws.Scans.{belongs, Stretch, Skipped, endsWord, numberOf, wordMade};
 ghost use Rattle.dimacs_words.specs.Laws.Scans.{DigitsRead, WordRead};
 
 // The runs of bytes that the reader goes along: blanks, the bytes of a word, the bytes of a line.
@@ -92,8 +92,10 @@ pub fn run_end(bytes: &[u8], from: usize, class: Class) -> usize
     i
 }
 
-// How many bytes are tested at once for the end of a line.
+// How many bytes are tested at once for the end of a line: many, and fewer where it is near.
 const BLOCK: usize = 32;
+
+const SMALL_BLOCK: usize = 16;
 
 // Whether a line ends in the bytes. One step a byte, none of them left out, so that a compiler tests many bytes at once.
 fn ends_inside(bytes: &[u8]) -> bool
@@ -108,22 +110,33 @@ fn ends_inside(bytes: &[u8]) -> bool
     found
 }
 
+// Passes blocks of so many bytes in which no line ends, up to the first in which one does or that is not whole. One step
+// a block. `line_end` sees to what it requires.
+fn skip_blocks(text: &[u8], from: usize, block: usize) -> usize
+    requires { ⌜ (from ≤ length (now text)) × (1 ≤ block) ⌝ }
+    ensures { λ r. ⌜ Skipped (now (text .entry)) from r ⌝ }
+{
+    let mut i = from;
+    while block <= text.len() - i {
+        let next = i + block;
+        let ended = ends_inside(&text[i..next]);
+        if ended {
+            return i;
+        }
+        i = next;
+    }
+    i
+}
+
 // Where the line ends that begins at `from`: one step a block without its end, then one a byte. A byte is visited at
-// most twice. Callers begin at 0, or where another line has ended within the text.
+// most three times. Callers begin at 0, or where another line has ended within the text.
 pub fn line_end(text: &[u8], from: usize) -> usize
     requires { ⌜ from ≤ length (now text) ⌝ }
     ensures { λ r. ⌜ Stretch (belongs Class.Line) (now (text .entry)) from r ⌝ }
 {
-    let mut i = from;
-    while BLOCK <= text.len() - i {
-        let next = i + BLOCK;
-        let ended = ends_inside(&text[i..next]);
-        if ended {
-            return run_end(text, i, Class::Line);
-        }
-        i = next;
-    }
-    run_end(text, i, Class::Line)
+    let far = skip_blocks(text, from, BLOCK);
+    let near = skip_blocks(text, far, SMALL_BLOCK);
+    run_end(text, near, Class::Line)
 }
 
 // S13: "one to four digits, leading zeros allowed". At most four steps.

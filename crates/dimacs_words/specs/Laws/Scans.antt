@@ -39,6 +39,12 @@ pub record Stretch (t : ℕ → Bool) (bytes : List ℕ) (from to : ℕ) : Type 
   pub passes : (k : ℕ) → from ≤ k → k < to → t (getD bytes k 0) ≡ true
   pub stops : to < length bytes → t (getD bytes to 0) ≡ false
 
+-- the line that stands at one place goes on up to another
+pub record Skipped (text : List ℕ) (from to : ℕ) : Type 0 where
+  pub ordered : from ≤ to
+  pub within : to ≤ length text
+  pub passes : (k : ℕ) → from ≤ k → k < to → belongs LineBytes (getD text k 0) ≡ true
+
 -- ---- numbers and words
 
 -- the number that an answer of the code is
