@@ -9,7 +9,7 @@ use Rattle.dimacs.specs.Laws.ReadLaws.{answers-read, text-long, text-abs
 use Rattle.dimacs.specs.Laws.ReadLaws.{problem-place}
 use Rattle.dimacs_words.specs.declared.Class.the-variants.{Line}
 use Rattle.dimacs_words.specs.Laws.Scans.{belongs, Stretch}
-use Rattle.dimacs.specs.Laws.ProblemScans.{sizingOf}
+use Rattle.dimacs_problem.specs.Laws.ProblemScans.{sizingOf}
 use Rattle.dimacs.proofs.read_lent.Statement.{statement}
 use Rattle.dimacs.proofs.read_lent.Tie as tie
 

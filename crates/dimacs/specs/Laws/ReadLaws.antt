@@ -10,15 +10,15 @@ use borrow.Author.Tests.{le-leb, lt-leb}
 use Rattle.point_slices.specs.Slices.{ClauseSlices, clauseRoom}
 use Rattle.formula.specs.Limits.{maxVariables, maxClauses}
 use Rattle.dimacs_lines.specs.declared.Parsed.{Parsed}
-use Rattle.dimacs.specs.declared.Located.{Located}
-use Rattle.dimacs.specs.declared.Located.the-variants.{Line as FoundLine, Absent}
+use Rattle.dimacs_problem.specs.declared.Located.{Located}
+use Rattle.dimacs_problem.specs.declared.Located.the-variants.{Line as FoundLine, Absent}
 use Rattle.dimacs_words.specs.declared.Class.the-variants.{Line as LineBytes}
 use Rattle.dimacs_format.specs.Reader.{refuses, Sizes, problemWords, problemIn, withinLimits, textSays, withRoom}
 use Rattle.dimacs_format.specs.Reader.{withSizes, withProblem, fromProblem, withLines, reading, readReply, readFormula}
 use Rattle.dimacs_format.specs.Reader.{readClauses}
 use Rattle.dimacs.specs.Contract.{Read}
 use Rattle.dimacs_lines.specs.Laws.ParsedAs.{ParsedAs}
-use Rattle.dimacs.specs.Laws.ProblemScans.{ProblemFound}
+use Rattle.dimacs_problem.specs.Laws.ProblemScans.{ProblemFound}
 use Rattle.dimacs_words.specs.Laws.Scans.{belongs, Stretch, linesBehind}
 use Rattle.dimacs_format.specs.Text.{maxText, Line, piece, lines, begins, problemWord}
 use Rattle.dimacs_format.specs.Laws.TextLaws.{words-bytes}

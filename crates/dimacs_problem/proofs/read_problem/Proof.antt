@@ -1,16 +1,16 @@
--- `dimacs::read_problem` meets its contract: four words, one behind the other, then blanks. Assumes nothing.
+-- `dimacs_problem::read_problem` meets its contract: four words, one behind the other, then blanks. Assumes nothing.
 use mathlib.Core.Path.{_≡_, sym, _∙_, subst}
 use mathlib.Core.Bool.{true}
 use borrow.Author.Tests.{not-true, not-false}
 use borrow.Author.Needs.{needs}
-use Rattle.dimacs.specs.Laws.ProblemScanLaws.{problem-other, problem-first, problem-second, problem-third}
-use Rattle.dimacs.specs.Laws.ProblemScanLaws.{problem-fourth, problem-fifth, problem-read}
-use Rattle.dimacs.specs.Laws.ProblemScans.{WordMatched, NumberMatched}
-use Rattle.dimacs.specs.declared.Sized.the-variants.{Number}
-use Rattle.dimacs.specs.declared.Matched.the-variants.{Behind}
+use Rattle.dimacs_problem.specs.Laws.ProblemScanLaws.{problem-other, problem-first, problem-second, problem-third}
+use Rattle.dimacs_problem.specs.Laws.ProblemScanLaws.{problem-fourth, problem-fifth, problem-read}
+use Rattle.dimacs_problem.specs.Laws.ProblemScans.{WordMatched, NumberMatched}
+use Rattle.dimacs_problem.specs.declared.Sized.the-variants.{Number}
+use Rattle.dimacs_problem.specs.declared.Matched.the-variants.{Behind}
 use Rattle.dimacs_format.specs.Text.{begins, problemWord, formatWord}
-use Rattle.dimacs.proofs.read_problem.Statement.{statement}
-use Rattle.dimacs.proofs.read_problem.Tie as tie
+use Rattle.dimacs_problem.proofs.read_problem.Statement.{statement}
+use Rattle.dimacs_problem.proofs.read_problem.Tie as tie
 
 begins-requires : tie.Need-begins-requires
 begins-requires c κs = search needs

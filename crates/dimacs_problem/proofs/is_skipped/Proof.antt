@@ -1,10 +1,10 @@
--- `dimacs::is_skipped` meets its contract: a comment, or all blanks. Assumes nothing.
+-- `dimacs_problem::is_skipped` meets its contract: a comment, or all blanks. Assumes nothing.
 use mathlib.Core.Path.{sym, _∙_}
 use borrow.Author.Needs.{needs}
-use Rattle.dimacs.specs.Laws.ProblemScanLaws.{skipped-comment, skipped-blank}
+use Rattle.dimacs_problem.specs.Laws.ProblemScanLaws.{skipped-comment, skipped-blank}
 use Rattle.dimacs_format.specs.Text.{isComment}
-use Rattle.dimacs.proofs.is_skipped.Statement.{statement}
-use Rattle.dimacs.proofs.is_skipped.Tie as tie
+use Rattle.dimacs_problem.proofs.is_skipped.Statement.{statement}
+use Rattle.dimacs_problem.proofs.is_skipped.Tie as tie
 
 begins-requires : tie.Need-begins-requires
 begins-requires c κs = search needs

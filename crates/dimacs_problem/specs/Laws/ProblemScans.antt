@@ -6,14 +6,14 @@ use mathlib.Core.Path.{_≡_}
 use Prim.Native.Nat.{ℕ, _+_, _-_, _≤_}
 use lib.ListN.{length, take, drop}
 use Rattle.dimacs_words.specs.declared.Class.the-variants.{Line as LineBytes}
-use Rattle.dimacs.specs.declared.Matched.{Matched}
-use Rattle.dimacs.specs.declared.Matched.the-variants.{Behind, Other}
-use Rattle.dimacs.specs.declared.Sized.{Sized}
-use Rattle.dimacs.specs.declared.Sized.the-variants.{Number, Other as NoNumber}
-use Rattle.dimacs.specs.declared.Sizing.{Sizing}
-use Rattle.dimacs.specs.declared.Sizing.the-variants.{Read, Malformed}
-use Rattle.dimacs.specs.declared.Located.{Located}
-use Rattle.dimacs.specs.declared.Located.the-variants.{Line as FoundLine, Absent}
+use Rattle.dimacs_problem.specs.declared.Matched.{Matched}
+use Rattle.dimacs_problem.specs.declared.Matched.the-variants.{Behind, Other}
+use Rattle.dimacs_problem.specs.declared.Sized.{Sized}
+use Rattle.dimacs_problem.specs.declared.Sized.the-variants.{Number, Other as NoNumber}
+use Rattle.dimacs_problem.specs.declared.Sizing.{Sizing}
+use Rattle.dimacs_problem.specs.declared.Sizing.the-variants.{Read, Malformed}
+use Rattle.dimacs_problem.specs.declared.Located.{Located}
+use Rattle.dimacs_problem.specs.declared.Located.the-variants.{Line as FoundLine, Absent}
 use Rattle.dimacs_format.specs.Text.{piece, lines, words, spelled, sameBytes, numberIn}
 use Rattle.dimacs_format.specs.Reader.{Sizes, fromProblem}
 use Rattle.dimacs_words.specs.Laws.Scans.{belongs, Stretch, linesBehind}

@@ -1,10 +1,10 @@
--- `dimacs::expect_word` meets its contract: the part up to the next blank is compared. Assumes nothing.
+-- `dimacs_problem::expect_word` meets its contract: the part up to the next blank is compared. Assumes nothing.
 use mathlib.Core.Path.{sym, _∙_}
 use borrow.Author.Tests.{not-true, not-false}
 use borrow.Author.Needs.{needs}
-use Rattle.dimacs.specs.Laws.ProblemScanLaws.{word-behind, word-other}
-use Rattle.dimacs.proofs.expect_word.Statement.{statement}
-use Rattle.dimacs.proofs.expect_word.Tie as tie
+use Rattle.dimacs_problem.specs.Laws.ProblemScanLaws.{word-behind, word-other}
+use Rattle.dimacs_problem.proofs.expect_word.Statement.{statement}
+use Rattle.dimacs_problem.proofs.expect_word.Tie as tie
 
 run-end-requires : tie.Need-run-end-requires
 run-end-requires c κs = search needs

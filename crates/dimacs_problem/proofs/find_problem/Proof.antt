@@ -1,4 +1,4 @@
--- `dimacs::find_problem` meets its contract: what is left from a line on is what the whole has. Assumes nothing.
+-- `dimacs_problem::find_problem` meets its contract: what is left from a line on is what the whole has. Assumes nothing.
 use mathlib.Core.Path.{_≡_, refl, sym, _∙_}
 use mathlib.Core.Bool.{not, false}
 use Prim.Native.Nat.{_+_, _-_, _≤_, zero-le}
@@ -7,11 +7,11 @@ use lib.ListN.{length, drop}
 use borrow.Author.Tests.{not-true, not-false}
 use borrow.Author.Needs.{needs}
 use Rattle.dimacs_words.specs.Laws.Scans.{linesBehind}
-use Rattle.dimacs.specs.Laws.ProblemScanLaws.{preamble-skips, preamble-stops, preamble-ends, preamble-goes-on}
+use Rattle.dimacs_problem.specs.Laws.ProblemScanLaws.{preamble-skips, preamble-stops, preamble-ends, preamble-goes-on}
 use Rattle.dimacs_format.specs.Reader.{fromProblem}
 use Rattle.dimacs_format.specs.Text.{lines}
-use Rattle.dimacs.proofs.find_problem.Statement.{statement}
-use Rattle.dimacs.proofs.find_problem.Tie as tie
+use Rattle.dimacs_problem.proofs.find_problem.Statement.{statement}
+use Rattle.dimacs_problem.proofs.find_problem.Tie as tie
 
 abbrev Inv-loop : tie.InvT-loop
 Inv-loop text start₀ start = (start ≤ length text) × (fromProblem (lines 0 text) ≡ fromProblem (lines start (drop start text)))

@@ -17,8 +17,8 @@ use Rattle.math.specs.Lists.{all, select}
 use Rattle.math.specs.Laws.SplitLaws.{select-cons, map-nil}
 use Rattle.dimacs_words.specs.declared.Class.the-variants.{Blank, Word as WordBytes, Line as LineBytes}
 use Rattle.dimacs_words.specs.declared.Cursor.{Cursor}
-use Rattle.dimacs.specs.declared.Matched.the-variants.{Behind, Other}
-use Rattle.dimacs.specs.declared.Sized.the-variants.{Number, Other as NoNumber}
+use Rattle.dimacs_problem.specs.declared.Matched.the-variants.{Behind, Other}
+use Rattle.dimacs_problem.specs.declared.Sized.the-variants.{Number, Other as NoNumber}
 use Rattle.dimacs_format.specs.Text.{isBlank, allBlank, Piece, Word, piece, joined, pieces, lines, holdsBytes, words}
 use Rattle.dimacs_format.specs.Text.{spelled, sameBytes, begins, isComment, problemWord, formatWord, numberIn, tokenIn}
 use Rattle.dimacs_format.specs.Text.{isNumber}
@@ -28,7 +28,7 @@ use Rattle.dimacs_format.specs.Laws.TextLaws.{same-bytes}
 use Rattle.dimacs_words.specs.Laws.Scans.{belongs, Stretch, linesBehind}
 use Rattle.dimacs_words.specs.Laws.ScanLaws.{here-on, run-all, words-skip, words-end, word-at, same-lengths}
 use Rattle.dimacs_words.specs.Laws.ScanLaws.{blanks-stop, behind-none, behind-some, lines-from}
-use Rattle.dimacs.specs.Laws.ProblemScans.{spelledFrom, WordMatched, NumberMatched}
+use Rattle.dimacs_problem.specs.Laws.ProblemScans.{spelledFrom, WordMatched, NumberMatched}
 
 -- ---- equal runs of bytes
 

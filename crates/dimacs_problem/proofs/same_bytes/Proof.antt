@@ -1,9 +1,9 @@
--- `dimacs::same_bytes` meets its contract: of one length, and one begins the other. Assumes nothing.
+-- `dimacs_problem::same_bytes` meets its contract: of one length, and one begins the other. Assumes nothing.
 use mathlib.Core.Path.{_∙_}
 use borrow.Author.Needs.{needs}
-use Rattle.dimacs.specs.Laws.ProblemScanLaws.{bytes-apart, bytes-begin}
-use Rattle.dimacs.proofs.same_bytes.Statement.{statement}
-use Rattle.dimacs.proofs.same_bytes.Tie as tie
+use Rattle.dimacs_problem.specs.Laws.ProblemScanLaws.{bytes-apart, bytes-begin}
+use Rattle.dimacs_problem.proofs.same_bytes.Statement.{statement}
+use Rattle.dimacs_problem.proofs.same_bytes.Tie as tie
 
 returns : tie.Need-returns
 returns c = bytes-apart (c .before .before .before .args .part .now) (c .before .before .before .args .word .now) (c .if1 .taken)

@@ -1,10 +1,10 @@
--- `dimacs::expect_number` meets its contract: the part up to the next blank is read. Assumes nothing.
+-- `dimacs_problem::expect_number` meets its contract: the part up to the next blank is read. Assumes nothing.
 use mathlib.Core.Path.{sym, ap, _∙_}
 use borrow.Author.Needs.{needs}
-use Rattle.dimacs.specs.Laws.ProblemScanLaws.{number-behind, number-other}
+use Rattle.dimacs_problem.specs.Laws.ProblemScanLaws.{number-behind, number-other}
 use Rattle.dimacs_words.specs.Laws.Scans.{numberOf}
-use Rattle.dimacs.proofs.expect_number.Statement.{statement}
-use Rattle.dimacs.proofs.expect_number.Tie as tie
+use Rattle.dimacs_problem.proofs.expect_number.Statement.{statement}
+use Rattle.dimacs_problem.proofs.expect_number.Tie as tie
 
 run-end-requires : tie.Need-run-end-requires
 run-end-requires c κs = search needs
