@@ -15,7 +15,7 @@ use Rattle.program.specs.Laws.ProgramLaws.{read-blank, alike-self, few-v
 use Rattle.program.proofs.read_many.Reads as read-many
 use Rattle.program.proofs.read_many.Kinds as read-many-kinds
 use Rattle.dimacs.proofs.read.Reads as read
-use Rattle.program.proofs.search_sheet.Reads as search-sheet
+use Rattle.program_search.proofs.search_sheet.Reads as search-sheet
 use Rattle.program_text.proofs.put_refused.Reads as put-refused
 use Rattle.program.proofs.+read_many.Lts-read_many as lts
 use Rattle.program.proofs.+read_many.{statement}

@@ -1,12 +1,12 @@
--- `program::is_settled` meets its contract: a case for each answer. Assumes nothing.
+-- `program_search::is_settled` meets its contract: a case for each answer. Assumes nothing.
 use mathlib.Core.Bool.{false≢true}
 use mathlib.Core.Path.{sym, subst}
 use borrow.Author.Needs.{needs}
 use Rattle.search.specs.Contract.{replyOfOutcome}
 use Rattle.search.specs.declared.Outcome.{Outcome}
-use Rattle.program.specs.Laws.ProgramLaws.{Settles, satisfiable-settles, unsatisfiable-settles}
-use Rattle.program.proofs.is_settled.Statement.{statement}
-use Rattle.program.proofs.is_settled.Tie as tie
+use Rattle.program_search.specs.Laws.SettlingLaws.{Settles, satisfiable-settles, unsatisfiable-settles}
+use Rattle.program_search.proofs.is_settled.Statement.{statement}
+use Rattle.program_search.proofs.is_settled.Tie as tie
 
 returns : tie.Need-returns
 returns c e = subst (λ (o : Outcome). Settles (replyOfOutcome (c .before .before .before .args .found .point) o)) (sym (c .before .answer .given .1)) (satisfiable-settles _ _ _)

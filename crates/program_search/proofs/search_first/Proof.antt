@@ -1,4 +1,4 @@
--- `program::search_first` meets its contract: the parts handed on are the first clauses. Assumes nothing.
+-- `program_search::search_first` meets its contract: the parts handed on are the first clauses. Assumes nothing.
 use mathlib.Core.Path.{ap, _∙_}
 use native.Mathlib.Nat.{min-le-left, min-le-right, le-trans}
 use borrow.Author.Needs.{needs}
@@ -6,8 +6,8 @@ use Rattle.point_slices.specs.Laws.SliceLaws.{first-clauses}
 use Rattle.point_slices.specs.Slices.{slotSlices}
 use Rattle.formula.specs.Limits.{capacity}
 use Rattle.search.specs.Search.{searchReply}
-use Rattle.program.proofs.search_first.Statement.{statement}
-use Rattle.program.proofs.search_first.Tie as tie
+use Rattle.program_search.proofs.search_first.Statement.{statement}
+use Rattle.program_search.proofs.search_first.Tie as tie
 
 first-points-requires : tie.Need-first-points-requires
 first-points-requires c κs = le-trans (c .before .before .before .before .before .before .pre) (min-le-left _ _)

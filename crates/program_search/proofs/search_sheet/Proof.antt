@@ -1,4 +1,4 @@
--- `program::search_sheet` meets its contract: an answer that few slots suffice for is that with all. Assumes nothing.
+-- `program_search::search_sheet` meets its contract: an answer that few slots suffice for is that with all. Assumes nothing.
 use mathlib.Core.Path.{subst, ap, _∙_}
 use native.Mathlib.Omega.{arith}
 use borrow.Author.Needs.{needs}
@@ -7,9 +7,9 @@ use Rattle.formula.specs.Reply.{Reply}
 use Rattle.search.specs.Search.{searchReply}
 use Rattle.program_text.specs.Report.{reportOf}
 use Rattle.program_text.specs.Laws.Putting.{Printed}
-use Rattle.program.specs.Laws.ProgramLaws.{slots-lent, settles-all}
-use Rattle.program.proofs.search_sheet.Statement.{statement}
-use Rattle.program.proofs.search_sheet.Tie as tie
+use Rattle.program_search.specs.Laws.SettlingLaws.{slots-lent, settles-all}
+use Rattle.program_search.proofs.search_sheet.Statement.{statement}
+use Rattle.program_search.proofs.search_sheet.Tie as tie
 
 returns : tie.Need-returns
 returns c =

@@ -1,4 +1,4 @@
--- `program::search_again` meets its contract: the slots are lent. There are as many clauses as the formula says, so that
+-- `program_search::search_again` meets its contract: the slots are lent. There are as many clauses as the formula says, so that
 -- it never calls itself, and any measure will do. Assumes nothing.
 use mathlib.Core.Path.{subst, ap, _∙_}
 use Prim.Native.Nat.{ℕ, _<_}
@@ -11,16 +11,15 @@ use Rattle.formula.specs.Reply.{Reply}
 use Rattle.search.specs.Search.{searchReply}
 use Rattle.program_text.specs.Report.{reportOf}
 use Rattle.program_text.specs.Laws.Putting.{Printed}
-use Rattle.program.specs.Program.{slots}
-use Rattle.program.specs.Laws.ProgramLaws.{slots-lent, clauses-there}
-use Rattle.program.proofs.search_again.Reads as search-again
-use Rattle.program.proofs.search_again.Kinds as search-again-kinds
+use Rattle.program_search.specs.Laws.SettlingLaws.{slots, slots-lent, clauses-there}
+use Rattle.program_search.proofs.search_again.Reads as search-again
+use Rattle.program_search.proofs.search_again.Kinds as search-again-kinds
 use Rattle.point_slices.proofs.clause_count.Reads as clause-count
-use Rattle.program.proofs.search_first.Reads as search-first
+use Rattle.program_search.proofs.search_first.Reads as search-first
 use Rattle.program_text.proofs.put_report.Reads as put-report
-use Rattle.program.proofs.+search_again.Lts-search_again as lts
-use Rattle.program.proofs.+search_again.{statement}
-use Rattle.program.proofs.+search_again.Tie.{close}
+use Rattle.program_search.proofs.+search_again.Lts-search_again as lts
+use Rattle.program_search.proofs.+search_again.{statement}
+use Rattle.program_search.proofs.+search_again.Tie.{close}
 
 abbrev μ-search-again : Measures 3 search-again-kinds.ps ℕ
 μ-search-again κs a = 0
