@@ -1,5 +1,2 @@
-pub mod AnswerRead
-pub mod Fresh
-pub mod Searching
-pub mod SearchedPrefix
+pub mod ContractMet
 pub mod SlotsSearched

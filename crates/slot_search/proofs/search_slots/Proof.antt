@@ -52,15 +52,16 @@ use Rattle.slot_proofs.proofs.LeastCalled.{Least}
 use Rattle.slot_columns.proofs.CopiedBack as Back
 use Rattle.slot_columns.proofs.CopiedBack.{CopyBack}
 use Rattle.slot_proofs.proofs.Spelled.{formula-val, formula-typed}
-use Rattle.slot_search.proofs.AnswerRead.{Filled, filled-bound, filled-asks, filled-has}
-use Rattle.slot_search.proofs.AnswerRead.{Outgrown, outgrown-bound, outgrown-asks, outgrown-has}
-use Rattle.slot_search.proofs.Fresh.{k, gk, searched-in, n, gn, copied-in, Z, same-count, searched-left}
-use Rattle.slot_search.proofs.Fresh.{outgrown-accepted, same-few}
-use Rattle.slot_search.proofs.SearchedPrefix as Front
-use Rattle.slot_search.proofs.SearchedPrefix.{SearchFront, found-typed}
-use Rattle.slot_search.proofs.Searching.{args, Entry, Post, positive, negative, exits, meets}
-use Rattle.slot_search.proofs.SlotsSearched as Done
-use Rattle.slot_search.proofs.SlotsSearched.{SearchAccepted}
+use Rattle.slot_search_again.proofs.AnswerRead.{Filled, filled-bound, filled-asks, filled-has}
+use Rattle.slot_search_again.proofs.AnswerRead.{Outgrown, outgrown-bound, outgrown-asks, outgrown-has}
+use Rattle.slot_search_again.proofs.Fresh.{k, gk, searched-in, n, gn, copied-in, Z, same-count, searched-left}
+use Rattle.slot_search_again.proofs.Fresh.{outgrown-accepted, same-few}
+use Rattle.slot_search_again.proofs.SearchedPrefix as Front
+use Rattle.slot_search_again.proofs.SearchedPrefix.{SearchFront, found-typed}
+use Rattle.slot_search_again.proofs.Searching.{args, Entry, Post, positive, negative, exits}
+use Rattle.slot_search.proofs.ContractMet.{meets}
+use Rattle.slot_search_again.proofs.SlotsSearched as Done
+use Rattle.slot_search_again.proofs.SlotsSearched.{SearchAccepted}
 use Rattle.slot_columns.proofs.copy_back.Symbol as copy-back-def
 use Rattle.slot_columns.proofs.copy_back.Symbol.{name as #slot-columns·copy-back}
 use Rattle.slot_columns.proofs.copy_back.Met as copy-back-thm
@@ -73,9 +74,9 @@ use Rattle.slot_prefixes.proofs.search_prefix.Met as search-front-thm
 use Rattle.slot_prefixes.proofs.outgrown.Symbol as outgrown-def
 use Rattle.slot_prefixes.proofs.outgrown.Symbol.{name as #slot-prefixes·outgrown}
 use Rattle.slot_prefixes.proofs.outgrown.Met as outgrown-thm
-use Rattle.slot_search.proofs.search_many.Symbol as search-many-def
-use Rattle.slot_search.proofs.search_many.Symbol.{name as #slot-search·search-many}
-use Rattle.slot_search.proofs.search_many.Met as search-many-thm
+use Rattle.slot_search_again.proofs.search_many.Symbol as search-many-def
+use Rattle.slot_search_again.proofs.search_many.Symbol.{name as #slot-search-again·search-many}
+use Rattle.slot_search_again.proofs.search_many.Met as search-many-thm
 use Rattle.slot_search.proofs.search_slots.Key.{name as #slot-search·search-slots}
 use Rattle.slot_search.proofs.search_slots as this
 use Rattle.slot_search.proofs.search_slots.Statement as stated
@@ -89,7 +90,7 @@ some : 1 ≤ 256
 some = omega arith
 
 module _ {M : Type 1} (𝓤 : URA M) (H : Heap 𝓤) (A : Atoms 𝓤) (W : Given 𝓤 H A) (mem : Memory → SProp 𝓤) (run : Routine → Fun 𝓤) (C : Calls 𝓤 H) (Λ : Loops 𝓤 H) (fm : FmC 𝓤 H (W .laws) C)
-    (known₀ : Triple 𝓤 (C #point-slices·least) (Least 𝓤 H A mem run)) (known₁ : Triple 𝓤 (C #slot-prefixes·search-front) (SearchFront 𝓤 H A mem run)) (known₂ : Triple 𝓤 (C #slot-prefixes·outgrown) (Outgrown 𝓤 H A mem run)) (known₃ : Triple 𝓤 (C #slot-prefixes·filled) (Filled 𝓤 H A mem run)) (known₄ : Triple 𝓤 (C #slot-columns·copy-back) (CopyBack 𝓤 H A mem run)) (known₅ : Triple 𝓤 (C #slot-search·search-many) (SearchAccepted 𝓤 H A mem run)) where
+    (known₀ : Triple 𝓤 (C #point-slices·least) (Least 𝓤 H A mem run)) (known₁ : Triple 𝓤 (C #slot-prefixes·search-front) (SearchFront 𝓤 H A mem run)) (known₂ : Triple 𝓤 (C #slot-prefixes·outgrown) (Outgrown 𝓤 H A mem run)) (known₃ : Triple 𝓤 (C #slot-prefixes·filled) (Filled 𝓤 H A mem run)) (known₄ : Triple 𝓤 (C #slot-columns·copy-back) (CopyBack 𝓤 H A mem run)) (known₅ : Triple 𝓤 (C #slot-search-again·search-many) (SearchAccepted 𝓤 H A mem run)) where
   module _ (κ₀ κ₁ κ₂ : Lft) (q₀ q₁ q₂ : Share) (c₀ d₀ c₁ d₁ b o : ℕ) (δ₀ δ₁ γ : GName) (f : Formula) (us vs : List ℕ) (ys : List Slot) (gf : Is F.the-row f (formula-val f ∷ [])) (room₀ : Room u64 (length us)) (room₁ : Room u64 (length vs)) (room : Room R (length ys)) (none : Unit {0}) where
     walk : ent 𝓤 (Entry 𝓤 H A W mem run κ₀ κ₁ κ₂ q₀ q₁ q₂ c₀ d₀ c₁ d₁ b o δ₀ δ₁ γ f us vs ys)
         (WpFn 𝓤 H C Λ code.function (args 𝓤 H A W mem run κ₀ κ₁ κ₂ q₀ q₁ q₂ c₀ d₀ c₁ d₁ b o δ₀ δ₁ γ f us vs ys) (Post 𝓤 H A W mem run κ₀ κ₁ κ₂ q₀ q₁ q₂ c₀ d₀ c₁ d₁ b o δ₀ δ₁ γ f us vs ys))
@@ -202,4 +203,4 @@ search-slots-spec 𝓤 H 𝓜 𝓖 𝓡 =
     (cited 𝓤 H (Outgrown 𝓤 H (𝓖 .A) (𝓜 .mem) (𝓡 .run)) 𝓜 𝓡 code.env #slot-prefixes·outgrown outgrown-def.routine code.calls-slot-prefixes·outgrown (outgrown-thm.met 𝓤 H 𝓜 𝓖 𝓡))
     (cited 𝓤 H (Filled 𝓤 H (𝓖 .A) (𝓜 .mem) (𝓡 .run)) 𝓜 𝓡 code.env #slot-prefixes·filled filled-def.routine code.calls-slot-prefixes·filled (filled-thm.met 𝓤 H 𝓜 𝓖 𝓡))
     (cited 𝓤 H (CopyBack 𝓤 H (𝓖 .A) (𝓜 .mem) (𝓡 .run)) 𝓜 𝓡 code.env #slot-columns·copy-back copy-back-def.routine code.calls-slot-columns·copy-back (copy-back-thm.met 𝓤 H 𝓜 𝓖 𝓡))
-    (cited 𝓤 H (SearchAccepted 𝓤 H (𝓖 .A) (𝓜 .mem) (𝓡 .run)) 𝓜 𝓡 code.env #slot-search·search-many search-many-def.routine code.calls-slot-search·search-many (search-many-thm.met 𝓤 H 𝓜 𝓖 𝓡))))
+    (cited 𝓤 H (SearchAccepted 𝓤 H (𝓖 .A) (𝓜 .mem) (𝓡 .run)) 𝓜 𝓡 code.env #slot-search-again·search-many search-many-def.routine code.calls-slot-search-again·search-many (search-many-thm.met 𝓤 H 𝓜 𝓖 𝓡))))

@@ -23,10 +23,10 @@ use Rattle.slot_columns.specs.Laws.Copies.{joined, front, Within}
 use Rattle.slot_columns.specs.Laws.SlotLaws.{front-length, joined-long}
 use Rattle.slot_prefixes.specs.Laws.PrefixLaws.{noRoom}
 use Rattle.slot_proofs.proofs.Places.{places-many, places-in}
-use Rattle.slot_search.specs.Laws.FilledLaws.{SameSearch}
-use Rattle.slot_search.specs.Laws.Contracts.{Accepted}
-use Rattle.slot_search.specs.Laws.SearchLaws.{told, fresh-few, same-all, same-some, searched-fresh}
-use Rattle.slot_search.specs.Laws.SearchLaws.{places-accepted, no-room-accepted}
+use Rattle.slot_search_again.specs.Laws.FilledLaws.{SameSearch}
+use Rattle.slot_search_again.specs.Laws.Contracts.{Accepted}
+use Rattle.slot_search_again.specs.Laws.SearchLaws.{told, fresh-few, same-all, same-some, searched-fresh}
+use Rattle.slot_search_again.specs.Laws.SearchLaws.{places-accepted, no-room-accepted}
 
 -- a test that failed, and the first of two that were met
 failed : (b : Bool) → T (not b) → b ≡ false

@@ -1,6 +1,6 @@
--- `slot_search::search_most` meets its contract: a walk of its MIR, by hand. Each of the three local arrays is a row in
--- memory that is lent to the calls, for a lifetime of the call's own, and is back after it; the slots' borrow is opened
--- for the call that copies back. It never calls itself, so no measure is asked for. Assumes nothing.
+-- `slot_search_again::search_most` meets its contract: a walk of its MIR, by hand. Each of the three local arrays is a
+-- row in memory that is lent to the calls, for a lifetime of the call's own, and is back after it; the slots' borrow is
+-- opened for the call that copies back. It never calls itself, so no measure is asked for. Assumes nothing.
 use mathlib.Core.Path.{refl, sym, _∙_, ap, subst}
 use Prim.Native.Nat.{ℕ, _≤_}
 use native.Mathlib.Nat.{le-refl}
@@ -45,8 +45,8 @@ use Rattle.point_slices.proofs.least.Symbol.{name as #point-slices·least}
 use Rattle.point_slices.proofs.least.Met as least-thm
 use Rattle.slot_columns.specs.declared.Slot.{Slot}
 use Rattle.slot_columns.proofs.Row.{R, mut-again}
-use Rattle.slot_search.specs.Laws.Contracts.{Accepted}
-use Rattle.slot_search.specs.Laws.SearchLaws.{same-all}
+use Rattle.slot_search_again.specs.Laws.Contracts.{Accepted}
+use Rattle.slot_search_again.specs.Laws.SearchLaws.{same-all}
 use Rattle.slot_proofs.proofs.Called.{free-all, placed, given-up}
 use Rattle.slot_proofs.proofs.Lent.{at-list, lend, unlend, share, unshare, zeros-typed, abstracted, emptied, roomy, big-lit}
 use Rattle.slot_proofs.proofs.LeastCalled as Count
@@ -54,12 +54,12 @@ use Rattle.slot_proofs.proofs.LeastCalled.{Least}
 use Rattle.slot_columns.proofs.CopiedBack as Back
 use Rattle.slot_columns.proofs.CopiedBack.{CopyBack}
 use Rattle.slot_proofs.proofs.Spelled.{formula-val, formula-typed}
-use Rattle.slot_search.proofs.AnswerRead.{Filled, filled-bound, filled-asks, filled-has}
-use Rattle.slot_search.proofs.Fresh.{k, gk, searched-in, searched-accepted, n, gn, never-more, copied-in, Z}
-use Rattle.slot_search.proofs.Fresh.{same-count, searched-left}
-use Rattle.slot_search.proofs.SearchedPrefix as Front
-use Rattle.slot_search.proofs.SearchedPrefix.{AcceptedFront, found-typed}
-use Rattle.slot_search.proofs.Searching.{args, Entry, Post, positive, negative, exits, accepted-meets}
+use Rattle.slot_search_again.proofs.AnswerRead.{Filled, filled-bound, filled-asks, filled-has}
+use Rattle.slot_search_again.proofs.Fresh.{k, gk, searched-in, searched-accepted, n, gn, never-more, copied-in, Z}
+use Rattle.slot_search_again.proofs.Fresh.{same-count, searched-left}
+use Rattle.slot_search_again.proofs.SearchedPrefix as Front
+use Rattle.slot_search_again.proofs.SearchedPrefix.{AcceptedFront, found-typed}
+use Rattle.slot_search_again.proofs.Searching.{args, Entry, Post, positive, negative, exits, accepted-meets}
 use Rattle.slot_columns.proofs.copy_back.Symbol as copy-back-def
 use Rattle.slot_columns.proofs.copy_back.Symbol.{name as #slot-columns·copy-back}
 use Rattle.slot_columns.proofs.copy_back.Met as copy-back-thm
@@ -69,11 +69,11 @@ use Rattle.slot_prefixes.proofs.filled.Met as filled-thm
 use Rattle.slot_prefixes.proofs.search_accepted_prefix.Symbol as accepted-front-def
 use Rattle.slot_prefixes.proofs.search_accepted_prefix.Symbol.{name as #slot-prefixes·accepted-front}
 use Rattle.slot_prefixes.proofs.search_accepted_prefix.Met as accepted-front-thm
-use Rattle.slot_search.proofs.search_most.Key.{name as #slot-search·search-most}
-use Rattle.slot_search.proofs.search_most as this
-use Rattle.slot_search.proofs.+search_most as stated
-use Rattle.slot_search.proofs.+search_most.Code as code
-use Rattle.slot_search.proofs.+search_most.Code.search_most as mirs
+use Rattle.slot_search_again.proofs.search_most.Key.{name as #slot-search-again·search-most}
+use Rattle.slot_search_again.proofs.search_most as this
+use Rattle.slot_search_again.proofs.+search_most as stated
+use Rattle.slot_search_again.proofs.+search_most.Code as code
+use Rattle.slot_search_again.proofs.+search_most.Code.search_most as mirs
 
 few : maxSlots ≤ maxSlots
 few = le-refl maxSlots
@@ -173,7 +173,7 @@ unfolding code.search-most-routine tablesOf
     let T : Tables 𝓤 H = tablesOf 𝓤 H 𝓜 (tables 𝓤 H 𝓜 𝓡 code.env) in
     let W : Given 𝓤 H (𝓖 .A) = givenOf 𝓤 H 𝓜 𝓖 in
     entered 𝓤 H (tripleOf 𝓤 H (𝓖 .A) this.signature (this.spec 𝓤 H (𝓖 .A) (𝓜 .mem) (𝓡 .run)))
-    (tables 𝓤 H 𝓜 𝓡 code.env .C) (tables 𝓤 H 𝓜 𝓡 code.env .Λ) #slot-search·search-most code.search-most-function (code.search-most-unfolded 𝓤 H 𝓜 𝓡)
+    (tables 𝓤 H 𝓜 𝓡 code.env .C) (tables 𝓤 H 𝓜 𝓡 code.env .Λ) #slot-search-again·search-most code.search-most-function (code.search-most-unfolded 𝓤 H 𝓜 𝓡)
     (accepted-meets 𝓤 H (𝓖 .A) W (𝓜 .mem) (𝓡 .run) T code.search-most-function (walk 𝓤 H (𝓖 .A) W (𝓜 .mem) (𝓡 .run) (T .C) (T .Λ) (fmOf 𝓤 H (W .laws) T)
     (cited 𝓤 H (Least 𝓤 H (𝓖 .A) (𝓜 .mem) (𝓡 .run)) 𝓜 𝓡 code.env #point-slices·least least-def.routine code.calls-point-slices·least (least-thm.met 𝓤 H 𝓜 𝓖 𝓡))
     (cited 𝓤 H (AcceptedFront 𝓤 H (𝓖 .A) (𝓜 .mem) (𝓡 .run)) 𝓜 𝓡 code.env #slot-prefixes·accepted-front accepted-front-def.routine code.calls-slot-prefixes·search-accepted-prefix (accepted-front-thm.met 𝓤 H 𝓜 𝓖 𝓡))

@@ -1,6 +1,6 @@
--- `slot_search::search_many` meets its contract: a walk of its MIR, by hand, as that of `search_slots`. Where more slots
--- are lent than it has places these are handed on to `search_most`. It never calls itself, so no measure is asked for.
--- Assumes nothing.
+-- `slot_search_again::search_many` meets its contract: a walk of its MIR, by hand, as that of `search_slots`. Where more
+-- slots are lent than it has places these are handed on to `search_most`. It never calls itself, so no measure is asked
+-- for. Assumes nothing.
 use mathlib.Core.Path.{refl, sym, _∙_, ap, subst}
 use Prim.Native.Nat.{ℕ, _≤_}
 use native.Mathlib.Omega.{arith}
@@ -43,20 +43,20 @@ use Rattle.point_slices.specs.Slices.{clauseSlices}
 use Rattle.search.proofs.Found as O
 use Rattle.slot_columns.specs.declared.Slot.{Slot}
 use Rattle.slot_columns.proofs.Row.{R, mut-again}
-use Rattle.slot_search.specs.Laws.Contracts.{Accepted}
+use Rattle.slot_search_again.specs.Laws.Contracts.{Accepted}
 use Rattle.slot_proofs.proofs.Called.{free-all, placed, given-up}
 use Rattle.slot_proofs.proofs.Lent.{at-list, lend, unlend, share, unshare, zeros-typed, abstracted, emptied, roomy, big-lit}
 use Rattle.slot_columns.proofs.CopiedBack as Back
 use Rattle.slot_columns.proofs.CopiedBack.{CopyBack}
 use Rattle.slot_proofs.proofs.Spelled.{formula-val, formula-typed}
-use Rattle.slot_search.proofs.AnswerRead.{Filled, filled-bound, filled-asks, filled-has}
-use Rattle.slot_search.proofs.Fresh.{k, gk, searched-in, searched-accepted, n, gn, never-more, copied-in, Z}
-use Rattle.slot_search.proofs.Fresh.{same-count, all-lent, same-within, searched-left}
-use Rattle.slot_search.proofs.SearchedPrefix as Front
-use Rattle.slot_search.proofs.SearchedPrefix.{AcceptedFront, found-typed}
-use Rattle.slot_search.proofs.Searching.{args, Entry, Post, positive, negative, exits, accepted-meets}
-use Rattle.slot_search.proofs.SlotsSearched as Done
-use Rattle.slot_search.proofs.SlotsSearched.{SearchAccepted}
+use Rattle.slot_search_again.proofs.AnswerRead.{Filled, filled-bound, filled-asks, filled-has}
+use Rattle.slot_search_again.proofs.Fresh.{k, gk, searched-in, searched-accepted, n, gn, never-more, copied-in, Z}
+use Rattle.slot_search_again.proofs.Fresh.{same-count, all-lent, same-within, searched-left}
+use Rattle.slot_search_again.proofs.SearchedPrefix as Front
+use Rattle.slot_search_again.proofs.SearchedPrefix.{AcceptedFront, found-typed}
+use Rattle.slot_search_again.proofs.Searching.{args, Entry, Post, positive, negative, exits, accepted-meets}
+use Rattle.slot_search_again.proofs.SlotsSearched as Done
+use Rattle.slot_search_again.proofs.SlotsSearched.{SearchAccepted}
 use Rattle.slot_columns.proofs.copy_back.Symbol as copy-back-def
 use Rattle.slot_columns.proofs.copy_back.Symbol.{name as #slot-columns·copy-back}
 use Rattle.slot_columns.proofs.copy_back.Met as copy-back-thm
@@ -66,14 +66,14 @@ use Rattle.slot_prefixes.proofs.filled.Met as filled-thm
 use Rattle.slot_prefixes.proofs.search_accepted_prefix.Symbol as accepted-front-def
 use Rattle.slot_prefixes.proofs.search_accepted_prefix.Symbol.{name as #slot-prefixes·accepted-front}
 use Rattle.slot_prefixes.proofs.search_accepted_prefix.Met as accepted-front-thm
-use Rattle.slot_search.proofs.search_most.Symbol as search-most-def
-use Rattle.slot_search.proofs.search_most.Symbol.{name as #slot-search·search-most}
-use Rattle.slot_search.proofs.search_most.Met as search-most-thm
-use Rattle.slot_search.proofs.search_many.Key.{name as #slot-search·search-many}
-use Rattle.slot_search.proofs.search_many as this
-use Rattle.slot_search.proofs.+search_many as stated
-use Rattle.slot_search.proofs.+search_many.Code as code
-use Rattle.slot_search.proofs.+search_many.Code.search_many as mirs
+use Rattle.slot_search_again.proofs.search_most.Symbol as search-most-def
+use Rattle.slot_search_again.proofs.search_most.Symbol.{name as #slot-search-again·search-most}
+use Rattle.slot_search_again.proofs.search_most.Met as search-most-thm
+use Rattle.slot_search_again.proofs.search_many.Key.{name as #slot-search-again·search-many}
+use Rattle.slot_search_again.proofs.search_many as this
+use Rattle.slot_search_again.proofs.+search_many as stated
+use Rattle.slot_search_again.proofs.+search_many.Code as code
+use Rattle.slot_search_again.proofs.+search_many.Code.search_many as mirs
 
 few : 4096 ≤ maxSlots
 few = omega arith
@@ -82,7 +82,7 @@ some : 1 ≤ 4096
 some = omega arith
 
 module _ {M : Type 1} (𝓤 : URA M) (H : Heap 𝓤) (A : Atoms 𝓤) (W : Given 𝓤 H A) (mem : Memory → SProp 𝓤) (run : Routine → Fun 𝓤) (C : Calls 𝓤 H) (Λ : Loops 𝓤 H) (fm : FmC 𝓤 H (W .laws) C)
-    (known₁ : Triple 𝓤 (C #slot-prefixes·accepted-front) (AcceptedFront 𝓤 H A mem run)) (known₃ : Triple 𝓤 (C #slot-prefixes·filled) (Filled 𝓤 H A mem run)) (known₄ : Triple 𝓤 (C #slot-columns·copy-back) (CopyBack 𝓤 H A mem run)) (known₅ : Triple 𝓤 (C #slot-search·search-most) (SearchAccepted 𝓤 H A mem run)) where
+    (known₁ : Triple 𝓤 (C #slot-prefixes·accepted-front) (AcceptedFront 𝓤 H A mem run)) (known₃ : Triple 𝓤 (C #slot-prefixes·filled) (Filled 𝓤 H A mem run)) (known₄ : Triple 𝓤 (C #slot-columns·copy-back) (CopyBack 𝓤 H A mem run)) (known₅ : Triple 𝓤 (C #slot-search-again·search-most) (SearchAccepted 𝓤 H A mem run)) where
   module _ (κ₀ κ₁ κ₂ : Lft) (q₀ q₁ q₂ : Share) (c₀ d₀ c₁ d₁ b o : ℕ) (δ₀ δ₁ γ : GName) (f : Formula) (us vs : List ℕ) (ys : List Slot) (gf : Is F.the-row f (formula-val f ∷ [])) (room₀ : Room u64 (length us)) (room₁ : Room u64 (length vs)) (room : Room R (length ys)) (accepted : Accepted f (clauseSlices us vs) ys) where
     walk : ent 𝓤 (Entry 𝓤 H A W mem run κ₀ κ₁ κ₂ q₀ q₁ q₂ c₀ d₀ c₁ d₁ b o δ₀ δ₁ γ f us vs ys)
         (WpFn 𝓤 H C Λ code.search-many-function (args 𝓤 H A W mem run κ₀ κ₁ κ₂ q₀ q₁ q₂ c₀ d₀ c₁ d₁ b o δ₀ δ₁ γ f us vs ys) (Post 𝓤 H A W mem run κ₀ κ₁ κ₂ q₀ q₁ q₂ c₀ d₀ c₁ d₁ b o δ₀ δ₁ γ f us vs ys))
@@ -185,9 +185,9 @@ unfolding code.search-many-routine tablesOf
     let T : Tables 𝓤 H = tablesOf 𝓤 H 𝓜 (tables 𝓤 H 𝓜 𝓡 code.env) in
     let W : Given 𝓤 H (𝓖 .A) = givenOf 𝓤 H 𝓜 𝓖 in
     entered 𝓤 H (tripleOf 𝓤 H (𝓖 .A) this.signature (this.spec 𝓤 H (𝓖 .A) (𝓜 .mem) (𝓡 .run)))
-    (tables 𝓤 H 𝓜 𝓡 code.env .C) (tables 𝓤 H 𝓜 𝓡 code.env .Λ) #slot-search·search-many code.search-many-function (code.search-many-unfolded 𝓤 H 𝓜 𝓡)
+    (tables 𝓤 H 𝓜 𝓡 code.env .C) (tables 𝓤 H 𝓜 𝓡 code.env .Λ) #slot-search-again·search-many code.search-many-function (code.search-many-unfolded 𝓤 H 𝓜 𝓡)
     (accepted-meets 𝓤 H (𝓖 .A) W (𝓜 .mem) (𝓡 .run) T code.search-many-function (walk 𝓤 H (𝓖 .A) W (𝓜 .mem) (𝓡 .run) (T .C) (T .Λ) (fmOf 𝓤 H (W .laws) T)
     (cited 𝓤 H (AcceptedFront 𝓤 H (𝓖 .A) (𝓜 .mem) (𝓡 .run)) 𝓜 𝓡 code.env #slot-prefixes·accepted-front accepted-front-def.routine code.calls-slot-prefixes·search-accepted-prefix (accepted-front-thm.met 𝓤 H 𝓜 𝓖 𝓡))
     (cited 𝓤 H (Filled 𝓤 H (𝓖 .A) (𝓜 .mem) (𝓡 .run)) 𝓜 𝓡 code.env #slot-prefixes·filled filled-def.routine code.calls-slot-prefixes·filled (filled-thm.met 𝓤 H 𝓜 𝓖 𝓡))
     (cited 𝓤 H (CopyBack 𝓤 H (𝓖 .A) (𝓜 .mem) (𝓡 .run)) 𝓜 𝓡 code.env #slot-columns·copy-back copy-back-def.routine code.calls-slot-columns·copy-back (copy-back-thm.met 𝓤 H 𝓜 𝓖 𝓡))
-    (cited 𝓤 H (SearchAccepted 𝓤 H (𝓖 .A) (𝓜 .mem) (𝓡 .run)) 𝓜 𝓡 code.env #slot-search·search-most search-most-def.routine code.calls-slot-search·search-most (search-most-thm.met 𝓤 H 𝓜 𝓖 𝓡))))
+    (cited 𝓤 H (SearchAccepted 𝓤 H (𝓖 .A) (𝓜 .mem) (𝓡 .run)) 𝓜 𝓡 code.env #slot-search-again·search-most search-most-def.routine code.calls-slot-search-again·search-most (search-most-thm.met 𝓤 H 𝓜 𝓖 𝓡))))

@@ -1,0 +1,2 @@
+-- Laws of the search on copies of the slots.
+pub mod Laws
