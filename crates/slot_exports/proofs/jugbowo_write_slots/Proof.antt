@@ -60,8 +60,8 @@ use Rattle.slot_proofs.proofs.Lent.{at-list}
 use Rattle.slot_proofs.proofs.Called.{given-up, free-all, placed}
 use Rattle.slot_exports.proofs.FormulaMade as Made
 use Rattle.slot_exports.proofs.FormulaMade.{FormulaFrom}
-use Rattle.slot_writer.proofs.SlotsWritten as Done
-use Rattle.slot_writer.proofs.SlotsWritten.{WriteSlots}
+use Rattle.slot_writer_large.proofs.SlotsWritten as Done
+use Rattle.slot_writer_large.proofs.SlotsWritten.{WriteSlots}
 use Rattle.slot_exports.proofs.WordsPut as Put
 use Rattle.slot_exports.proofs.WordsPut.{PutWords}
 use Rattle.slot_exports.proofs.jugbowo_write_slots.Key.{name as #slot-exports·jugbowo-write-slots}

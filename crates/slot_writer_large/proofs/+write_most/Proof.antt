@@ -1,6 +1,6 @@
--- `slot_writer::write_most` meets its contract: a walk of its MIR, by hand. Each of the three local arrays is a row in
--- memory that is lent to the calls, for a lifetime of the call's own, and is back after it. It never calls itself, so no
--- measure is asked for. Assumes nothing.
+-- `slot_writer_large::write_most` meets its contract: a walk of its MIR, by hand. Each of the three local arrays is a
+-- row in memory that is lent to the calls, for a lifetime of the call's own, and is back after it. It never calls
+-- itself, so no measure is asked for. Assumes nothing.
 use mathlib.Core.Path.{refl, sym, ap, subst}
 use Prim.Native.Nat.{ℕ, _<_, _^_}
 use mathlib.Core.List.{[], _∷_, List}
@@ -44,13 +44,13 @@ use Rattle.slot_proofs.proofs.Lent.{at-list, lend, unlend, share, unshare, zero
 use Rattle.slot_proofs.proofs.Spelled.{formula-val, formula-typed}
 use Rattle.slot_columns.proofs.CopiedOut as Out
 use Rattle.slot_columns.proofs.CopiedOut.{CopyOut}
-use Rattle.slot_writer.proofs.Copied.{k, few, gk, P, N, D, long₁, long₂, long₃, copied-in, written-in, written-left, gs}
-use Rattle.slot_writer.proofs.Copied.{never-over}
-use Rattle.slot_writer.proofs.TakenCalled.{SlotsTaken, taken-bound, taken-asks, taken-has}
-use Rattle.slot_writer.proofs.TakenCalled.{Bytes, bytes-bound, bytes-asks, bytes-has}
-use Rattle.slot_writer.proofs.WrittenPrefix as Front
-use Rattle.slot_writer.proofs.WrittenPrefix.{WriteFront, written-typed}
-use Rattle.slot_writer.proofs.Writing.{args, Entry, Post, exits, meets}
+use Rattle.slot_writer_large.proofs.Copied.{k, few, gk, P, N, D, long₁, long₂, long₃, copied-in, written-in}
+use Rattle.slot_writer_large.proofs.Copied.{written-left, gs, never-over}
+use Rattle.slot_writer_large.proofs.TakenCalled.{SlotsTaken, taken-bound, taken-asks, taken-has}
+use Rattle.slot_writer_large.proofs.TakenCalled.{Bytes, bytes-bound, bytes-asks, bytes-has}
+use Rattle.slot_writer_large.proofs.WrittenPrefix as Front
+use Rattle.slot_writer_large.proofs.WrittenPrefix.{WriteFront, written-typed}
+use Rattle.slot_writer_large.proofs.Writing.{args, Entry, Post, exits, meets}
 use Rattle.slot_prefixes.proofs.slots_taken.Symbol as slots-taken-def
 use Rattle.slot_prefixes.proofs.slots_taken.Symbol.{name as #slot-prefixes·slots-taken}
 use Rattle.slot_prefixes.proofs.slots_taken.Met as slots-taken-thm
@@ -63,11 +63,11 @@ use Rattle.slot_columns.proofs.copy_out.Met as copy-out-thm
 use Rattle.slot_prefixes.proofs.write_prefix.Symbol as write-front-def
 use Rattle.slot_prefixes.proofs.write_prefix.Symbol.{name as #slot-prefixes·write-front}
 use Rattle.slot_prefixes.proofs.write_prefix.Met as write-front-thm
-use Rattle.slot_writer.proofs.write_most.Key.{name as #slot-writer·write-most}
-use Rattle.slot_writer.proofs.write_most as this
-use Rattle.slot_writer.proofs.+write_most as stated
-use Rattle.slot_writer.proofs.+write_most.Code as code
-use Rattle.slot_writer.proofs.+write_most.Code.write_most as mirs
+use Rattle.slot_writer_large.proofs.write_most.Key.{name as #slot-writer-large·write-most}
+use Rattle.slot_writer_large.proofs.write_most as this
+use Rattle.slot_writer_large.proofs.+write_most as stated
+use Rattle.slot_writer_large.proofs.+write_most.Code as code
+use Rattle.slot_writer_large.proofs.+write_most.Code.write_most as mirs
 
 module _ {M : Type 1} (𝓤 : URA M) (H : Heap 𝓤) (A : Atoms 𝓤) (W : Given 𝓤 H A) (mem : Memory → SProp 𝓤) (run : Routine → Fun 𝓤) (C : Calls 𝓤 H) (Λ : Loops 𝓤 H) (fm : FmC 𝓤 H (W .laws) C)
     (known₀ : Triple 𝓤 (C #slot-prefixes·slots-taken) (SlotsTaken 𝓤 H A mem run)) (known₁ : Triple 𝓤 (C #slot-columns·copy-out) (CopyOut 𝓤 H A mem run)) (known₂ : Triple 𝓤 (C #slot-prefixes·write-front) (WriteFront 𝓤 H A mem run)) (known₃ : Triple 𝓤 (C #slot-prefixes·bytes) (Bytes 𝓤 H A mem run)) where
@@ -159,7 +159,7 @@ unfolding code.write-most-routine tablesOf
     let T : Tables 𝓤 H = tablesOf 𝓤 H 𝓜 (tables 𝓤 H 𝓜 𝓡 code.env) in
     let W : Given 𝓤 H (𝓖 .A) = givenOf 𝓤 H 𝓜 𝓖 in
     entered 𝓤 H (tripleOf 𝓤 H (𝓖 .A) this.signature (this.spec 𝓤 H (𝓖 .A) (𝓜 .mem) (𝓡 .run)))
-    (tables 𝓤 H 𝓜 𝓡 code.env .C) (tables 𝓤 H 𝓜 𝓡 code.env .Λ) #slot-writer·write-most code.write-most-function (code.write-most-unfolded 𝓤 H 𝓜 𝓡)
+    (tables 𝓤 H 𝓜 𝓡 code.env .C) (tables 𝓤 H 𝓜 𝓡 code.env .Λ) #slot-writer-large·write-most code.write-most-function (code.write-most-unfolded 𝓤 H 𝓜 𝓡)
     (meets 𝓤 H (𝓖 .A) W (𝓜 .mem) (𝓡 .run) T code.write-most-function (walk 𝓤 H (𝓖 .A) W (𝓜 .mem) (𝓡 .run) (T .C) (T .Λ) (fmOf 𝓤 H (W .laws) T)
     (cited 𝓤 H (SlotsTaken 𝓤 H (𝓖 .A) (𝓜 .mem) (𝓡 .run)) 𝓜 𝓡 code.env #slot-prefixes·slots-taken slots-taken-def.routine code.calls-slot-prefixes·slots-taken (slots-taken-thm.met 𝓤 H 𝓜 𝓖 𝓡))
     (cited 𝓤 H (CopyOut 𝓤 H (𝓖 .A) (𝓜 .mem) (𝓡 .run)) 𝓜 𝓡 code.env #slot-columns·copy-out copy-out-def.routine code.calls-slot-columns·copy-out (copy-out-thm.met 𝓤 H 𝓜 𝓖 𝓡))

@@ -1,6 +1,6 @@
--- `slot_writer::write_many` meets its contract: a walk of its MIR, by hand, as that of `write_slots`. Where more slots are
--- taken than its arrays are for, they are handed on to `write_most`. It never calls itself, so no measure is asked for.
--- Assumes nothing.
+-- `slot_writer_large::write_many` meets its contract: a walk of its MIR, by hand, as that of `write_slots`. Where more
+-- slots are taken than its arrays are for, they are handed on to `write_most`. It never calls itself, so no measure is
+-- asked for. Assumes nothing.
 use mathlib.Core.Path.{refl, sym, ap, subst}
 use Prim.Native.Nat.{ℕ, _<_, _^_}
 use mathlib.Core.List.{[], _∷_, List}
@@ -45,15 +45,15 @@ use Rattle.slot_proofs.proofs.Lent.{at-list, lend, unlend, share, unshare, zero
 use Rattle.slot_proofs.proofs.Spelled.{formula-val, formula-typed}
 use Rattle.slot_columns.proofs.CopiedOut as Out
 use Rattle.slot_columns.proofs.CopiedOut.{CopyOut}
-use Rattle.slot_writer.proofs.Copied.{k, gk, P, N, D, long₁, long₂, long₃, copied-in, written-in, written-left}
-use Rattle.slot_writer.proofs.Copied.{gs, never-over}
-use Rattle.slot_writer.proofs.TakenCalled.{SlotsTaken, taken-bound, taken-asks, taken-has}
-use Rattle.slot_writer.proofs.TakenCalled.{Bytes, bytes-bound, bytes-asks, bytes-has}
-use Rattle.slot_writer.proofs.WrittenPrefix as Front
-use Rattle.slot_writer.proofs.WrittenPrefix.{WriteFront, written-typed}
-use Rattle.slot_writer.proofs.Writing.{args, Entry, Post, exits, meets}
-use Rattle.slot_writer.proofs.SlotsWritten as Done
-use Rattle.slot_writer.proofs.SlotsWritten.{WriteSlots}
+use Rattle.slot_writer_large.proofs.Copied.{k, gk, P, N, D, long₁, long₂, long₃, copied-in, written-in}
+use Rattle.slot_writer_large.proofs.Copied.{written-left, gs, never-over}
+use Rattle.slot_writer_large.proofs.TakenCalled.{SlotsTaken, taken-bound, taken-asks, taken-has}
+use Rattle.slot_writer_large.proofs.TakenCalled.{Bytes, bytes-bound, bytes-asks, bytes-has}
+use Rattle.slot_writer_large.proofs.WrittenPrefix as Front
+use Rattle.slot_writer_large.proofs.WrittenPrefix.{WriteFront, written-typed}
+use Rattle.slot_writer_large.proofs.Writing.{args, Entry, Post, exits, meets}
+use Rattle.slot_writer_large.proofs.SlotsWritten as Done
+use Rattle.slot_writer_large.proofs.SlotsWritten.{WriteSlots}
 use Rattle.slot_prefixes.proofs.slots_taken.Symbol as slots-taken-def
 use Rattle.slot_prefixes.proofs.slots_taken.Symbol.{name as #slot-prefixes·slots-taken}
 use Rattle.slot_prefixes.proofs.slots_taken.Met as slots-taken-thm
@@ -66,17 +66,17 @@ use Rattle.slot_prefixes.proofs.write_prefix.Met as write-front-thm
 use Rattle.slot_prefixes.proofs.bytes.Symbol as bytes-def
 use Rattle.slot_prefixes.proofs.bytes.Symbol.{name as #slot-prefixes·bytes}
 use Rattle.slot_prefixes.proofs.bytes.Met as bytes-thm
-use Rattle.slot_writer.proofs.write_most.Symbol as write-most-def
-use Rattle.slot_writer.proofs.write_most.Symbol.{name as #slot-writer·write-most}
-use Rattle.slot_writer.proofs.write_most.Met as write-most-thm
-use Rattle.slot_writer.proofs.write_many.Key.{name as #slot-writer·write-many}
-use Rattle.slot_writer.proofs.write_many as this
-use Rattle.slot_writer.proofs.+write_many as stated
-use Rattle.slot_writer.proofs.+write_many.Code as code
-use Rattle.slot_writer.proofs.+write_many.Code.write_many as mirs
+use Rattle.slot_writer_large.proofs.write_most.Symbol as write-most-def
+use Rattle.slot_writer_large.proofs.write_most.Symbol.{name as #slot-writer-large·write-most}
+use Rattle.slot_writer_large.proofs.write_most.Met as write-most-thm
+use Rattle.slot_writer_large.proofs.write_many.Key.{name as #slot-writer-large·write-many}
+use Rattle.slot_writer_large.proofs.write_many as this
+use Rattle.slot_writer_large.proofs.+write_many as stated
+use Rattle.slot_writer_large.proofs.+write_many.Code as code
+use Rattle.slot_writer_large.proofs.+write_many.Code.write_many as mirs
 
 module _ {M : Type 1} (𝓤 : URA M) (H : Heap 𝓤) (A : Atoms 𝓤) (W : Given 𝓤 H A) (mem : Memory → SProp 𝓤) (run : Routine → Fun 𝓤) (C : Calls 𝓤 H) (Λ : Loops 𝓤 H) (fm : FmC 𝓤 H (W .laws) C)
-    (known₀ : Triple 𝓤 (C #slot-prefixes·slots-taken) (SlotsTaken 𝓤 H A mem run)) (known₁ : Triple 𝓤 (C #slot-columns·copy-out) (CopyOut 𝓤 H A mem run)) (known₂ : Triple 𝓤 (C #slot-prefixes·write-front) (WriteFront 𝓤 H A mem run)) (known₃ : Triple 𝓤 (C #slot-writer·write-most) (WriteSlots 𝓤 H A mem run)) (known₄ : Triple 𝓤 (C #slot-prefixes·bytes) (Bytes 𝓤 H A mem run)) where
+    (known₀ : Triple 𝓤 (C #slot-prefixes·slots-taken) (SlotsTaken 𝓤 H A mem run)) (known₁ : Triple 𝓤 (C #slot-columns·copy-out) (CopyOut 𝓤 H A mem run)) (known₂ : Triple 𝓤 (C #slot-prefixes·write-front) (WriteFront 𝓤 H A mem run)) (known₃ : Triple 𝓤 (C #slot-writer-large·write-most) (WriteSlots 𝓤 H A mem run)) (known₄ : Triple 𝓤 (C #slot-prefixes·bytes) (Bytes 𝓤 H A mem run)) where
   module _ (κ₀ κ₁ κ₂ κ₃ : Lft) (q₀ q₁ q₂ q₃ : Share) (c₀ d₀ c₁ d₁ b o b₃ o₃ : ℕ) (δ₀ δ₁ γ δ₃ : GName) (f : Formula) (us vs : List ℕ) (ys : List Slot) (filled : ℕ) (os : List ℕ)
       (gf : Is F.the-row f (formula-val f ∷ [])) (room₀ : Room u64 (length us)) (room₁ : Room u64 (length vs)) (room : Room R (length ys)) (gc : filled < 2 ^ 32) (room₃ : Room u8 (length os)) where
     walk : ent 𝓤 (Entry 𝓤 H A W mem run κ₀ κ₁ κ₂ κ₃ q₀ q₁ q₂ q₃ c₀ d₀ c₁ d₁ b o b₃ o₃ δ₀ δ₁ γ δ₃ f us vs ys filled os)
@@ -180,10 +180,10 @@ unfolding code.write-many-routine tablesOf
     let T : Tables 𝓤 H = tablesOf 𝓤 H 𝓜 (tables 𝓤 H 𝓜 𝓡 code.env) in
     let W : Given 𝓤 H (𝓖 .A) = givenOf 𝓤 H 𝓜 𝓖 in
     entered 𝓤 H (tripleOf 𝓤 H (𝓖 .A) this.signature (this.spec 𝓤 H (𝓖 .A) (𝓜 .mem) (𝓡 .run)))
-    (tables 𝓤 H 𝓜 𝓡 code.env .C) (tables 𝓤 H 𝓜 𝓡 code.env .Λ) #slot-writer·write-many code.write-many-function (code.write-many-unfolded 𝓤 H 𝓜 𝓡)
+    (tables 𝓤 H 𝓜 𝓡 code.env .C) (tables 𝓤 H 𝓜 𝓡 code.env .Λ) #slot-writer-large·write-many code.write-many-function (code.write-many-unfolded 𝓤 H 𝓜 𝓡)
     (meets 𝓤 H (𝓖 .A) W (𝓜 .mem) (𝓡 .run) T code.write-many-function (walk 𝓤 H (𝓖 .A) W (𝓜 .mem) (𝓡 .run) (T .C) (T .Λ) (fmOf 𝓤 H (W .laws) T)
     (cited 𝓤 H (SlotsTaken 𝓤 H (𝓖 .A) (𝓜 .mem) (𝓡 .run)) 𝓜 𝓡 code.env #slot-prefixes·slots-taken slots-taken-def.routine code.calls-slot-prefixes·slots-taken (slots-taken-thm.met 𝓤 H 𝓜 𝓖 𝓡))
     (cited 𝓤 H (CopyOut 𝓤 H (𝓖 .A) (𝓜 .mem) (𝓡 .run)) 𝓜 𝓡 code.env #slot-columns·copy-out copy-out-def.routine code.calls-slot-columns·copy-out (copy-out-thm.met 𝓤 H 𝓜 𝓖 𝓡))
     (cited 𝓤 H (WriteFront 𝓤 H (𝓖 .A) (𝓜 .mem) (𝓡 .run)) 𝓜 𝓡 code.env #slot-prefixes·write-front write-front-def.routine code.calls-slot-prefixes·write-prefix (write-front-thm.met 𝓤 H 𝓜 𝓖 𝓡))
-    (cited 𝓤 H (WriteSlots 𝓤 H (𝓖 .A) (𝓜 .mem) (𝓡 .run)) 𝓜 𝓡 code.env #slot-writer·write-most write-most-def.routine code.calls-slot-writer·write-most (write-most-thm.met 𝓤 H 𝓜 𝓖 𝓡))
+    (cited 𝓤 H (WriteSlots 𝓤 H (𝓖 .A) (𝓜 .mem) (𝓡 .run)) 𝓜 𝓡 code.env #slot-writer-large·write-most write-most-def.routine code.calls-slot-writer-large·write-most (write-most-thm.met 𝓤 H 𝓜 𝓖 𝓡))
     (cited 𝓤 H (Bytes 𝓤 H (𝓖 .A) (𝓜 .mem) (𝓡 .run)) 𝓜 𝓡 code.env #slot-prefixes·bytes bytes-def.routine code.calls-slot-prefixes·bytes (bytes-thm.met 𝓤 H 𝓜 𝓖 𝓡))))

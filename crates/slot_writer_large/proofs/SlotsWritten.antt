@@ -34,7 +34,7 @@ use Rattle.slot_columns.specs.declared.Slot.{Slot}
 use Rattle.point_slices.specs.Slices.{clauseSlices}
 use Rattle.slot_columns.specs.Slots.{slotsIn}
 use Rattle.slot_columns.proofs.Row.{R}
-use Rattle.slot_writer.proofs.write_most as write-most
+use Rattle.slot_writer_large.proofs.write_most as write-most
 use Rattle.slot_proofs.proofs.Lent.{at-list}
 use Rattle.slot_proofs.proofs.Called.{Does, asked, answered}
 

@@ -40,7 +40,7 @@ use Rattle.slot_columns.specs.Slots.{slotsIn}
 use Rattle.slot_columns.proofs.Row.{R}
 use Rattle.slot_proofs.proofs.Lent.{at-list}
 use Rattle.slot_proofs.proofs.Spelled.{formula-val}
-use Rattle.slot_writer.proofs.write_most as this
+use Rattle.slot_writer_large.proofs.write_most as this
 
 abbrev stayed : Stays (this.ended .signature .params) (this.ended .kept)
 stayed = (stay-dropped (plain (λ _. F.the-row)) yes, (stay-dropped (shrSliceOf (0 ∷ []) tt (plain (λ _. u64))) yes, (stay-dropped (shrSliceOf (1 ∷ []) tt (plain (λ _. u64))) yes, (stay-dropped (shrSliceOf (2 ∷ []) tt (plain (λ _. R))) yes, (stay-dropped (plain (λ _. u32)) yes, (gave-slice (3 ∷ []) tt (plain (λ _. u8)), tt))))))

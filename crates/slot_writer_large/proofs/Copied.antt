@@ -18,7 +18,7 @@ use Rattle.slot_columns.specs.Laws.Copies.{front, Within}
 use Rattle.slot_columns.specs.Laws.SlotLaws.{front-length, column-long}
 use Rattle.slot_prefixes.specs.Laws.PrefixLaws.{taken, taken-takes, bytesIn}
 use Rattle.slot_proofs.proofs.Places.{places-many, places-in}
-use Rattle.slot_writer.specs.Laws.WriteLaws.{wrote-whole, wrote-fits}
+use Rattle.slot_writer_large.specs.Laws.WriteLaws.{wrote-whole, wrote-fits}
 
 -- the slots that are taken
 module _ (ys : List Slot) (filled : ℕ) where
