@@ -1,5 +1,5 @@
--- A call of `search_many` or `search_most`, which require that the formula is accepted, in a walk: what it asks for, and
--- what is had after it, or after one of `search_slots`. Assumes `Given`.
+-- A call of `search_many` or `search_most`, which require that the formula is accepted, in a walk: what it asks for,
+-- and what is had after it, or after one of `search_slots`. Assumes `Given`.
 use mathlib.Core.Path.{_≡_}
 use Prim.Native.Nat.{ℕ}
 use mathlib.Core.List.{List, [], _∷_}

@@ -1,6 +1,6 @@
--- `slot_search_again::search_many` meets its contract: a walk of its MIR, by hand, as that of `search_slots`. Where more
--- slots are lent than it has places these are handed on to `search_most`. It never calls itself, so no measure is asked
--- for. Assumes nothing.
+-- `slot_search_again::search_many` meets its contract: a walk of its MIR, by hand, as that of `search_slots`. Where
+-- more slots are lent than it has places these are handed on to `search_most`. It never calls itself, so no measure is
+-- asked for. Assumes nothing.
 use mathlib.Core.Path.{refl, sym, _∙_, ap, subst}
 use Prim.Native.Nat.{ℕ, _≤_}
 use native.Mathlib.Omega.{arith}
@@ -50,8 +50,8 @@ use Rattle.slot_columns.proofs.CopiedBack as Back
 use Rattle.slot_columns.proofs.CopiedBack.{CopyBack}
 use Rattle.slot_proofs.proofs.Spelled.{formula-val, formula-typed}
 use Rattle.slot_search_again.proofs.AnswerRead.{Filled, filled-bound, filled-asks, filled-has}
-use Rattle.slot_search_again.proofs.Fresh.{k, gk, searched-in, searched-accepted, n, gn, never-more, copied-in, Z}
-use Rattle.slot_search_again.proofs.Fresh.{same-count, all-lent, same-within, searched-left}
+use Rattle.slot_search_again.proofs.Fresh.{k, gk, searched-in, searched-accepted, n, gn, never-more, copied-in}
+use Rattle.slot_search_again.proofs.Fresh.{Z, same-count, all-lent, same-within, searched-left}
 use Rattle.slot_search_again.proofs.SearchedPrefix as Front
 use Rattle.slot_search_again.proofs.SearchedPrefix.{AcceptedFront, found-typed}
 use Rattle.slot_search_again.proofs.Searching.{args, Entry, Post, positive, negative, exits, accepted-meets}

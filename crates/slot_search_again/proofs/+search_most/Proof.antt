@@ -55,8 +55,8 @@ use Rattle.slot_columns.proofs.CopiedBack as Back
 use Rattle.slot_columns.proofs.CopiedBack.{CopyBack}
 use Rattle.slot_proofs.proofs.Spelled.{formula-val, formula-typed}
 use Rattle.slot_search_again.proofs.AnswerRead.{Filled, filled-bound, filled-asks, filled-has}
-use Rattle.slot_search_again.proofs.Fresh.{k, gk, searched-in, searched-accepted, n, gn, never-more, copied-in, Z}
-use Rattle.slot_search_again.proofs.Fresh.{same-count, searched-left}
+use Rattle.slot_search_again.proofs.Fresh.{k, gk, searched-in, searched-accepted, n, gn, never-more, copied-in}
+use Rattle.slot_search_again.proofs.Fresh.{Z, same-count, searched-left}
 use Rattle.slot_search_again.proofs.SearchedPrefix as Front
 use Rattle.slot_search_again.proofs.SearchedPrefix.{AcceptedFront, found-typed}
 use Rattle.slot_search_again.proofs.Searching.{args, Entry, Post, positive, negative, exits, accepted-meets}
