@@ -207,10 +207,31 @@ fn begin() -> State
     }
 }
 
+// The same state, field by field. A compiler copies a structure with the bytes that part its fields, and these, handed on
+// from line to line, would make each line wait for the one before.
+fn afresh(state: State) -> State
+    ensures { λ r. ⌜ r ≡ state ⌝ }
+{
+    let begun = state.begun;
+    let wanted = state.wanted;
+    State {
+        begun: Begun {
+            closed: begun.closed,
+            positive: begun.positive,
+            negative: begun.negative,
+        },
+        wanted: Wanted {
+            found: wanted.found,
+            target: wanted.target,
+        },
+        permutations: state.permutations,
+    }
+}
+
 // N3: "then the first fault in text order": the lines behind the one that ends at `end`. A byte of a comment is visited
-// at most twice to find its line's end, at most fifteen times as part of a head, and at most four times more; one of
-// another line at most six times. So the work is linear in the text. `dimacs_lines::collect` sees to what it requires:
-// refusals 1 and 3, slices with room for C clauses, images of zeros.
+// at most three times to find its line's end, at most fifteen times as part of a head, and at most four times more; one
+// of another line at most six times. So the work is linear in the text. `dimacs_lines::collect` sees to what it
+// requires: refusals 1 and 3, slices with room for C clauses, images of zeros.
 pub fn read_lines(
     text: &[u8],
     end: usize,
@@ -234,7 +255,8 @@ pub fn read_lines(
         let Checked::Passed = answer else {
             return step;
         };
-        state = step.state;
+        let told = step.state;
+        state = afresh(told);
         last = part.stop;
     }
     Advanced {

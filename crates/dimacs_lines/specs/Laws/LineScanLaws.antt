@@ -305,12 +305,14 @@ module _ {z : Sizes} {text : List ℕ} {end : ℕ} where
         pub passing-later : r .advanced .answer ≡ Passed → (last < r .stop) × (r .stop ≤ length text)
         passing-later e = let w = where-told ((last + 1 ≤ r .stop) × (r .stop ≤ length text)) e (k .within) in (let l = w .0 in omega arith, w .1)
 
-        pub passing-goes-on : r .advanced .answer ≡ Passed → Passing z text end clauses₁ images₁ (r .advanced .state) (r .stop)
-        passing-goes-on e =
-            record {
+        pub passing-goes-on : r .advanced .answer ≡ Passed → {s₁ : State} → s₁ ≡ r .advanced .state
+            → Passing z text end clauses₁ images₁ s₁ (r .stop)
+        passing-goes-on e same =
+            subst (λ t. Passing z text end clauses₁ images₁ t (r .stop)) (sym same)
+            (record {
               standing = where-told (Standing z (r .advanced .state) clauses₁ images₁) e (k .stands);
               size = a .size;
               within = passing-later e .1;
               left = stepped ∙ then-passed (r .advanced .answer)
                   (progressFrom (z .variables) clauses₁ images₁ (r .advanced .state)) (linesAfter z text (r .stop)) e;
-            }
+            })
