@@ -9,13 +9,11 @@ use Rattle.formula.specs.Reply.{Reply, refused}
 use Rattle.claims.specs.Claim.{Sheet, from-text, formulaIn}
 use Rattle.solver.specs.Solver.{blank, sheetReply}
 use Rattle.program_text.specs.Report.{reportOf}
+use Rattle.program_search.specs.Slots.{slots}
 
 -- P1: "The program `nearest` reads standard input, a sheet of at most 65,536 bytes, with 4,096 slots."
 abbrev pub maxInput : ℕ
 maxInput = 65536
-
-abbrev pub slots : ℕ
-slots = 4096
 
 -- the sheet that an input is: the reader is lent slices for the most clauses
 abbrev pub sheetIn : List ℕ → Sheet

@@ -11,7 +11,8 @@ ghost use Rattle.claims.specs.Claim.{formulaIn};
 ghost use Rattle.solver.specs.Solver.{sheetReply};
 ghost use Rattle.program_text.specs.Report.{longestText, reportOf};
 ghost use Rattle.program_text.specs.Laws.Putting.{Printed};
-ghost use Rattle.program.specs.Program.{slots, sheetIn, printed};
+ghost use Rattle.program_search.specs.Slots.{slots};
+ghost use Rattle.program.specs.Program.{sheetIn, printed};
 
 // P1: "a sheet of at most 65,536 bytes"
 pub const MAX_INPUT: usize = 65536;

@@ -1,2 +1,3 @@
--- What the functions that search a sheet promise, and the laws that their proofs use.
+-- How many slots a sheet is searched with, and the laws that the proofs use.
+pub mod Slots
 pub mod Laws

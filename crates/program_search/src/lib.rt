@@ -18,7 +18,8 @@ ghost use Rattle.search.specs.Contract.{replyOfFound};
 ghost use Rattle.search.specs.Search.{searchReply};
 ghost use Rattle.program_text.specs.Report.{longestText, reportOf};
 ghost use Rattle.program_text.specs.Laws.Putting.{Printed};
-ghost use Rattle.program_search.specs.Laws.SettlingLaws.{slots, Settles};
+ghost use Rattle.program_search.specs.Slots.{slots};
+ghost use Rattle.program_search.specs.Laws.SettlingLaws.{Settles};
 
 // P1: "with 4,096 slots"
 const SLOTS: usize = 4096;

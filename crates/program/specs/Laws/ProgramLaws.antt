@@ -20,7 +20,8 @@ use Rattle.claims.specs.Claim.{formulaIn, slicesIn}
 use Rattle.solver.specs.Solver.{blank, afterReading, sheetReply}
 use Rattle.program_text.specs.Report.{refusedText, reportOf}
 use Rattle.program_text.specs.Laws.Putting.{Printed}
-use Rattle.program.specs.Program.{slots, maxInput, sheetIn, replyTo, printed}
+use Rattle.program_search.specs.Slots.{slots}
+use Rattle.program.specs.Program.{maxInput, sheetIn, replyTo, printed}
 
 -- ---- the clauses
 

@@ -11,7 +11,8 @@ use Rattle.formula.specs.Reply.{Reply}
 use Rattle.search.specs.Search.{searchReply}
 use Rattle.program_text.specs.Report.{reportOf}
 use Rattle.program_text.specs.Laws.Putting.{Printed}
-use Rattle.program_search.specs.Laws.SettlingLaws.{slots, slots-lent, clauses-there}
+use Rattle.program_search.specs.Slots.{slots}
+use Rattle.program_search.specs.Laws.SettlingLaws.{slots-lent, clauses-there}
 use Rattle.program_search.proofs.search_again.Reads as search-again
 use Rattle.program_search.proofs.search_again.Kinds as search-again-kinds
 use Rattle.point_slices.proofs.clause_count.Reads as clause-count

@@ -14,12 +14,9 @@ use Rattle.formula.specs.Laws.ReplyLaws.{satisfiable-not-unknown, unsatisfiable
 use Rattle.formula.specs.Reply.{Reply, refused, satisfiable, unsatisfiable, unknown}
 use Rattle.search.specs.Laws.Accepted.{more-answers}
 use Rattle.search.specs.Search.{searchReply}
+use Rattle.program_search.specs.Slots.{slots}
 
 -- ---- the slots
-
--- how many slots there are: the number that `program/specs/Program` has, where it says what is printed
-abbrev pub slots : ℕ
-slots = 4096
 
 -- as many places in each slot slice are as many slots
 pub slots-lent : (k : ℕ) → k ≤ maxSlots → capacity (slotSlices (replicate k 0) (replicate k 0) (replicate k 0)) ≡ k
