@@ -92,16 +92,25 @@ struct Spot {
     link: usize,
 }
 
-// Goes the way to a clause, by its two heads and then its digits, until a guess is right or a link is 0. Where it is
-// right, the clause is among those of the slices. At most 130 comparisons, about one where hashes differ.
-fn way_to(positive: &[u64], negative: &[u64], guesses: &[u32], heads: usize, c: Clause) -> Spot
+// Goes the way to a clause of this hash, by its two heads and then its digits, from the link behind so many steps on,
+// until a guess is right or a link is 0. Where it is right, the clause is among those of the slices. At most 130
+// comparisons, about one where hashes differ.
+fn way_on(
+    positive: &[u64],
+    negative: &[u64],
+    guesses: &[u32],
+    heads: usize,
+    c: Clause,
+    hash: usize,
+    from: usize,
+    steps: u32,
+) -> Spot
     requires { ⌜ heads ≤ 8192 ⌝ }
     ensures { λ r. ⌜ (r .held ≡ true → any (sameClause (clauseOf c))
         (lentClauses (now (positive .entry)) (now (negative .entry))) ≡ true) ⌝ }
 {
-    let hash = clause_hash(c);
-    let mut link = head_of(hash, heads);
-    let mut d = 0;
+    let mut link = from;
+    let mut d = steps;
     while d < STEPS {
         let number = number_at(guesses, link);
         if number == 0 {
@@ -117,9 +126,20 @@ fn way_to(positive: &[u64], negative: &[u64], guesses: &[u32], heads: usize, c: 
     Spot { held: false, link }
 }
 
+// The whole way to a clause.
+fn way_to(positive: &[u64], negative: &[u64], guesses: &[u32], heads: usize, c: Clause) -> Spot
+    requires { ⌜ heads ≤ 8192 ⌝ }
+    ensures { λ r. ⌜ (r .held ≡ true → any (sameClause (clauseOf c))
+        (lentClauses (now (positive .entry)) (now (negative .entry))) ≡ true) ⌝ }
+{
+    let hash = clause_hash(c);
+    let head = head_of(hash, heads);
+    way_on(positive, negative, guesses, heads, c, hash, head, 0)
+}
+
 // Whether a guess for the clause is right: then it is among those of the slices. The first guess is tried here, since it
-// is right as a rule: a compiler puts these few steps into the caller, and the whole way stays apart, where it begins
-// with that guess again. At most 131 comparisons.
+// is right as a rule: a compiler puts these few steps into the caller, and the rest of the way stays apart. At most 130
+// comparisons.
 pub(crate) fn guessed(
     positive: &[u64],
     negative: &[u64],
@@ -134,12 +154,15 @@ pub(crate) fn guessed(
     let hash = clause_hash(c);
     let head = head_of(hash, heads);
     let number = number_at(guesses, head);
-    if number != 0 {
-        if stands_at(positive, negative, number as usize - 1, c) {
-            return true;
-        }
+    if number == 0 {
+        return false;
     }
-    let spot = way_to(positive, negative, guesses, heads, c);
+    let i = number as usize - 1;
+    if stands_at(positive, negative, i, c) {
+        return true;
+    }
+    let second = link_after(heads, i, c, hash, 0);
+    let spot = way_on(positive, negative, guesses, heads, c, hash, second, 1);
     spot.held
 }
 

@@ -1,10 +1,11 @@
 -- `permutation_symmetry::guesses::guessed` meets its contract: it says so only where a comparison does. Assumes nothing.
+use mathlib.Core.Bool.{false≢true}
 use borrow.Author.Needs.{needs}
 use Rattle.permutation_symmetry.proofs.guesses.guessed.Statement.{statement}
 use Rattle.permutation_symmetry.proofs.guesses.guessed.Tie as tie
 
-returns : tie.Need-returns
-returns c e = c .before .stands-at .ensures (c .if2 .taken)
+returns-2 : tie.Need-returns-2
+returns-2 c e = c .before .stands-at .ensures (c .if2 .taken)
 
 pub guessed-spec : {M : Type 1} → statement M
 guessed-spec =
@@ -13,9 +14,11 @@ guessed-spec =
     (λ c κs. search needs)
     (λ c κs. search needs)
     (λ c κs. search needs)
+    (λ c e. absurd (false≢true e))
     (λ c. search needs)
     (λ c. search needs)
     (λ c κs. search needs)
-    returns
+    returns-2
+    (λ c κs. search needs)
     (λ c κs. search needs)
     (λ c. search needs))
