@@ -132,8 +132,8 @@ pub fn permutations_refusal(n: u32, permutations: u32, images: &[u8]) -> Checked
 }
 
 // Refusal 12. For each permutation the image of each clause that it changes takes about one comparison where the guesses
-// have it, and never more than 130 and one with each clause: with 16 permutations and 4,096 clauses at most 16 · 4,096 ·
-// 4,226. No permutation costs nothing. Refusals 10 and 11 see to what it requires.
+// have it, and never more than 129 and one with each clause: with 16 permutations and 4,096 clauses at most 16 · 4,096 ·
+// 4,225. No permutation costs nothing. Refusals 10 and 11 see to what it requires.
 pub fn symmetry_refusal(
     n: u32,
     permutations: u32,

@@ -11,6 +11,7 @@ use point_slices::least;
 use point_slices::number_at;
 use point_slices::put_number;
 use points::Clause;
+use points::Point;
 ghost use mathlib.Core.Bool.{true};
 ghost use mathlib.Core.Path.{_≡_};
 ghost use Prim.Native.Nat.{_≤_, _<_};
@@ -29,12 +30,6 @@ const MOST_CLAUSES: usize = 4096;
 
 pub(crate) const MOST_HEADS: usize = 2 * MOST_CLAUSES;
 
-// How many digits a clause has: those of its two sets.
-const DIGITS: u32 = 2 * points::DIGITS;
-
-// How many links the way to a clause has at most: its two heads, and one for each digit.
-const STEPS: u32 = DIGITS + 2;
-
 // The hash of a clause, by those of its two sets. The factor keeps clauses apart whose two sets are exchanged.
 fn clause_hash(c: Clause) -> usize
     ensures { λ r. ⌜ r < 4294967296 ⌝ }
@@ -51,26 +46,20 @@ fn head_of(hash: usize, heads: usize) -> usize
     hash * heads / 4294967296
 }
 
-// A digit of a clause: those of the set of its positive literals come first.
-fn digit_of(c: Clause, d: u32) -> bool {
-    if d < points::DIGITS {
-        points::member(c.positive, d)
-    } else {
-        points::member(c.negative, d - points::DIGITS)
-    }
+// The second head link of a clause, by the hash of its hash.
+fn second_head(hash: usize, heads: usize) -> usize
+    requires { ⌜ heads ≤ 8192 ⌝ }
+{
+    let again = hash_of(hash as u64);
+    head_of(again, heads)
 }
 
-// The link after step d on the way to c: first its second head, by the hash of its hash; then that of the clause at
-// index i for the next digit of c.
-fn link_after(heads: usize, i: usize, c: Clause, hash: usize, d: u32) -> usize
+// The link of the clause at index i for clauses that differ from it, by their next digit.
+fn link_of(heads: usize, i: usize, digit: bool) -> usize
     requires { ⌜ (heads ≤ 8192) × (i ≤ 4294967296) ⌝ }
 {
-    if d == 0 {
-        let again = hash_of(hash as u64);
-        return head_of(again, heads);
-    }
     let first = heads + 2 * i;
-    if digit_of(c, d - 1) { first + 1 } else { first }
+    if digit { first + 1 } else { first }
 }
 
 // Whether the clause at index i is the clause c.
@@ -86,60 +75,107 @@ fn stands_at(positive: &[u64], negative: &[u64], i: usize, c: Clause) -> bool
     crate::same_clause(c, d)
 }
 
-// Where the way to a clause ended: whether at the clause itself, and the link.
+// Where the way to a clause has come to: whether to the clause itself, or to a link that is 0, and the link.
 struct Spot {
     held: bool,
+    free: bool,
     link: usize,
 }
 
-// Goes the way to a clause of this hash, by its two heads and then its digits, from the link behind so many steps on,
-// until a guess is right or a link is 0. Where it is right, the clause is among those of the slices. At most 130
-// comparisons, about one where hashes differ.
-fn way_on(
+// Goes the way to a clause by the digits of one of its two sets, from a link on, until a guess is right, a link is 0, or
+// there is no digit left. Where it is right, the clause is among those of the slices. At most 64 comparisons.
+fn way_along(
     positive: &[u64],
     negative: &[u64],
     guesses: &[u32],
     heads: usize,
     c: Clause,
-    hash: usize,
+    s: Point,
     from: usize,
-    steps: u32,
 ) -> Spot
     requires { ⌜ heads ≤ 8192 ⌝ }
     ensures { λ r. ⌜ (r .held ≡ true → any (sameClause (clauseOf c))
         (lentClauses (now (positive .entry)) (now (negative .entry))) ≡ true) ⌝ }
 {
     let mut link = from;
-    let mut d = steps;
-    while d < STEPS {
+    let mut d = 0;
+    while d < points::DIGITS {
         let number = number_at(guesses, link);
         if number == 0 {
-            break;
+            return Spot {
+                held: false,
+                free: true,
+                link,
+            };
         }
         let i = number as usize - 1;
         if stands_at(positive, negative, i, c) {
-            return Spot { held: true, link };
+            return Spot {
+                held: true,
+                free: false,
+                link,
+            };
         }
-        link = link_after(heads, i, c, hash, d);
+        let digit = points::member(s, d);
+        link = link_of(heads, i, digit);
         d += 1;
     }
-    Spot { held: false, link }
+    Spot {
+        held: false,
+        free: false,
+        link,
+    }
 }
 
-// The whole way to a clause.
+// The way to a clause behind its first head: by the digits of its positive literals, then by those of the others.
+fn way_behind(
+    positive: &[u64],
+    negative: &[u64],
+    guesses: &[u32],
+    heads: usize,
+    c: Clause,
+    from: usize,
+) -> Spot
+    requires { ⌜ heads ≤ 8192 ⌝ }
+    ensures { λ r. ⌜ (r .held ≡ true → any (sameClause (clauseOf c))
+        (lentClauses (now (positive .entry)) (now (negative .entry))) ≡ true) ⌝ }
+{
+    let spot = way_along(positive, negative, guesses, heads, c, c.positive, from);
+    if spot.held | spot.free {
+        return spot;
+    }
+    way_along(positive, negative, guesses, heads, c, c.negative, spot.link)
+}
+
+// The way to a clause, by its two heads and then its digits. At most 129 comparisons, about one where hashes differ.
 fn way_to(positive: &[u64], negative: &[u64], guesses: &[u32], heads: usize, c: Clause) -> Spot
     requires { ⌜ heads ≤ 8192 ⌝ }
     ensures { λ r. ⌜ (r .held ≡ true → any (sameClause (clauseOf c))
         (lentClauses (now (positive .entry)) (now (negative .entry))) ≡ true) ⌝ }
 {
     let hash = clause_hash(c);
-    let head = head_of(hash, heads);
-    way_on(positive, negative, guesses, heads, c, hash, head, 0)
+    let link = head_of(hash, heads);
+    let number = number_at(guesses, link);
+    if number == 0 {
+        return Spot {
+            held: false,
+            free: true,
+            link,
+        };
+    }
+    if stands_at(positive, negative, number as usize - 1, c) {
+        return Spot {
+            held: true,
+            free: false,
+            link,
+        };
+    }
+    let second = second_head(hash, heads);
+    way_behind(positive, negative, guesses, heads, c, second)
 }
 
 // Whether a guess for the clause is right: then it is among those of the slices. The first guess is tried here, since it
-// is right as a rule: a compiler puts these few steps into the caller, and the rest of the way stays apart. At most 130
-// comparisons.
+// is right as a rule: a compiler puts these few steps into the caller, and the rest of the way stays apart.
 pub(crate) fn guessed(
     positive: &[u64],
     negative: &[u64],
@@ -157,12 +193,11 @@ pub(crate) fn guessed(
     if number == 0 {
         return false;
     }
-    let i = number as usize - 1;
-    if stands_at(positive, negative, i, c) {
+    if stands_at(positive, negative, number as usize - 1, c) {
         return true;
     }
-    let second = link_after(heads, i, c, hash, 0);
-    let spot = way_on(positive, negative, guesses, heads, c, hash, second, 1);
+    let second = second_head(hash, heads);
+    let spot = way_behind(positive, negative, guesses, heads, c, second);
     spot.held
 }
 

@@ -83,7 +83,7 @@ fn image_stands(
 
 // Whether the image of each clause is among the clauses: n steps for the permutation; then, for each clause that it
 // changes, one step for each literal moved, or 2n where these are many, and about one comparison where the guesses have
-// its image, never more than 130 and one a clause.
+// its image, never more than 129 and one a clause.
 fn keeps(e: &[u8], positive: &[u64], negative: &[u64], guesses: &[u32], heads: usize) -> bool
     requires { ⌜ Movable (now e) × (heads ≤ 8192) ⌝ }
     ensures { λ r. ⌜ r ≡ keeps (numbered (lentClauses (now (positive .entry)) (now (negative .entry))))
