@@ -1,6 +1,7 @@
 // Certificates: those of document 01's worked cases byte for byte, document 002's 14 points as a certificate from
-// elsewhere, whole and with one field damaged at a time, and everything from a text to a checked certificate, in one
-// call and step by step. Prints a line a case and a count; exit status 1 if one is not as expected.
+// elsewhere, whole and with one field damaged at a time, certificates at the sizes of the checker's arrays, and
+// everything from a text to a checked certificate, in one call and step by step. Prints a line a case and a count; exit
+// status 1 if one is not as expected.
 mod library;
 mod sheets;
 use library::{
@@ -284,6 +285,24 @@ fn end_to_end(count: &mut Count) {
     }
 }
 
+// The checker at the sizes of its arrays. Every point falsifies the clause without literals, which has no flips, so that
+// any points are a certificate unless the last repeats the first.
+fn array_sizes(count: &mut Count) {
+    let s = sheet(17, &[(0, 0)], &[]);
+    for size in [64, 1024, 8192, 65536].into_iter().flat_map(|size| [size - 1, size, size + 1]) {
+        let mut points: Vec<u64> = (0..size).collect();
+        let numbers = vec![1; points.len()];
+        let too_many = [REFUSED, 16, 0, 0];
+        let file = File::new(17, 1, &[], &points, &numbers).bytes();
+        let wanted = if size > 65536 { too_many } else { [ACCEPTED, 0, 0, 0] };
+        count.compare(&format!("{size} points"), checked(&s, &file), wanted);
+        points[size as usize - 1] = 0;
+        let file = File::new(17, 1, &[], &points, &numbers).bytes();
+        let wanted = if size > 65536 { too_many } else { [REFUSED, 16, size, 0] };
+        count.compare(&format!("{size} points, the last the first"), checked(&s, &file), wanted);
+    }
+}
+
 // Every other answer of the solver leaves the output as it was, and a refusal the slots too.
 fn other_answers(count: &mut Count) {
     let a = text(2, &formula_a(), &[]);
@@ -341,6 +360,7 @@ fn main() {
     damaged_lengths(&mut count);
     damaged_permutations(&mut count);
     damaged_entries(&mut count);
+    array_sizes(&mut count);
     end_to_end(&mut count);
     other_answers(&mut count);
     no_place(&mut count);

@@ -1,5 +1,5 @@
 // The search at the sizes where it goes from one index to a larger one, beside the implementation of reference.rs:
-// numbers of slots around 512 and 8,192, less the variables that one step may flip, and the most. Replies, slots and
+// numbers of slots around 128, 512 and 8,192, less the variables that one step may flip, and the most. Replies, slots and
 // what lies behind them are compared. Prints how many searches were compared; exit status 1 if one differs.
 mod lending;
 mod library;
@@ -24,7 +24,8 @@ fn same(text: &[u8], slots: usize) -> bool {
 fn main() {
     let around =
         |heads: usize| [heads - VARIABLES - 1, heads - VARIABLES, heads - VARIABLES + 1, heads - 1, heads, heads + 1];
-    let sizes = [vec![1, 2], around(512).to_vec(), around(8192).to_vec(), vec![65535, 65536, 65537]].concat();
+    let stages = [128, 512, 8192].map(|heads| around(heads).to_vec()).concat();
+    let sizes = [vec![1, 2], stages, vec![65535, 65536, 65537]].concat();
     let mut differing = 0;
     let mut compared = 0;
     for permutations in [vec![], sheets::swaps(HOLES)] {
