@@ -144,7 +144,7 @@ fn next_image(bytes: &[u8], cursor: Cursor, n: u32) -> Image
 }
 
 // The numbers of a permutation line, into a part of n bytes; whether they are n numbers. A byte of the line is visited
-// once, the first of a word twice.
+// once, and once more where a word begins or ends.
 fn store_numbers(bytes: &[u8], n: u32, part: &mut [u8]) -> bool
     requires { ⌜ (n ≤ maxVariables) × (length (now part) ≡ n) ⌝ }
     ensures { λ r. ⌜ Storing n (now (bytes .entry)) (now (part .exit)) r ⌝ }
