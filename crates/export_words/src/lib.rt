@@ -16,17 +16,19 @@ use solver::Solution;
 ghost use mathlib.Core.List.{[], _∷_};
 ghost use mathlib.Core.Path.{_≡_};
 ghost use Prim.Native.Nat.{_≤_};
-ghost use lib.ListN.{length, take};
+ghost use lib.ListN.{length, take, replicate};
 ghost use Rattle.math.specs.Lists.{over};
 ghost use Rattle.formula.specs.Limits.{maxImages};
 ghost use Rattle.formula.specs.Laws.Contracts.{formulaWith};
 ghost use Rattle.export_words.specs.Words.{imagesFrom, formulaFrom, numbersOf, wordsOf, isParsed, putIfParsed};
+ghost use mathlib.Core.Bool.{true};
 ghost use mathlib.Core.Option.{some};
 ghost use Rattle.dimacs_lines.specs.Reply.{replyOfParse};
 ghost use Rattle.search.specs.Contract.{replyOfFound};
 ghost use Rattle.certificate_writer.specs.Contract.{replyOfWritten};
 ghost use Rattle.certificate.specs.Contract.{handedOut, entryOf, contentsIn, replyOfOpened};
 ghost use Rattle.checker.specs.Contract.{replyOfVerdict};
+ghost use Rattle.export_words.specs.Laws.WordLaws.{Unused};
 ghost use Rattle.export_words.specs.Replies.{entryWords, contentsWords, settledWords};
 
 // How many words an answer takes.
@@ -85,9 +87,35 @@ pub fn put_words(to: &mut [u64], a: u64, b: u64, c: u64, d: u64)
     to[3] = d;
 }
 
-// Writes a formula's four numbers and its images; `put_parsed` sees to the room. One step a byte of the images.
+// Makes the first `count` bytes of a slice 0. One step a byte.
+fn clear_bytes(to: &mut [u8], count: usize)
+    requires { ⌜ count ≤ length (now to) ⌝ }
+    ensures { λ _. ⌜ now (to .exit) ≡ over (replicate count 0) (now (to .entry)) ⌝ }
+{
+    let mut i = 0;
+    while i < count {
+        to[i] = 0;
+        i += 1;
+    }
+}
+
+// Writes a formula's images. Where there are no permutations they are zeros, which need not be read. One step a byte.
+// `put_formula` sees to what it requires.
+fn put_held(images: &mut [u8], permutations: u32, held: &[u8])
+    requires { ⌜ (maxImages ≤ length (now images)) × (length (now held) ≡ maxImages) × Unused permutations (now held) ⌝ }
+    ensures { λ _. ⌜ now (images .exit) ≡ over (now (held .entry)) (now (images .entry)) ⌝ }
+{
+    if permutations == 0 {
+        clear_bytes(images, Formula::MAX_IMAGES);
+    } else {
+        copy_bytes(images, held, Formula::MAX_IMAGES);
+    }
+}
+
+// Writes a formula's four numbers and its images; `put_parsed` sees to what it requires.
 fn put_formula(numbers: &mut [u64], images: &mut [u8], f: Numbers, held: &[u8])
-    requires { ⌜ (4 ≤ length (now numbers)) × (maxImages ≤ length (now images)) × (length (now held) ≡ maxImages) ⌝ }
+    requires { ⌜ (4 ≤ length (now numbers)) × (maxImages ≤ length (now images)) × (length (now held) ≡ maxImages)
+        × Unused (f .permutations) (now held) ⌝ }
     ensures { λ _. ⌜ (now (numbers .exit) ≡ over (numbersOf (formulaWith f (now (held .entry)))) (now (numbers .entry)))
         × (now (images .exit) ≡ over (now (held .entry)) (now (images .entry))) ⌝ }
 {
@@ -98,7 +126,7 @@ fn put_formula(numbers: &mut [u64], images: &mut [u8], f: Numbers, held: &[u8])
         f.target,
         f.permutations as u64,
     );
-    copy_bytes(images, held, Formula::MAX_IMAGES);
+    put_held(images, f.permutations, held);
 }
 
 // How many words an entry of a body takes, and how many a file's contents.
@@ -126,7 +154,7 @@ fn put_parse(reply: &mut [u64], r: Parse) -> bool
 
 // Writes the words of the reader's answer and, where the text is read, the formula of the numbers and of the images
 // that are held. D1.2: "after a refusal each lent slice holds what it held before". The callers see to the room for all
-// of it.
+// of it, and have the images from the reader.
 pub fn put_parsed(
     numbers: &mut [u64],
     images: &mut [u8],
@@ -135,7 +163,8 @@ pub fn put_parsed(
     held: &[u8],
 )
     requires { ⌜ (4 ≤ length (now numbers)) × (maxImages ≤ length (now images)) × (4 ≤ length (now reply))
-        × (length (now held) ≡ maxImages) ⌝ }
+        × (length (now held) ≡ maxImages)
+        × (isParsed (replyOfParse (r .answer)) ≡ true → Unused (r .numbers .permutations) (now held)) ⌝ }
     ensures { λ _. ⌜ (now (numbers .exit) ≡ putIfParsed (replyOfParse (r .answer))
         (numbersOf (formulaWith (r .numbers) (now (held .entry)))) (now (numbers .entry)))
         × (now (images .exit) ≡ putIfParsed (replyOfParse (r .answer)) (now (held .entry)) (now (images .entry)))

@@ -7,15 +7,13 @@ use Rattle.dimacs_words.proofs.line_end.Tie as tie
 
 returns : tie.Need-returns
 returns c =
-    let far = c .before .before .skip-blocks .ensures in
-    let near = c .before .skip-blocks2 .ensures in
-    run-joins (far .ordered) (far .passes) (run-joins (near .ordered) (near .passes) (c .run-end .ensures))
+    let near = c .before .skip-blocks .ensures in
+    run-joins (near .ordered) (near .passes) (c .run-end .ensures)
 
 pub line-end-spec : {M : Type 1} → statement M
 line-end-spec =
     tie.close
     (tie.spec
-    (λ c κs. search needs)
     (λ c κs. search needs)
     (λ c κs. search needs)
     returns)

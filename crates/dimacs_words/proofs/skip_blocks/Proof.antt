@@ -12,15 +12,15 @@ use Rattle.dimacs_words.proofs.skip_blocks.Statement.{statement}
 use Rattle.dimacs_words.proofs.skip_blocks.Tie as tie
 
 abbrev Inv-loop : tie.InvT-loop
-Inv-loop text from block i₀ i = Skipped text from i
+Inv-loop text from i₀ i = Skipped text from i
 
 abbrev μ-loop : tie.MeasureT-loop
-μ-loop text from block i₀ i = length text - i
+μ-loop text from i₀ i = length text - i
 
 loop-holds : tie.Need-loop-holds Inv-loop μ-loop
 loop-holds c = record {
   ordered = le-refl (c .before .args .from);
-  within = c .before .pre .0;
+  within = c .before .pre;
   passes = run-begins (belongs Line) (c .before .args .text .now) (c .before .args .from);
 }
 
@@ -31,7 +31,7 @@ returns : tie.Need-returns Inv-loop μ-loop
 returns c = c .before .before .before .before .loop .inv
 
 loop-less : tie.Need-loop-less Inv-loop μ-loop
-loop-less c = omega (arith, c .before .before .before .loop-test .taken, c .before .before .before .before .before .before .pre .1)
+loop-less c = omega (arith, c .before .before .before .loop-test .taken)
 
 loop-again : tie.Need-loop-again Inv-loop μ-loop
 loop-again c =

@@ -9,7 +9,9 @@ put-parse-requires : tie.Need-put-parse-requires
 put-parse-requires c κs = search needs
 
 put-formula-requires : tie.Need-put-formula-requires
-put-formula-requires c κs = search needs
+put-formula-requires c κs =
+    let p = c .before .before .before .before .before .before .before .before .before .before .before .before .pre in
+    (p .0, p .1, p .3, p .4 (sym (c .before .before .before .before .before .put-parse .ensures .1) ∙ c .before .before .if1 .taken))
 
 returns : tie.Need-returns
 returns c =

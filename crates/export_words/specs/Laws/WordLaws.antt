@@ -17,6 +17,10 @@ use Rattle.dimacs_lines.specs.Laws.ParsedAs.{parsedIn}
 use Rattle.dimacs_lines.specs.Reply.{replyOfParse}
 use Rattle.export_words.specs.Words.{imagesFrom, formulaFrom, isParsed, putIfParsed}
 
+-- S21: "the reader makes unused bytes 0": where there are no permutations, all of them
+abbrev pub Unused : ℕ → List ℕ → Type 0
+Unused permutations images = permutations ≡ 0 → images ≡ replicate maxImages 0
+
 -- words put for the case that an answer is are the words of the answer
 pub case-words : {A : Type 0} {r s : A} {new : List ℕ} → r ≡ s → (words : A → List ℕ) (old : List ℕ)
     → new ≡ over (words s) old → new ≡ over (words r) old

@@ -1,23 +1,31 @@
--- With room for the answer the exported reader tells what the reader answers; without, it tells nothing. Assumes
--- nothing.
-use mathlib.Core.Bool.{Bool, false, _&&_}
+-- With room for the answer the exported reader tells what the reader answers; without, it tells nothing. What is read
+-- without permutations has no images. Assumes nothing.
+use mathlib.Core.Bool.{Bool, true, false, _&&_, true≢false}
 use mathlib.Core.List.{List}
-use mathlib.Core.Path.{_≡_, refl, ap, ap₂, _∙_}
-use Prim.Native.Nat.{ℕ, _≤_, _<_}
+use mathlib.Core.Path.{_≡_, refl, sym, ap, ap₂, _∙_, subst}
+use Prim.Native.Nat.{ℕ, _*_, _-_, _≤_, _<_}
+use native.Mathlib.Nat.{zero-mul}
 use lib.Dec.{leb}
-use lib.ListN.{length}
+use lib.ListN.{length, drop, replicate}
 use borrow.Author.Tests.{le-leb, lt-leb}
 use Rattle.formula.specs.Limits.{maxImages}
 use Rattle.point_slices.specs.Slices.{ClauseSlices}
 use Rattle.math.specs.Lists.{over}
 use Rattle.formula.specs.declared.Formula.{Formula}
+use Rattle.formula.specs.declared.Numbers.{Numbers}
 use Rattle.formula.specs.Reply.{Reply}
+use Rattle.dimacs_format.specs.Laws.Handed.{Handed, accepted-handed}
+use Rattle.dimacs_lines.specs.declared.Parse.{Parse}
+use Rattle.dimacs_lines.specs.declared.Parse.the-variants.{Accepted, Refused}
 use Rattle.dimacs_lines.specs.declared.Parsed.{Parsed}
+use Rattle.dimacs_lines.specs.declared.ParsedNumbers.{ParsedNumbers}
+use Rattle.dimacs_lines.specs.Laws.ParsedAs.{parsedIn}
 use Rattle.dimacs_lines.specs.Reply.{replyOfParse}
 use Rattle.dimacs.specs.Contract.{Read}
 use Rattle.exports.specs.Reading.{hasFormulaRoom, ReadReturns}
 use Rattle.export_words.specs.Laws.RoomLaws.{with-room, without-room}
-use Rattle.export_words.specs.Words.{wordsOf, hasRoom, numbersOf, putIfParsed}
+use Rattle.export_words.specs.Laws.WordLaws.{Unused}
+use Rattle.export_words.specs.Words.{wordsOf, hasRoom, numbersOf, isParsed, putIfParsed}
 
 module _ (text : List ℕ) (clauses : ClauseSlices) (numbers images reply : List ℕ) where
   rooms : {a b c : Bool} → hasRoom reply ≡ a → hasRoom numbers ≡ b → leb maxImages (length images) ≡ c
@@ -69,3 +77,20 @@ module _ (text : List ℕ) (clauses : ClauseSlices) (numbers images reply : List
             ∙ with-room e _ images;
         clauses = s .clauses ∙ with-room e _ clauses;
       }
+
+-- what is handed on without permutations has no images
+none-handed : {clauses : ClauseSlices} (f : Formula) → Handed f clauses → Unused (f .permutations) (f .images)
+none-handed f h none =
+    subst (λ (k : ℕ). drop k (f .images) ≡ replicate (maxImages - k) 0)
+    (ap (λ (k : ℕ). k * f .variables) none ∙ zero-mul (f .variables))
+    (h .unused)
+
+-- nor has what is read
+pub none-read : {text : List ℕ} {clauses clauses₁ : ClauseSlices} (f : Numbers) (a : Parse) (images : List ℕ)
+    → let r : ParsedNumbers = record { numbers = f; answer = a } in Read text clauses (parsedIn r images) clauses₁
+    → isParsed (replyOfParse a) ≡ true → Unused (f .permutations) images
+unfolding isParsed
+none-read {text} {clauses} f Accepted images s read =
+    subst (λ (g : Formula). Unused (g .permutations) (g .images)) (sym (s .formula))
+    (none-handed _ (accepted-handed text clauses (sym (s .reply))))
+none-read f (Refused code place) images s read = absurd (true≢false (sym read))

@@ -7,7 +7,8 @@ use Rattle.dimacs_lines.specs.Laws.ParsedAs.{parsedIn}
 use Rattle.dimacs_lines.specs.Reply.{replyOfParse}
 use Rattle.export_words.specs.Laws.WordLaws.{put-in, answer-in}
 use Rattle.export_words.specs.Words.{wordsOf, numbersOf}
-use Rattle.exports.specs.Laws.ReadingLaws.{without-reply, without-numbers, without-images, tells-reading}
+use Rattle.exports.specs.Laws.ReadingLaws.{without-reply, without-numbers, without-images, none-read}
+use Rattle.exports.specs.Laws.ReadingLaws.{tells-reading}
 use Rattle.exports.proofs.reading.jugbowo_read.Statement.{statement}
 use Rattle.exports.proofs.reading.jugbowo_read.Tie as tie
 
@@ -36,7 +37,9 @@ slice-aggregate-put-parsed : tie.Need-slice-aggregate-put-parsed
 slice-aggregate-put-parsed c = sym (c .before .before .before .before .before .before .before .before .before .read-lent .kept .1 .1 .1 .0)
 
 put-parsed-requires : tie.Need-put-parsed-requires
-put-parsed-requires c κs = (c .before .before .before .before .before .before .before .before .before .before .before .before .before .before .if2 .left, c .before .before .before .before .before .before .before .before .before .before .before .before .before .if3 .left, c .before .before .before .before .before .before .before .before .before .before .before .before .before .before .before .if1 .left, c .before .before .before .before .before .before .before .before .before .read-lent .kept .1 .1 .1 .0)
+put-parsed-requires c κs =
+    let read = c .before .before .before .before .before .before .before .before .before .read-lent .result in
+    (c .before .before .before .before .before .before .before .before .before .before .before .before .before .before .if2 .left, c .before .before .before .before .before .before .before .before .before .before .before .before .before .if3 .left, c .before .before .before .before .before .before .before .before .before .before .before .before .before .before .before .if1 .left, c .before .before .before .before .before .before .before .before .before .read-lent .kept .1 .1 .1 .0, none-read (read .numbers) (read .answer) (c .before .before .before .before .before .before .before .before .before .read-lent .last .1 .1 .1 .0) (c .before .before .before .before .before .before .before .before .before .read-lent .ensures))
 
 same-length : tie.Need-same-length
 same-length c = c .before .before .before .before .before .before .before .before .before .before .before .before .before .before .before .before .read-lent .kept .1 .0
