@@ -3,19 +3,19 @@ use dimacs_format::Sizes;
 use dimacs_words::Cursor;
 use dimacs_words::Word;
 use dimacs_words::ends_word;
-use dimacs_words::read_word;
+use dimacs_words::read_digits;
 use formula::Checked;
 use point_slices::put_point;
 use points::Point;
 use points::with_variable;
 ghost use mathlib.Core.Bool.{false};
 ghost use mathlib.Core.Path.{_≡_};
-ghost use Prim.Native.Nat.{_≤_, _<_};
+ghost use Prim.Native.Nat.{_+_, _≤_, _<_};
 ghost use lib.ListN.{length, getD};
 ghost use Rattle.point_slices.specs.Slices.{clauseSlices};
 ghost use Rattle.dimacs_format.specs.Text.{endsLine};
 ghost use Rattle.dimacs_clauses.specs.Laws.ClauseScans.{noneBegun, Room, Taking, stoppedWith, Ready};
-ghost use Rattle.dimacs_clauses.specs.Laws.ClauseScans.{Stepping, Scanning};
+ghost use Rattle.dimacs_clauses.specs.Laws.ClauseScans.{Stepping, Placing, Scanning};
 
 // How many clauses are closed, and the one begun.
 pub struct Begun {
@@ -108,36 +108,22 @@ fn stopped(code: u32, place: usize, begun: Begun, next: Cursor) -> Stepped
     Stepped { taken, next }
 }
 
-// N3: "7 precedes 5 and 6 at a word". The word at the cursor, or the one blank there; the line does not end there.
-fn clause_word(
-    text: &[u8],
-    cursor: Cursor,
+// N3: "7 precedes 5 and 6 at a word". The word that was read at `place`, with the place behind its first byte.
+// `clause_word` sees to what it requires.
+fn take_word(
     sizes: Sizes,
+    place: usize,
+    behind: Cursor,
+    word: Word,
     begun: Begun,
     positive: &mut [u64],
     negative: &mut [u64],
 ) -> Stepped
     requires { ⌜ Ready sizes (begun .closed) (clauseSlices (now positive) (now negative))
-        × (cursor .at < length (now text)) × (endsLine (getD (now text) (cursor .at) 0) ≡ false) ⌝ }
-    ensures { λ r. ⌜ Stepping sizes (now (text .entry)) (cursor .at)
-        (clauseSlices (now (positive .entry)) (now (negative .entry))) begun r
+        × (behind .at ≡ place + 1) ⌝ }
+    ensures { λ r. ⌜ Placing sizes place (clauseSlices (now (positive .entry)) (now (negative .entry))) begun word r
         (clauseSlices (now (positive .exit)) (now (negative .exit))) ⌝ }
 {
-    let place = cursor.at;
-    let after = place + 1;
-    let behind = Cursor { at: after };
-    let parted = ends_word(text[place]);
-    if parted {
-        let taken = Taken {
-            answer: Checked::Passed,
-            begun,
-        };
-        return Stepped {
-            taken,
-            next: behind,
-        };
-    }
-    let word = read_word(text, cursor);
     if sizes.total <= begun.closed {
         return stopped(7, place, begun, behind);
     }
@@ -159,6 +145,45 @@ fn clause_word(
         negative,
     );
     Stepped { taken, next }
+}
+
+// F7; S13: "an optional minus, one to four digits". The word at the cursor, or the one blank there; the line does not
+// end there. What follows stands once for each sign, so that a compiler need not have the sign asked for again.
+fn clause_word(
+    text: &[u8],
+    cursor: Cursor,
+    sizes: Sizes,
+    begun: Begun,
+    positive: &mut [u64],
+    negative: &mut [u64],
+) -> Stepped
+    requires { ⌜ Ready sizes (begun .closed) (clauseSlices (now positive) (now negative))
+        × (cursor .at < length (now text)) × (endsLine (getD (now text) (cursor .at) 0) ≡ false) ⌝ }
+    ensures { λ r. ⌜ Stepping sizes (now (text .entry)) (cursor .at)
+        (clauseSlices (now (positive .entry)) (now (negative .entry))) begun r
+        (clauseSlices (now (positive .exit)) (now (negative .exit))) ⌝ }
+{
+    let place = cursor.at;
+    let after = place + 1;
+    let behind = Cursor { at: after };
+    let first = text[place];
+    let parted = ends_word(first);
+    if parted {
+        let taken = Taken {
+            answer: Checked::Passed,
+            begun,
+        };
+        return Stepped {
+            taken,
+            next: behind,
+        };
+    }
+    if first == 45 {
+        let word = read_digits(text, true, after);
+        return take_word(sizes, place, behind, word, begun, positive, negative);
+    }
+    let word = read_digits(text, false, place);
+    take_word(sizes, place, behind, word, begun, positive, negative)
 }
 
 // The words of the line that begins at `start`, and where it ends. A byte of the line is visited at most four times: to

@@ -1,12 +1,11 @@
 // The bytes of a text: blanks and digits, runs of bytes, and words read as numbers.
 ghost use mathlib.Core.Path.{_≡_};
-ghost use Prim.Native.Nat.{_≤_, _<_};
-ghost use lib.ListN.{length, getD};
-ghost use mathlib.Core.Bool.{false};
+ghost use Prim.Native.Nat.{_≤_};
+ghost use lib.ListN.{length};
 ghost use Rattle.math.specs.Lists.{any};
 ghost use Rattle.dimacs_format.specs.Text.{endsLine, isBlank, isDigit, numberIn, begins};
 ghost use Rattle.dimacs_words.specs.Laws.Scans.{belongs, Stretch, Skipped, endsWord, numberOf, wordMade};
-ghost use Rattle.dimacs_words.specs.Laws.Scans.{DigitsRead, WordRead};
+ghost use Rattle.dimacs_words.specs.Laws.Scans.{DigitsRead};
 
 // The runs of bytes that the reader goes along: blanks, the bytes of a word, the bytes of a line.
 pub enum Class {
@@ -179,8 +178,9 @@ fn made_word(negated: bool, value: u32, at: usize) -> Word
     }
 }
 
-// S13: "one to four digits, leading zeros allowed": the rest of a word, behind its sign. Its value is read in the pass
-// that finds its end: at most five steps. Callers stand within the text.
+// F7; S13: "one to four digits, leading zeros allowed": the rest of a word, behind its sign, up to a blank, the end of
+// its line or that of the text. Its value is read in the pass that finds its end: at most five steps. Callers stand
+// within the text.
 pub fn read_digits(text: &[u8], negated: bool, from: usize) -> Word
     requires { ⌜ from ≤ length (now text) ⌝ }
     ensures { λ r. ⌜ DigitsRead (now (text .entry)) negated from r ⌝ }
@@ -217,21 +217,6 @@ pub fn read_digits(text: &[u8], negated: bool, from: usize) -> Word
         i += 1;
     }
     made_word(negated, v, i)
-}
-
-// F7; S13: "an optional minus, one to four digits": the word that begins at the cursor and goes up to a blank, the end
-// of its line or that of the text. One step a byte of the word, six at most. `dimacs_clauses::clause_word` has found a
-// byte there that ends no word.
-pub fn read_word(text: &[u8], cursor: Cursor) -> Word
-    requires { ⌜ (cursor .at < length (now text)) × (endsWord (getD (now text) (cursor .at) 0) ≡ false) ⌝ }
-    ensures { λ r. ⌜ WordRead (now (text .entry)) (cursor .at) r ⌝ }
-{
-    let at = cursor.at;
-    if text[at] == 45 {
-        let from = at + 1;
-        return read_digits(text, true, from);
-    }
-    read_digits(text, false, at)
 }
 
 // Whether the bytes begin with the head. At most as many steps as the head has bytes.

@@ -1,7 +1,9 @@
--- `dimacs_clauses::clause_word` meets its contract: one law for each way out. Assumes nothing.
+-- `dimacs_clauses::clause_word` meets its contract: a blank, a word with a minus, a word without. Assumes nothing.
 use mathlib.Core.Path.{sym, _∙_}
+use native.Mathlib.Omega.{arith}
 use borrow.Author.Needs.{needs}
-use Rattle.dimacs_clauses.specs.Laws.ClauseScanLaws.{step-blank, step-over, step-malformed, step-taken}
+use Rattle.dimacs_words.specs.Laws.ScanLaws.{word-minus, word-plain}
+use Rattle.dimacs_clauses.specs.Laws.ClauseScanLaws.{step-blank}
 use Rattle.dimacs_clauses.proofs.clause_word.Statement.{statement}
 use Rattle.dimacs_clauses.proofs.clause_word.Tie as tie
 
@@ -9,28 +11,32 @@ ends-word-requires : tie.Need-ends-word-requires
 ends-word-requires c κs = search needs
 
 returns : tie.Need-returns
-returns c = step-blank (c .before .before .before .before .before .before .pre .0) (c .before .before .before .before .before .before .pre .1) (c .before .before .before .before .before .before .pre .2) (sym (c .before .ends-word .ensures) ∙ c .if1 .taken)
+returns c = let p = c .before .before .before .before .before .before .pre in step-blank (p .0) (p .1) (p .2) (sym (c .before .ends-word .ensures) ∙ c .if1 .taken)
 
-read-word-requires : tie.Need-read-word-requires
-read-word-requires c κs = (c .before .before .before .before .before .before .pre .1, sym (c .before .ends-word .ensures) ∙ c .if1 .left)
+read-digits-requires : tie.Need-read-digits-requires
+read-digits-requires c κs = let p = c .before .before .before .before .before .before .before .pre .1 in omega arith
 
-stopped-requires : tie.Need-stopped-requires
-stopped-requires c κs = search needs
+take-word-requires : tie.Need-take-word-requires
+take-word-requires c κs = search needs
 
 returns-2 : tie.Need-returns-2
-returns-2 c = step-over (c .before .before .before .before .before .before .before .before .before .before .before .pre .0) (c .before .before .before .before .before .before .before .before .before .before .before .pre .1) (c .before .before .before .before .before .before .before .before .before .before .before .pre .2) (sym (c .before .before .before .before .before .before .ends-word .ensures) ∙ c .before .before .before .before .before .if1 .left) (c .before .before .before .before .read-word .result) (c .before .before .before .before .read-word .ensures) (c .before .if2 .taken) (c .stopped .ensures)
+returns-2 c =
+    let a = c .before .before .before .before .before .before .before .before .before .before .before .before .before .before .before .args in
+    let p = c .before .before .before .before .before .before .before .before .before .before .before .before .before .before .before .pre in
+    c .before .before .before .before .take-word .ensures (a .text .now) (p .1) (p .2) (sym (c .before .before .before .before .before .before .before .before .before .before .ends-word .ensures) ∙ c .before .before .before .before .before .before .before .before .before .if1 .left) (word-minus (a .text .now) (p .1) (c .before .before .before .before .before .before .before .read-digits .result) (c .before .before .before .before .before .before .before .before .if2 .taken) (c .before .before .before .before .before .before .before .read-digits .ensures))
 
-stopped-requires-2 : tie.Need-stopped-requires-2
-stopped-requires-2 c κs = search needs
+read-digits-requires-2 : tie.Need-read-digits-requires-2
+read-digits-requires-2 c κs = let p = c .before .before .before .before .before .before .before .pre .1 in omega arith
+
+take-word-requires-2 : tie.Need-take-word-requires-2
+take-word-requires-2 c κs = search needs
 
 returns-3 : tie.Need-returns-3
-returns-3 c = step-malformed (c .before .before .before .before .before .before .before .before .before .before .before .before .before .pre .0) (c .before .before .before .before .before .before .before .before .before .before .before .before .before .pre .1) (c .before .before .before .before .before .before .before .before .before .before .before .before .before .pre .2) (sym (c .before .before .before .before .before .before .before .before .ends-word .ensures) ∙ c .before .before .before .before .before .before .before .if1 .left) (c .before .before .before .before .before .before .read-word .ensures) (c .before .enum-told .given .1) (c .before .before .before .if2 .left) (c .stopped2 .ensures)
-
-take-number-requires : tie.Need-take-number-requires
-take-number-requires c κs = search needs
-
-returns-4 : tie.Need-returns-4
-returns-4 c = step-taken (c .before .before .before .before .before .before .before .before .before .before .before .before .before .before .before .before .before .before .before .before .pre .0) (c .before .before .before .before .before .before .before .before .before .before .before .before .before .before .before .before .before .before .before .before .pre .1) (c .before .before .before .before .before .before .before .before .before .before .before .before .before .before .before .before .before .before .before .before .pre .2) (sym (c .before .before .before .before .before .before .before .before .before .before .before .before .before .before .before .ends-word .ensures) ∙ c .before .before .before .before .before .before .before .before .before .before .before .before .before .before .if1 .left) (c .before .before .before .before .before .before .before .before .before .before .before .before .before .read-word .ensures) (c .before .before .before .before .before .before .before .before .word .given .1) (c .before .before .before .before .before .before .before .before .before .before .if2 .left) (c .before .before .before .before .take-number .ensures)
+returns-3 c =
+    let a = c .before .before .before .before .before .before .before .before .before .before .before .before .before .before .before .args in
+    let p = c .before .before .before .before .before .before .before .before .before .before .before .before .before .before .before .pre in
+    let m = sym (c .before .before .before .before .before .before .before .before .before .before .ends-word .ensures) ∙ c .before .before .before .before .before .before .before .before .before .if1 .left in
+    c .before .before .before .before .take-word2 .ensures (a .text .now) (p .1) (p .2) m (word-plain (a .text .now) (p .1) (c .before .before .before .before .before .before .before .read-digits2 .result) m (c .before .before .before .before .before .before .before .before .if2 .left) (c .before .before .before .before .before .before .before .read-digits2 .ensures))
 
 pub clause-word-spec : {M : Type 1} → statement M
 clause-word-spec =
@@ -40,14 +46,13 @@ clause-word-spec =
     (λ c. search needs)
     ends-word-requires
     returns
-    read-word-requires
-    stopped-requires
+    read-digits-requires
+    take-word-requires
+    (λ c. search needs)
+    (λ c. search needs)
     returns-2
+    read-digits-requires-2
+    take-word-requires-2
     (λ c. search needs)
     (λ c. search needs)
-    stopped-requires-2
-    returns-3
-    take-number-requires
-    (λ c. search needs)
-    (λ c. search needs)
-    returns-4)
+    returns-3)

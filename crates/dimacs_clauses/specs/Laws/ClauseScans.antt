@@ -1,22 +1,23 @@
 -- How clauses being read lie in the code's numbers and slices, and what the functions on clause words promise. Assumes
 -- nothing.
-use mathlib.Core.Bool.{Bool}
+use mathlib.Core.Bool.{Bool, false}
 use mathlib.Core.List.{List}
 use mathlib.Core.Path.{_≡_}
 use Prim.Native.Nat.{ℕ, _+_, _-_, _≤_, _<_}
-use lib.ListN.{length, take, drop}
+use lib.ListN.{length, getD, take, drop}
 use Rattle.point_slices.specs.Slices.{ClauseSlices, clausesOf, clauseRoom}
 use Rattle.formula.specs.Limits.{maxVariables, maxClauses}
 use Rattle.formula.specs.declared.Checked.the-variants.{Refused}
 use Rattle.dimacs_words.specs.declared.Class.the-variants.{Line}
 use Rattle.dimacs_words.specs.declared.Cursor.{Cursor}
+use Rattle.dimacs_words.specs.declared.Word.{Word}
 use Rattle.dimacs_clauses.specs.declared.Begun.{Begun}
 use Rattle.dimacs_clauses.specs.declared.Taken.{Taken}
 use Rattle.dimacs_clauses.specs.declared.Stepped.{Stepped}
-use Rattle.dimacs_format.specs.Text.{words}
+use Rattle.dimacs_format.specs.Text.{endsLine, words}
 use Rattle.dimacs_format.specs.Reader.{Step, andThen, walk, Sizes, Clauses, tokenStep, wordStep}
 use Rattle.dimacs_format.specs.Laws.AnswerLaws.{stepTo, WherePassed}
-use Rattle.dimacs_words.specs.Laws.Scans.{belongs, Stretch, signed}
+use Rattle.dimacs_words.specs.Laws.Scans.{belongs, endsWord, Stretch, signed, WordRead}
 
 -- the clauses closed lie at the front of the slices
 abbrev pub clausesFrom : ClauseSlices → Begun → Clauses
@@ -70,6 +71,11 @@ pub record Stepping (z : Sizes) (text : List ℕ) (at : ℕ) (clauses₀ : Claus
       ≡ andThen (stepTo (r .taken .answer) (clausesFrom clauses₁ (r .taken .begun)))
       (wordsFrom z (take stop text) (r .next .at)))
   pub ready : Ready z (r .taken .begun .closed) clauses₁
+
+-- what a word leads to that was read at a place, whatever the text in which it stands there
+abbrev pub Placing : Sizes → ℕ → ClauseSlices → Begun → Word → Stepped → ClauseSlices → Type 0
+Placing z at clauses₀ b w r clauses₁ = (text : List ℕ) → at < length text → endsLine (getD text at 0) ≡ false
+    → endsWord (getD text at 0) ≡ false → WordRead text at w → Stepping z text at clauses₀ b r clauses₁
 
 -- what a line of words leads to, and where it ends
 pub record Scanning (z : Sizes) (text : List ℕ) (start : ℕ) (clauses₀ : ClauseSlices) (b : Begun) (r : Stepped)
