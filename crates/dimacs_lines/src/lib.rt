@@ -15,6 +15,7 @@ use formula::Checked;
 use formula::Formula;
 use formula::Numbers;
 use point_slices::point_at;
+use point_slices::point_count;
 use point_slices::put_point;
 use points::Point;
 ghost use mathlib.Core.Bool.{true, false};
@@ -299,11 +300,20 @@ pub fn refused(code: u32, place: usize) -> ParsedNumbers
     }
 }
 
-// The first `count` points of one slice, to the front of another. One step a point. Callers have seen to the room.
+// The first `count` points of one slice, to the front of another. One step a point. Callers have seen to the room, so
+// that it never returns early: the two tests are there so that a compiler leaves out those of each place.
 fn copy(from: &[u64], to: &mut [u64], count: usize)
     requires { ⌜ (count ≤ length (pointsOf (now from))) × (count ≤ length (pointsOf (now to))) ⌝ }
     ensures { λ _. ⌜ Copied (now (from .entry)) (now (to .entry)) count (now (to .exit)) ⌝ }
 {
+    let held = point_count(from);
+    if held < count {
+        return;
+    }
+    let room = point_count(to);
+    if room < count {
+        return;
+    }
     let mut i = 0;
     while i < count {
         let x = point_at(from, i);
