@@ -4,7 +4,7 @@ use points::Clause;
 use points::Point;
 ghost use mathlib.Core.Bool.{cond};
 ghost use mathlib.Core.Path.{_≡_};
-ghost use Prim.Native.Nat.{_+_, _*_, _^_, _≤_, _<_};
+ghost use Prim.Native.Nat.{_+_, _*_, _/_, _^_, _≤_, _<_};
 ghost use lib.Bits.{bitOr};
 ghost use lib.Dec.{eqb};
 ghost use lib.ListN.{length, take, drop};
@@ -47,14 +47,15 @@ pub fn is_permutation(n: u32, e: &[u8]) -> bool
     true
 }
 
-// Where a permutation sends the variables of a set: one step a variable, whether it is in the set or not.
-fn moved_all(e: &[u8], s: Point) -> Point
-    requires { ⌜ Movable (now e) ⌝ }
-    ensures { λ r. ⌜ r ≡ moved (now (e .entry)) s ⌝ }
+// Where a permutation sends the variables of a set, from that of bit `first` on: one step for each of these, whether it
+// is in the set or not. `moved` sees to what it requires.
+fn moved_from(e: &[u8], first: usize, s: Point) -> Point
+    requires { ⌜ Movable (now e) × (first ≤ length (now e)) ⌝ }
+    ensures { λ r. ⌜ r ≡ moved (drop first (now (e .entry))) (s / 2 ^ first) ⌝ }
 {
     let mut r = points::EMPTY;
     let mut i = e.len();
-    while 0 < i {
+    while first < i {
         i -= 1;
         let image = e[i] - 1;
         let from = i as u32;
@@ -64,12 +65,12 @@ fn moved_all(e: &[u8], s: Point) -> Point
     r
 }
 
-// How many variables of a set go one by one: beyond so many, one pass over all takes less time.
+// How many variables of a set go one by one: beyond so many, one pass over all that follow takes less time.
 const SINGLE: u32 = 8;
 
-// The same, lowest variable first: one step each for the first eight, and a pass over all for what is left of a larger
-// set. Nothing is counted first: that would take a fifth of the time where a set has one or two. Refusal 11 sees to what
-// it requires.
+// Where a permutation sends the variables of a set, lowest variable first: one step each for the first eight, and a pass
+// over those behind them for what is left of a larger set. Nothing is counted first: that would take a fifth of the time
+// where a set has one or two. Refusal 11 sees to what it requires.
 pub fn moved(e: &[u8], s: Point) -> Point
     requires { ⌜ Movable (now e) ⌝ }
     ensures { λ r. ⌜ r ≡ moved (now (e .entry)) s ⌝ }
@@ -81,7 +82,7 @@ pub fn moved(e: &[u8], s: Point) -> Point
     let mut taken = 0;
     while v < n {
         if SINGLE <= taken {
-            let rest = moved_all(e, left);
+            let rest = moved_from(e, v as usize, left);
             return points::union(rest, r);
         }
         let image = e[v as usize] - 1;
@@ -131,7 +132,7 @@ pub fn image_of_point(e: &[u8], x: Point) -> Point
 }
 
 // The image of a set of variables, of which those in `fixed` stay: one step for each of the others, and for more than
-// eight of them a pass over all variables. Refusal 11 sees to what it requires.
+// eight of them a pass over the variables behind. Refusal 11 sees to what it requires.
 pub fn image_of_set(e: &[u8], fixed: Point, s: Point) -> Point
     requires { ⌜ Movable (now e) × Fixes (now e) (length (now e)) fixed ⌝ }
     ensures { λ r. ⌜ r ≡ moved (now (e .entry)) s ⌝ }

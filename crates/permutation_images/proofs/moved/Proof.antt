@@ -2,7 +2,7 @@
 -- Assumes nothing.
 use mathlib.Core.Path.{ap, sym, _∙_}
 use Prim.Native.Nat.{_-_, _≤_, _<_}
-use native.Mathlib.Nat.{lt-of-lt-of-le}
+use native.Mathlib.Nat.{le-of-lt, lt-of-lt-of-le}
 use native.Mathlib.Omega.{arith}
 use lib.Bits.{bitOr}
 use lib.ListN.{length, getD}
@@ -12,7 +12,7 @@ use Rattle.math.specs.Laws.ListLaws.{getD-in}
 use Rattle.points.specs.Points.{pointDigits}
 use Rattle.points.specs.Laws.NextLaws.{digits-few}
 use Rattle.permutation_images.specs.Laws.SetLaws.{Sending, sending-begins, sending-less, sending-goes-on}
-use Rattle.permutation_images.specs.Laws.SetLaws.{sending-ends}
+use Rattle.permutation_images.specs.Laws.SetLaws.{sending-rest, sending-ends}
 use Rattle.permutation_images.proofs.moved.Statement.{statement}
 use Rattle.permutation_images.proofs.moved.Tie as tie
 
@@ -28,9 +28,19 @@ cast-n c = let few = c .before .pre .size in omega (arith, digits-few)
 loop-holds : tie.Need-loop-holds Inv-loop μ-loop
 loop-holds c = (sending-begins (c .before .before .pre) (c .next-variable .ensures), omega arith)
 
+cast-moved-from : tie.Need-cast-moved-from Inv-loop μ-loop
+cast-moved-from c = let few = c .before .before .before .before .before .pre .size in omega (arith, digits-few, c .before .loop-test .taken)
+
+moved-from-requires : tie.Need-moved-from-requires Inv-loop μ-loop
+moved-from-requires c κs = (c .before .before .before .before .before .pre, le-of-lt (c .before .loop-test .taken))
+
 -- the images of what is left, and those of what was taken
 returns : tie.Need-returns Inv-loop μ-loop
-returns c = c .union .ensures ∙ ap (λ t. bitOr t (c .before .before .before .before .loop .r)) (c .before .moved-all .ensures) ∙ sym (c .before .before .before .before .loop .inv .0 .split)
+returns c =
+    let w = c .before .before .before .before .loop .inv .0 in
+    c .union .ensures
+    ∙ ap (λ t. bitOr t (c .before .before .before .before .loop .r)) (c .before .moved-from .ensures ∙ sending-rest (c .before .before .before .before .before .before .before .pre) w (c .before .before .before .loop-test .taken))
+    ∙ sym (w .split)
 
 -- the number read is that of a digit of a point
 sub-image : tie.Need-sub-image Inv-loop μ-loop
@@ -64,7 +74,8 @@ moved-spec =
     cast-n
     (λ c κs. search needs)
     loop-holds
-    (λ c κs. search needs)
+    cast-moved-from
+    moved-from-requires
     (λ c κs. search needs)
     returns
     (λ c. search needs)

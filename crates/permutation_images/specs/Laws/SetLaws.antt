@@ -3,16 +3,17 @@ use mathlib.Core.Bool.{Bool, true, false, cond, _&&_, _||_, or-false, xor, true�
 use mathlib.Core.List.{List}
 use mathlib.Core.Logic.{⊎-elim}
 use mathlib.Core.Path.{_≡_, refl, sym, ap, ap₂, _∙_, subst}
-use Prim.Native.Nat.{ℕ, suc, _+_, _-_, _^_, _≤_, _<_}
+use Prim.Native.Nat.{ℕ, zero, suc, _+_, _-_, _*_, _/_, _%_, _^_, _≤_, _<_}
 use native.Mathlib.Decide.{ℕ-discrete}
-use native.Mathlib.Nat.{le-of-eq, lt-of-lt-of-le, le-antisymm}
+use native.Mathlib.Nat.{div-one, zero-mul, le-of-eq, le-of-lt, lt-of-lt-of-le, le-antisymm}
+use native.Mathlib.Numerals.{add-one}
 use native.Mathlib.Omega.{arith}
 use lib.Bits.{bitAnd, bitOr, bitXor, or-zero-l, or-zero-r}
 use lib.Dec.{eqb}
-use lib.ListN.{length, getD}
-use borrow.Author.Tests.{eq-eqb, ne-eqb, eqb-true}
+use lib.ListN.{length, getD, drop}
+use borrow.Author.Tests.{eq-eqb, ne-eqb, eqb-true, eqb-false}
 use Rattle.math.specs.Bits.{bit, flip, members, Lowest}
-use Rattle.math.specs.Laws.BitLaws.{bit-and, bit-or, bit-xor, bit-pow, bit-flip, bit-of-zero, bits-ext}
+use Rattle.math.specs.Laws.BitLaws.{bit-and, bit-or, bit-xor, bit-pow, bit-flip, bit-of-zero, bits-ext, digit-lt}
 use Rattle.math.specs.Laws.ListLaws.{and-split, or-split, or-left, or-right, any-of, getD-in}
 use Rattle.math.specs.Laws.SetLaws.{bit-other, members-next}
 use Rattle.points.specs.Laws.Contracts.{NextVariable}
@@ -22,6 +23,7 @@ use Rattle.permutation_theory.specs.Laws.ImageLaws.{moved-idle, moved-union, mo
 use Rattle.permutation_theory.specs.Laws.PermutationLaws.{sameClause-complete}
 use Rattle.permutation_theory.specs.Permutations.{moved, imageOfClause, imageAmong, sameClause}
 use Rattle.permutation_images.specs.Laws.Contracts.{Movable, Fixes}
+use Rattle.permutation_images.specs.Laws.LoopLaws.{moved-step}
 
 -- ---- the image, lowest variable first
 
@@ -42,6 +44,23 @@ without s v i member = by (ℕ-discrete i v)
         (bit-pow v i ∙ eq-eqb v i (sym e)))
     by (no ne) =
         sym (ap₂ _||_ (bit-other s v i ne) (bit-pow v i ∙ ne-eqb v i (λ e. ne (sym e))) ∙ or-false (bit s i))
+
+-- a set without variables below k: the numbers from k on send it
+above : (es : List ℕ) (s k : ℕ) → k ≤ length es → ((i : ℕ) → i < k → bit s i ≡ false)
+    → moved (drop k es) (s / 2 ^ k) ≡ moved es s
+unfolding bit
+above es s zero le none = ap (moved es) (div-one s)
+above es s (suc k) le none =
+    let digit : s / 2 ^ k % 2 ≡ 0 = zero-digit (s / 2 ^ k % 2) (digit-lt (s / 2 ^ k)) (none k (omega arith)) in
+    let behind = moved (drop (k + 1) es) (s / 2 ^ (k + 1)) in
+    ap (λ j. moved (drop j es) (s / 2 ^ j)) (sym (add-one k))
+    ∙ sym (moved-step 0 es 0 k le s
+    ∙ ap (λ d. bitOr d behind) (ap (λ d. d * 2 ^ (getD es k 0 - 1)) digit ∙ zero-mul (2 ^ (getD es k 0 - 1)))
+    ∙ or-zero-l behind)
+    ∙ above es s k (omega arith) (λ i lt. none i (omega arith))
+  where
+    zero-digit : (d : ℕ) → d < 2 → eqb d 1 ≡ false → d ≡ 0
+    zero-digit d lt e = let ne = eqb-false d 1 e in omega arith
 
 module _ {es : List ℕ} (m : Movable es) {s : ℕ} where
   pub sending-begins : {v : ℕ} → NextVariable s v → Sending es s s v 0
@@ -81,6 +100,10 @@ module _ {es : List ℕ} (m : Movable es) {s : ℕ} where
             arranged false true false = refl
             arranged false false true = refl
             arranged false false false = refl
+
+    -- what is left is sent by the numbers from the next variable on
+    pub sending-rest : v < length es → moved (drop v es) (left / 2 ^ v) ≡ moved es left
+    sending-rest lt = above es left v (le-of-lt lt) (low lt .least)
 
     pub sending-ends : length es ≤ v → r ≡ moved es s
     sending-ends ge = sym (w .split ∙ ap (λ t. bitOr t r) (moved-idle es left none) ∙ or-zero-l r)

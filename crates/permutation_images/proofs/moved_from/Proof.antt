@@ -1,9 +1,9 @@
--- `permutation_images::moved_all` meets its contract: at index i the set holds what the numbers from i on send. Assumes
+-- `permutation_images::moved_from` meets its contract: at index i the set holds what the numbers from i on send. Assumes
 -- nothing.
 use mathlib.Core.Path.{_≡_, sym, ap, _∙_}
 use Prim.Native.Nat.{_-_, _+_, _*_, _/_, _%_, _^_, _≤_, _<_}
 use lib.Bits.{bitOr}
-use native.Mathlib.Nat.{div-one, le-refl}
+use native.Mathlib.Nat.{le-antisymm, le-refl}
 use native.Mathlib.Omega.{arith}
 use lib.ListN.{length, getD, drop}
 use lib.Seq.{drop-length}
@@ -13,18 +13,18 @@ use Rattle.points.specs.Laws.NextLaws.{digits-few}
 use Rattle.math.specs.Laws.ListLaws.{getD-in}
 use Rattle.permutation_images.specs.Laws.LoopLaws.{moved-step}
 use Rattle.permutation_theory.specs.Permutations.{moved}
-use Rattle.permutation_images.proofs.moved_all.Statement.{statement}
-use Rattle.permutation_images.proofs.moved_all.Tie as tie
+use Rattle.permutation_images.proofs.moved_from.Statement.{statement}
+use Rattle.permutation_images.proofs.moved_from.Tie as tie
 
 abbrev Inv-loop : tie.InvT-loop
-Inv-loop e s r₀ i₀ r i = (i ≤ length e) × (r ≡ moved (drop i e) (s / 2 ^ i))
+Inv-loop e first s r₀ i₀ r i = (first ≤ i) × (i ≤ length e) × (r ≡ moved (drop i e) (s / 2 ^ i))
 
 abbrev μ-loop : tie.MeasureT-loop
-μ-loop e s r₀ i₀ r i = i
+μ-loop e first s r₀ i₀ r i = i
 
 loop-holds : tie.Need-loop-holds Inv-loop μ-loop
 unfolding moved
-loop-holds c = (le-refl _, sym (ap (λ l. moved l (c .before .args .s / 2 ^ length (c .before .args .e .now))) (drop-length (c .before .args .e .now))))
+loop-holds c = (c .before .pre .1, le-refl _, sym (ap (λ l. moved l (c .before .args .s / 2 ^ length (c .before .args .e .now))) (drop-length (c .before .args .e .now))))
 
 -- the number read is that of a digit of a point
 read : (c : tie.After-shared-slice-known2 Inv-loop μ-loop)
@@ -32,11 +32,11 @@ read : (c : tie.After-shared-slice-known2 Inv-loop μ-loop)
     × (getD (c .before .before .before .before .args .e .now) (c .before .before .loop .i - 1) 0 ≤ pointDigits)
 read c =
     let start = c .before .before .before .before in
-    start .pre .within _ (getD-in (start .args .e .now) (c .before .before .loop .i - 1) 0 (omega arith))
+    start .pre .0 .within _ (getD-in (start .args .e .now) (c .before .before .loop .i - 1) 0 (omega arith))
 
 -- and so is its variable's
 index : (c : tie.After-shared-slice-known2 Inv-loop μ-loop) → c .before .before .loop .i - 1 < pointDigits
-index c = omega (arith, c .before .before .before .before .pre .size)
+index c = omega (arith, c .before .before .before .before .pre .0 .size)
 
 sub-image : tie.Need-sub-image Inv-loop μ-loop
 sub-image c = read c .0
@@ -56,8 +56,9 @@ loop-again c =
     let a = c .before .before .before .before .before .args in
     let back : l .i - 1 + 1 ≡ l .i = omega arith in (
       omega arith,
+      omega arith,
       c .carry .ensures
-          ∙ ap (bitOr (a .s / 2 ^ (l .i - 1) % 2 * 2 ^ (getD (a .e .now) (l .i - 1) 0 - 1))) (l .inv .1 ∙ ap (λ j. moved (drop j (a .e .now)) (a .s / 2 ^ j)) (sym back))
+          ∙ ap (bitOr (a .s / 2 ^ (l .i - 1) % 2 * 2 ^ (getD (a .e .now) (l .i - 1) 0 - 1))) (l .inv .2 ∙ ap (λ j. moved (drop j (a .e .now)) (a .s / 2 ^ j)) (sym back))
           ∙ sym (moved-step 0 (a .e .now) 0 (l .i - 1) (omega arith) (a .s)),
     )
 
@@ -65,11 +66,10 @@ returns : tie.Need-returns Inv-loop μ-loop
 returns c =
     let l = c .before .loop in
     let a = c .before .before .before .args in
-    let none : l .i ≡ 0 = omega arith in
-    l .inv .1 ∙ ap (λ j. moved (drop j (a .e .now)) (a .s / 2 ^ j)) none ∙ ap (moved (a .e .now)) (div-one (a .s))
+    l .inv .2 ∙ ap (λ j. moved (drop j (a .e .now)) (a .s / 2 ^ j)) (le-antisymm (c .loop-test .left) (l .inv .0))
 
-pub moved-all-spec : {M : Type 1} → statement M
-moved-all-spec =
+pub moved-from-spec : {M : Type 1} → statement M
+moved-from-spec =
     tie.close
     (tie.spec
     Inv-loop
