@@ -4,20 +4,27 @@ use checker::Verdict;
 use dimacs_arrays::FEW_CLAUSES;
 use dimacs_lines::Parse;
 use formula::Formula;
+use formula::Numbers;
 use point_slices::first_points;
 use points::Depth;
 use points::Point;
 use search::Outcome;
+ghost use mathlib.Core.List.{List};
 ghost use mathlib.Core.Path.{_≡_};
-ghost use Prim.Native.Nat.{_≤_};
+ghost use Prim.Native.Nat.{ℕ, _≤_};
 ghost use lib.ListN.{length, take};
 ghost use Rattle.point_slices.specs.Slices.{clauseSlices, slotSlices, clauseRoom, firstClauses};
+ghost use Rattle.formula.specs.Limits.{maxImages};
 ghost use Rattle.formula.specs.Reply.{accepted};
+ghost use Rattle.formula.specs.Laws.Contracts.{formulaWith};
 ghost use Rattle.checker.specs.Checker.{checkReply};
 ghost use Rattle.claims.specs.Claim.{from-text, by-value};
 ghost use Rattle.solver.specs.Solver.{blank};
 ghost use Rattle.solver.specs.Contract.{Solved};
 ghost use Rattle.solver.specs.Laws.Steps.{Refuted, Certifies, unsatisfiableWith, refusedWith};
+
+// How many clauses the first arrays have room for, since each array is made 0 first.
+const TINY_CLAUSES: usize = 32;
 
 // What the solver answers. A certificate is `size` bytes at the front of the output, written and checked; where the
 // output has no room for the bytes needed, nothing is put there.
@@ -35,30 +42,31 @@ pub struct Settled {
     pub point: Point,
 }
 
-// Has the certificate in the first `size` bytes checked. `certify` sees to what it requires: the checker accepts it.
+// Has the certificate in the first `size` bytes checked. `certify` sees to what it requires: the checker, to which no
+// image matters, accepts it.
 fn confirm(
-    f: Formula,
+    f: Numbers,
     positive: &[u64],
     negative: &[u64],
     file: &[u8],
     size: usize,
     filled: u32,
 ) -> Solution
-    requires { ⌜ (size ≤ length (now file))
-        × (checkReply f (clauseSlices (now positive) (now negative)) (take size (now file)) ≡ accepted) ⌝ }
+    requires { ⌜ (size ≤ length (now file)) × ((images : List ℕ) × (checkReply (formulaWith f images)
+        (clauseSlices (now positive) (now negative)) (take size (now file)) ≡ accepted)) ⌝ }
     ensures { λ r. ⌜ r ≡ unsatisfiableWith filled size ⌝ }
 {
-    let verdict = checker::check(f, positive, negative, &file[0..size]);
+    let verdict = checker::check_numbers(f, positive, negative, &file[0..size]);
     match verdict {
         Verdict::Accepted => Solution::Unsatisfiable { filled, size },
         Verdict::Refused { code, place } => Solution::Refused { code, place },
     }
 }
 
-// D3.4: writes the certificate of slots that a search left and has it checked. `solve_formula` sees to what it
-// requires.
+// D3.4: writes the certificate of slots that a search left and has it checked. `solve_lent` sees to what it requires.
 fn certify(
-    f: Formula,
+    f: Numbers,
+    images: &[u8],
     positive: &[u64],
     negative: &[u64],
     points: &[u64],
@@ -67,14 +75,16 @@ fn certify(
     filled: u32,
     out: &mut [u8],
 ) -> Solution
-    requires { ⌜ Refuted f (clauseSlices (now positive) (now negative))
-        (slotSlices (now points) (now falsified) (now depths)) filled ⌝ }
-    ensures { λ r. ⌜ Certifies f (clauseSlices (now (positive .entry)) (now (negative .entry)))
+    requires { ⌜ (length (now images) ≡ maxImages) × Refuted (formulaWith f (now images))
+        (clauseSlices (now positive) (now negative)) (slotSlices (now points) (now falsified) (now depths)) filled ⌝ }
+    ensures { λ r. ⌜ Certifies (formulaWith f (now (images .entry)))
+        (clauseSlices (now (positive .entry)) (now (negative .entry)))
         (slotSlices (now (points .entry)) (now (falsified .entry)) (now (depths .entry))) filled (now (out .entry)) r
         (now (out .exit)) ⌝ }
 {
-    let written = certificate_writer::write(
+    let written = certificate_writer::write_lent(
         f,
+        images,
         positive,
         negative,
         points,
@@ -92,9 +102,10 @@ fn certify(
     }
 }
 
-// The solver for a formula by value, with its clauses in two slices.
-pub fn solve_formula(
-    f: Formula,
+// The solver for the formula that numbers and images make, of which no copy is made; as many images as a formula has.
+fn solve_lent(
+    f: Numbers,
+    images: &[u8],
     positive: &[u64],
     negative: &[u64],
     points: &mut [u64],
@@ -102,11 +113,13 @@ pub fn solve_formula(
     depths: &mut [Depth],
     out: &mut [u8],
 ) -> Settled
-    ensures { λ r. ⌜ Solved (by-value f (clauseSlices (now (positive .entry)) (now (negative .entry))))
+    requires { ⌜ length (now images) ≡ maxImages ⌝ }
+    ensures { λ r. ⌜ Solved (by-value (formulaWith f (now (images .entry)))
+        (clauseSlices (now (positive .entry)) (now (negative .entry))))
         (slotSlices (now (points .entry)) (now (falsified .entry)) (now (depths .entry))) (now (out .entry)) r
         (slotSlices (now (points .exit)) (now (falsified .exit)) (now (depths .exit))) (now (out .exit)) ⌝ }
 {
-    let found = search::search(f, positive, negative, points, falsified, depths);
+    let found = search::search_lent(f, images, positive, negative, points, falsified, depths);
     let point = found.point;
     let outcome = found.answer;
     match outcome {
@@ -117,6 +130,7 @@ pub fn solve_formula(
         Outcome::Unsatisfiable { filled } => {
             let answer = certify(
                 f,
+                images,
                 positive,
                 negative,
                 points,
@@ -141,9 +155,8 @@ pub fn solve_formula(
     }
 }
 
-// The solver for a formula whose clauses stand at the front of two slices, as the reader leaves them. Its callers see
-// to what it requires.
-fn solve_read(
+// The solver for a formula by value, with its clauses in two slices.
+pub fn solve_formula(
     f: Formula,
     positive: &[u64],
     negative: &[u64],
@@ -152,8 +165,43 @@ fn solve_read(
     depths: &mut [Depth],
     out: &mut [u8],
 ) -> Settled
-    requires { ⌜ f .clauses ≤ clauseRoom (clauseSlices (now positive) (now negative)) ⌝ }
-    ensures { λ r. ⌜ Solved (by-value f (firstClauses (f .clauses)
+    ensures { λ r. ⌜ Solved (by-value f (clauseSlices (now (positive .entry)) (now (negative .entry))))
+        (slotSlices (now (points .entry)) (now (falsified .entry)) (now (depths .entry))) (now (out .entry)) r
+        (slotSlices (now (points .exit)) (now (falsified .exit)) (now (depths .exit))) (now (out .exit)) ⌝ }
+{
+    let numbers = Numbers {
+        variables: f.variables,
+        clauses: f.clauses,
+        target: f.target,
+        permutations: f.permutations,
+    };
+    solve_lent(
+        numbers,
+        &f.images,
+        positive,
+        negative,
+        points,
+        falsified,
+        depths,
+        out,
+    )
+}
+
+// The same for a formula whose clauses stand at the front of two slices, as the reader leaves them. Its callers see to
+// what it requires.
+fn solve_read(
+    f: Numbers,
+    images: &[u8],
+    positive: &[u64],
+    negative: &[u64],
+    points: &mut [u64],
+    falsified: &mut [u32],
+    depths: &mut [Depth],
+    out: &mut [u8],
+) -> Settled
+    requires { ⌜ (length (now images) ≡ maxImages)
+        × (f .clauses ≤ clauseRoom (clauseSlices (now positive) (now negative))) ⌝ }
+    ensures { λ r. ⌜ Solved (by-value (formulaWith f (now (images .entry))) (firstClauses (f .clauses)
         (clauseSlices (now (positive .entry)) (now (negative .entry)))))
         (slotSlices (now (points .entry)) (now (falsified .entry)) (now (depths .entry))) (now (out .entry)) r
         (slotSlices (now (points .exit)) (now (falsified .exit)) (now (depths .exit))) (now (out .exit)) ⌝ }
@@ -161,7 +209,7 @@ fn solve_read(
     let total = f.clauses as usize;
     let wanted = first_points(positive, total);
     let unwanted = first_points(negative, total);
-    solve_formula(f, wanted, unwanted, points, falsified, depths, out)
+    solve_lent(f, images, wanted, unwanted, points, falsified, depths, out)
 }
 
 // A refusal of the reader, which has no point.
@@ -191,11 +239,21 @@ fn solve_many(
 {
     let mut positive = [0u64; Formula::MAX_CLAUSES as usize];
     let mut negative = [0u64; Formula::MAX_CLAUSES as usize];
-    let parsed = dimacs::read(text, &mut positive, &mut negative);
-    let f = parsed.formula;
+    let mut images = [0u8; Formula::MAX_IMAGES];
+    let parsed = dimacs::read_lent(text, &mut positive, &mut negative, &mut images);
+    let f = parsed.numbers;
     let answer = parsed.answer;
     match answer {
-        Parse::Accepted => solve_read(f, &positive, &negative, points, falsified, depths, out),
+        Parse::Accepted => solve_read(
+            f,
+            &images,
+            &positive,
+            &negative,
+            points,
+            falsified,
+            depths,
+            out,
+        ),
         Parse::Refused { code, place } => {
             let short = code == 4;
             if short {
@@ -206,11 +264,8 @@ fn solve_many(
     }
 }
 
-// K3, the product's main promise: reads a text, searches, and writes and checks the certificate of one that cannot be
-// met. The clauses stay in local arrays, so that after a refusal nothing that was lent has changed: 4 KiB first, since
-// each is made 0, and large ones where the reader finds these too short (refusal 4), which it tells from the problem
-// line.
-pub fn solve(
+// The solver with arrays for a few clauses, 4 KiB, and the largest ones where the reader finds these too short.
+fn solve_few(
     text: &[u8],
     points: &mut [u64],
     falsified: &mut [u32],
@@ -223,14 +278,65 @@ pub fn solve(
 {
     let mut positive = [0u64; FEW_CLAUSES];
     let mut negative = [0u64; FEW_CLAUSES];
-    let parsed = dimacs::read(text, &mut positive, &mut negative);
-    let f = parsed.formula;
+    let mut images = [0u8; Formula::MAX_IMAGES];
+    let parsed = dimacs::read_lent(text, &mut positive, &mut negative, &mut images);
+    let f = parsed.numbers;
     let answer = parsed.answer;
     match answer {
-        Parse::Accepted => solve_read(f, &positive, &negative, points, falsified, depths, out),
+        Parse::Accepted => solve_read(
+            f,
+            &images,
+            &positive,
+            &negative,
+            points,
+            falsified,
+            depths,
+            out,
+        ),
+        Parse::Refused { code, place } => {
+            if code != 4 {
+                return refused(code, place);
+            }
+            solve_many(text, points, falsified, depths, out)
+        }
+    }
+}
+
+// K3, the product's main promise: reads a text, searches, and writes and checks the certificate of one that cannot be
+// met. The clauses and the images stay in local arrays, so that after a refusal nothing that was lent has changed: 512
+// bytes of clauses and 1 KiB of images first, since each is made 0, and larger ones where the reader finds these too
+// short (refusal 4), which it tells from the problem line.
+pub fn solve(
+    text: &[u8],
+    points: &mut [u64],
+    falsified: &mut [u32],
+    depths: &mut [Depth],
+    out: &mut [u8],
+) -> Settled
+    ensures { λ r. ⌜ Solved (from-text (now (text .entry)) blank)
+        (slotSlices (now (points .entry)) (now (falsified .entry)) (now (depths .entry))) (now (out .entry)) r
+        (slotSlices (now (points .exit)) (now (falsified .exit)) (now (depths .exit))) (now (out .exit)) ⌝ }
+{
+    let mut positive = [0u64; TINY_CLAUSES];
+    let mut negative = [0u64; TINY_CLAUSES];
+    let mut images = [0u8; Formula::MAX_IMAGES];
+    let parsed = dimacs::read_lent(text, &mut positive, &mut negative, &mut images);
+    let f = parsed.numbers;
+    let answer = parsed.answer;
+    match answer {
+        Parse::Accepted => solve_read(
+            f,
+            &images,
+            &positive,
+            &negative,
+            points,
+            falsified,
+            depths,
+            out,
+        ),
         Parse::Refused { code, place } => {
             if code == 4 {
-                return solve_many(text, points, falsified, depths, out);
+                return solve_few(text, points, falsified, depths, out);
             }
             refused(code, place)
         }

@@ -1,59 +1,21 @@
--- `solver::solve_formula` meets its contract: what the search answers and, where it refutes, what the certificate is.
--- Assumes nothing.
-use mathlib.Core.Path.{refl}
+-- `solver::solve_formula` meets its contract: the formula is what its numbers and images make. Assumes nothing.
 use borrow.Author.Needs.{needs}
-use Rattle.solver.specs.Contract.{replyOfSolution}
-use Rattle.solver.specs.Laws.SolverLaws.{solves, refuted, solves-refuted, satisfiable-differs, unknown-differs}
-use Rattle.solver.specs.Laws.SolverLaws.{refusal-differs}
 use Rattle.solver.proofs.solve_formula.Statement.{statement}
 use Rattle.solver.proofs.solve_formula.Tie as tie
 
-search-requires : tie.Need-search-requires
-search-requires c κs = search needs
-
-certify-requires : tie.Need-certify-requires
-certify-requires c κs = refuted _ _ _ _ _ (c .before .before .before .before .before .before .before .before .before .before .before .before .before .search .ensures) _ (c .before .before .before .before .before .outcome2 .given .1)
+solve-lent-requires : tie.Need-solve-lent-requires
+solve-lent-requires c κs = search needs
 
 returns : tie.Need-returns
-unfolding replyOfSolution
-returns c = solves _ _ _ _ _ _ (c .before .before .before .before .before .before .before .before .before .search .ensures) _ _ (c .before .outcome .given .1) refl refl satisfiable-differs
-
-returns-2 : tie.Need-returns-2
-returns-2 c =
-    solves-refuted _ _ _ _ _ _ (c .before .before .before .before .before .before .before .before .before .before .before .before .before .before .before .before .search .ensures) _ (c .before .before .before .before .before .before .before .before .outcome2 .given .1) _ _ (c .before .before .certify .ensures)
-
-returns-3 : tie.Need-returns-3
-unfolding replyOfSolution
-returns-3 c = solves _ _ _ _ _ _ (c .before .before .before .before .before .before .before .before .before .search .ensures) _ _ (c .before .outcome3 .given .1) refl refl unknown-differs
-
-returns-4 : tie.Need-returns-4
-unfolding replyOfSolution
-returns-4 c = solves _ _ _ _ _ _ (c .before .before .before .before .before .before .before .before .before .search .ensures) _ _ (c .before .outcome4 .given .1) refl refl refusal-differs
+returns c = c .before .before .before .before .before .before .before .before .solve-lent .ensures
 
 pub solve-formula-spec : {M : Type 1} → statement M
 solve-formula-spec =
     tie.close
     (tie.spec
-    search-requires
-    (λ c. search needs)
-    (λ c. search needs)
-    certify-requires
+    solve-lent-requires
     (λ c. search needs)
     (λ c. search needs)
     (λ c. search needs)
     (λ c. search needs)
-    (λ c. search needs)
-    returns
-    (λ c. search needs)
-    (λ c. search needs)
-    (λ c. search needs)
-    (λ c. search needs)
-    returns-2
-    (λ c. search needs)
-    (λ c. search needs)
-    (λ c. search needs)
-    returns-3
-    (λ c. search needs)
-    (λ c. search needs)
-    (λ c. search needs)
-    returns-4)
+    returns)

@@ -12,16 +12,22 @@ use lib.ListN.{length, take, drop, replicate, length-replicate}
 use borrow.Author.Tests.{leb-true, leb-false}
 use Rattle.point_slices.specs.Slices.{ClauseSlices, SlotSlices, clauseSlices, clauseRoom, firstClauses}
 use Rattle.formula.specs.declared.Formula.{Formula}
+use Rattle.formula.specs.Laws.Contracts.{formulaWith}
 use Rattle.formula.specs.Limits.{maxClauses, capacity}
 use Rattle.formula.specs.Reply.{Reply, refused, satisfiable, unsatisfiable, unknown, parsed, written, opened, accepted}
 use Rattle.formula.specs.Reply.{pointIn}
 use Rattle.formula.specs.Laws.ReplyLaws.{written-not-refused, satisfiable-not-refused, unsatisfiable-not-refused}
 use Rattle.formula.specs.Laws.ReplyLaws.{unknown-not-refused}
-use Rattle.point_slices.specs.Laws.SliceLaws.{points-blank, clauses-blank}
+use Rattle.point_slices.specs.Laws.SliceLaws.{points-blank}
 use Rattle.dimacs_format.specs.Laws.ReaderLaws.{parsed-accepts}
 use Rattle.dimacs_format.specs.Laws.RoomLaws.{reads-alike, stored-room, room-enough}
 use Rattle.dimacs_format.specs.Input.{Input, formulaOf}
 use Rattle.dimacs_format.specs.Reader.{Step, goes, refuses, replyTo, reading, readReply, readFormula, readClauses}
+use Rattle.dimacs_lines.specs.declared.Parse.{Parse}
+use Rattle.dimacs_lines.specs.declared.Parse.the-variants.{Accepted, Refused as Unread}
+use Rattle.dimacs_lines.specs.declared.ParsedNumbers.{ParsedNumbers}
+use Rattle.dimacs_lines.specs.Laws.ParsedAs.{parsedIn}
+use Rattle.dimacs.specs.Contract.{Read}
 use Rattle.search.specs.Search.{searchReply, searchSlices}
 use Rattle.search.specs.Contract.{replyOfOutcome, replyOfFound, Searched}
 use Rattle.search.specs.declared.Found.{Found}
@@ -403,27 +409,19 @@ module _ (text : List ℕ) (clauses₀ : ClauseSlices) (slots₀ : SlotSlices) (
         promises = promised read-sheet slots₀ (replyOfSolution 0 (Refused code place)) out out reply certificate output;
       }
 
-  pub solves-refused : (code place : ℕ) (r : Settled) → r ≡ refusedWith code place
+  solves-refused : (code place : ℕ) (r : Settled) → r ≡ refusedWith code place
       → refused code place ≡ readReply text clauses₀ → Solved read-sheet slots₀ out r slots₀ out
   solves-refused code place r same e = subst (λ q. Solved read-sheet slots₀ out q slots₀ out) (sym same)
       (refused-solved code place e)
 
   -- the formula and the clauses that a text yields are solved as the text is
-  pub solves-read : parsed ≡ readReply text clauses₀ → (r : Settled) (slots₁ : SlotSlices) (out₁ : List ℕ)
+  solves-read : parsed ≡ readReply text clauses₀ → (r : Settled) (slots₁ : SlotSlices) (out₁ : List ℕ)
       (f : Formula) (clauses₁ : ClauseSlices) → f ≡ readFormula text clauses₀ → clauses₁ ≡ readClauses text clauses₀
       → Solved (by-value f (firstClauses (f .clauses) clauses₁)) slots₀ out r slots₁ out₁
       → Solved read-sheet slots₀ out r slots₁ out₁
   solves-read e r slots₁ out₁ f clauses₁ ef ec solved =
       solved-alike (by-value f (firstClauses (f .clauses) clauses₁)) read-sheet e ef
       (λ i. firstClauses (ef i .clauses) (ec i)) slots₀ out r slots₁ out₁ solved
-
--- arrays of zeros are the blank slices
-pub solved-blank : (text : List ℕ) {slots₀ slots₁ : SlotSlices} {out out₁ : List ℕ} {r : Settled}
-    → Solved (from-text text (clauseSlices (replicate maxClauses 0) (replicate maxClauses 0))) slots₀ out r slots₁ out₁
-    → Solved (from-text text blank) slots₀ out r slots₁ out₁
-unfolding blank
-solved-blank text {slots₀} {slots₁} {out} {out₁} {r} v =
-    subst (λ clauses. Solved (from-text text clauses) slots₀ out r slots₁ out₁) (clauses-blank maxClauses) v
 
 -- the slices as the reader leaves them have room for the text's clauses
 pub clauses-held : (text : List ℕ) (clauses₀ : ClauseSlices) → parsed ≡ readReply text clauses₀ → (f : Formula)
@@ -437,7 +435,7 @@ clauses-held text clauses₀ e f ef clauses₁ ec =
     (subst (λ (l : ClauseSlices). length cs ≤ clauseRoom l) (sym (ec ∙ w .2 .clauses)) (stored-room clauses₀ cs))
 
 -- a text that smaller slices take is solved as it is with larger ones
-pub solves-few : (text : List ℕ) (few more : ClauseSlices) → clauseRoom few ≤ clauseRoom more
+solves-few : (text : List ℕ) (few more : ClauseSlices) → clauseRoom few ≤ clauseRoom more
     → ((place : ℕ) → readReply text few ≡ refused 4 place → ⊥) → (slots₀ : SlotSlices) (out : List ℕ) (r : Settled)
     (slots₁ : SlotSlices) (out₁ : List ℕ) → Solved (from-text text few) slots₀ out r slots₁ out₁
     → Solved (from-text text more) slots₀ out r slots₁ out₁
@@ -446,8 +444,18 @@ solves-few text few more le not-4 slots₀ out r slots₁ out₁ v =
     solved-alike (from-text text few) (from-text text more) (a .reply) (a .formula) (a .first-clauses) slots₀ out r
     slots₁ out₁ v
 
--- local arrays for fewer clauses than the most are smaller than the blank ones
-pub few-room : (k : ℕ) → k ≤ maxClauses → clauseRoom (clauseSlices (replicate k 0) (replicate k 0)) ≤ clauseRoom blank
+-- ---- a text read to local arrays
+
+-- arrays for k clauses, 0 throughout
+abbrev pub zeros : ℕ → ClauseSlices
+zeros k = clauseSlices (replicate k 0) (replicate k 0)
+
+-- they have room for so many
+pub blank-room : (k : ℕ) → clauseRoom (zeros k) ≡ k
+blank-room k = rw (points-blank k, length-replicate {A = ℕ} k 0) (omega arith)
+
+-- those for no more clauses than the most are no larger than the blank ones
+pub few-room : (k : ℕ) → k ≤ maxClauses → clauseRoom (zeros k) ≤ clauseRoom blank
 unfolding blank
 few-room k le =
     rw (points-blank k, length-replicate {A = ℕ} k 0, length-replicate {A = ℕ} maxClauses 0)
@@ -475,6 +483,40 @@ most-not-4 text clauses le place h = by (reading text (clauseRoom clauses)) refl
         let there : at ≡ place = cc in
         room-enough text (clauseRoom clauses) le place (e ∙ λ i. refuses (same i) (there i))
 
--- arrays of 0 for the most clauses have room for them
-pub blank-room : (k : ℕ) → clauseRoom (clauseSlices (replicate k 0) (replicate k 0)) ≡ k
-blank-room k = rw (points-blank k, length-replicate {A = ℕ} k 0) (omega arith)
+module _ (text : List ℕ) (k : ℕ) (r : ParsedNumbers) (images : List ℕ) (clauses₁ : ClauseSlices)
+    (call : Read text (zeros k) (parsedIn r images) clauses₁) where
+  -- the reader's answer in its own case
+  case-read : (a : Parse) → r .answer ≡ a
+      → Read text (zeros k) (parsedIn (record { numbers = r .numbers; answer = a }) images) clauses₁
+  case-read a e = subst (λ b. Read text (zeros k) (parsedIn (record { numbers = r .numbers; answer = b }) images)
+      clauses₁) e call
+
+  -- its clauses stand in the arrays
+  pub read-held : r .answer ≡ Accepted → r .numbers .clauses ≤ clauseRoom clauses₁
+  read-held e =
+      let v = case-read Accepted e in
+      clauses-held text (zeros k) (v .reply) (formulaWith (r .numbers) images) (v .formula) clauses₁ (v .clauses)
+
+  -- arrays for the most clauses are never too short
+  pub most-held : maxClauses ≤ k → (code place : ℕ) → r .answer ≡ Unread code place → code ≡ 4 → ⊥
+  most-held le code place e four = most-not-4 text (zeros k) (le-trans le (le-of-eq (sym (blank-room k)))) place
+      (sym (case-read (Unread code place) e .reply) ∙ ap (λ (c : ℕ). refused c place) four)
+
+  module _ (le : k ≤ maxClauses) (slots₀ : SlotSlices) (out : List ℕ) (s : Settled) where
+    -- what is read is solved as it is with arrays for the most clauses
+    pub read-solved : r .answer ≡ Accepted → (slots₁ : SlotSlices) (out₁ : List ℕ)
+        → Solved (by-value (formulaWith (r .numbers) images) (firstClauses (r .numbers .clauses) clauses₁)) slots₀ out s
+        slots₁ out₁ → Solved (from-text text blank) slots₀ out s slots₁ out₁
+    read-solved e slots₁ out₁ solved =
+        let v = case-read Accepted e in
+        solves-few text (zeros k) blank (few-room k le) (parsed-not-4 (v .reply)) slots₀ out s slots₁ out₁
+        (solves-read text (zeros k) slots₀ out (v .reply) s slots₁ out₁ (formulaWith (r .numbers) images) clauses₁
+        (v .formula) (v .clauses) solved)
+
+    -- and so is a refusal that is no want of room
+    pub refusal-solved : (code place : ℕ) → r .answer ≡ Unread code place → (code ≡ 4 → ⊥)
+        → s ≡ refusedWith code place → Solved (from-text text blank) slots₀ out s slots₀ out
+    refusal-solved code place e ne same =
+        let reply = case-read (Unread code place) e .reply in
+        solves-few text (zeros k) blank (few-room k le) (other-not-4 code place reply ne) slots₀ out s slots₀ out
+        (solves-refused text (zeros k) slots₀ out code place s same reply)

@@ -1,0 +1,60 @@
+-- `solver::solve_few` meets its contract: `solve`'s proof, with arrays for more clauses. Assumes nothing.
+use mathlib.Core.Path.{refl}
+use borrow.Author.Needs.{needs}
+use lib.Dec.{lit≤}
+use Rattle.dimacs_lines.specs.Laws.ParsedAs.{fewClauses}
+use Rattle.solver.specs.Laws.SolverLaws.{read-held, read-solved, refusal-solved}
+use Rattle.solver.proofs.solve_few.Statement.{statement}
+use Rattle.solver.proofs.solve_few.Tie as tie
+
+read-lent-requires : tie.Need-read-lent-requires
+read-lent-requires c κs = refl
+
+solve-read-requires : tie.Need-solve-read-requires
+solve-read-requires c κs =
+    let read = c .before .before .before .before .before .before .before .before .before .before .before .before .before .read-lent in
+    (read .kept .1 .1 .1 .0, read-held _ fewClauses (read .result) (read .last .1 .1 .1 .0) _ (read .ensures) (c .before .before .before .before .before .before .before .enum-told .given .1))
+
+solve-many-requires : tie.Need-solve-many-requires
+solve-many-requires c κs = search needs
+
+refused-requires : tie.Need-refused-requires
+refused-requires c κs = search needs
+
+returns : tie.Need-returns
+returns c =
+    let read = c .before .before .before .before .before .before .before .before .before .read-lent in
+    refusal-solved _ fewClauses (read .result) (read .last .1 .1 .1 .0) _ (read .ensures) (lit≤ tt) _ _ _ _ _ (c .before .before .before .answer .given .1) (c .before .if1 .taken) (c .refused .ensures)
+
+returns-2 : tie.Need-returns-2
+returns-2 c =
+    let read = c .before .before .before .before .before .before .before .before .before .before .before .before .before .before .before .before .before .before .before .before .before .before .read-lent in
+    read-solved _ fewClauses (read .result) (read .last .1 .1 .1 .0) _ (read .ensures) (lit≤ tt) _ _ _ (c .before .before .before .before .before .before .before .before .before .before .before .before .before .before .before .before .enum-told .given .1) _ _ (c .before .before .before .before .before .before .before .before .solve-read .ensures)
+
+pub solve-few-spec : {M : Type 1} → statement M
+solve-few-spec =
+    tie.close
+    (tie.spec
+    (λ c. search needs)
+    (λ c. search needs)
+    (λ c. search needs)
+    read-lent-requires
+    (λ c. search needs)
+    (λ c. search needs)
+    (λ c. search needs)
+    (λ c. search needs)
+    solve-read-requires
+    (λ c. search needs)
+    refused-requires
+    returns
+    solve-many-requires
+    (λ c. search needs)
+    (λ c. search needs)
+    (λ c. search needs)
+    (λ c. search needs)
+    returns-2
+    (λ c. search needs)
+    (λ c. search needs)
+    (λ c. search needs)
+    (λ c. search needs)
+    (λ c. search needs))
