@@ -26,6 +26,10 @@ ghost use Rattle.solver.specs.Laws.Steps.{Refuted, Certifies, unsatisfia
 // How many clauses the first arrays have room for, since each array is made 0 first.
 const TINY_CLAUSES: usize = 32;
 
+// The longest text that is tried with them, eight bytes a clause. A longer one mostly has more clauses, and what stands
+// before these, often a comment for each variable, would be read twice.
+const TINY_TEXT: usize = 256;
+
 // What the solver answers. A certificate is `size` bytes at the front of the output, written and checked; where the
 // output has no room for the bytes needed, nothing is put there.
 pub enum Solution {
@@ -303,9 +307,9 @@ fn solve_few(
 }
 
 // K3, the product's main promise: reads a text, searches, and writes and checks the certificate of one that cannot be
-// met. The clauses and the images stay in local arrays, so that after a refusal nothing that was lent has changed: 512
-// bytes of clauses and 1 KiB of images first, since each is made 0, and larger ones where the reader finds these too
-// short (refusal 4), which it tells from the problem line.
+// met. The clauses and the images stay in local arrays, so that after a refusal nothing that was lent has changed. Each
+// is made 0: for a short text 512 bytes of clauses and 1 KiB of images first, and larger ones where the reader finds
+// these too short (refusal 4), which it tells from the problem line.
 pub fn solve(
     text: &[u8],
     points: &mut [u64],
@@ -317,6 +321,9 @@ pub fn solve(
         (slotSlices (now (points .entry)) (now (falsified .entry)) (now (depths .entry))) (now (out .entry)) r
         (slotSlices (now (points .exit)) (now (falsified .exit)) (now (depths .exit))) (now (out .exit)) ⌝ }
 {
+    if TINY_TEXT < text.len() {
+        return solve_few(text, points, falsified, depths, out);
+    }
     let mut positive = [0u64; TINY_CLAUSES];
     let mut negative = [0u64; TINY_CLAUSES];
     let mut images = [0u8; Formula::MAX_IMAGES];

@@ -1,5 +1,5 @@
--- `solver::solve` meets its contract: what the smallest arrays take is solved as with the largest, and where these are
--- refused by 4 larger ones are lent. Assumes nothing.
+-- `solver::solve` meets its contract: what the smallest arrays take is solved as with the largest, and where the text is
+-- long or these are refused by 4 larger ones are lent. Assumes nothing.
 use mathlib.Core.Path.{refl}
 use borrow.Author.Needs.{needs}
 use lib.Dec.{lit≤}
@@ -19,23 +19,32 @@ solve-read-requires c κs =
 solve-few-requires : tie.Need-solve-few-requires
 solve-few-requires c κs = search needs
 
+solve-few-requires-2 : tie.Need-solve-few-requires-2
+solve-few-requires-2 c κs = search needs
+
 refused-requires : tie.Need-refused-requires
 refused-requires c κs = search needs
 
-returns-2 : tie.Need-returns-2
-returns-2 c =
+returns-3 : tie.Need-returns-3
+returns-3 c =
     let read = c .before .before .before .before .before .before .before .before .before .before .before .before .before .before .before .before .before .before .before .before .before .before .read-lent in
     read-solved _ tinyClauses (read .result) (read .last .1 .1 .1 .0) _ (read .ensures) (lit≤ tt) _ _ _ (c .before .before .before .before .before .before .before .before .before .before .before .before .before .before .before .before .enum-told .given .1) _ _ (c .before .before .before .before .before .before .before .before .solve-read .ensures)
 
-returns-3 : tie.Need-returns-3
-returns-3 c =
+returns-4 : tie.Need-returns-4
+returns-4 c =
     let read = c .before .before .before .before .before .before .before .before .before .read-lent in
-    refusal-solved _ tinyClauses (read .result) (read .last .1 .1 .1 .0) _ (read .ensures) (lit≤ tt) _ _ _ _ _ (c .before .before .before .answer .given .1) (c .before .if1 .left) (c .refused .ensures)
+    refusal-solved _ tinyClauses (read .result) (read .last .1 .1 .1 .0) _ (read .ensures) (lit≤ tt) _ _ _ _ _ (c .before .before .before .answer .given .1) (c .before .if2 .left) (c .refused .ensures)
 
 pub solve-spec : {M : Type 1} → statement M
 solve-spec =
     tie.close
     (tie.spec
+    solve-few-requires
+    (λ c. search needs)
+    (λ c. search needs)
+    (λ c. search needs)
+    (λ c. search needs)
+    (λ c. search needs)
     (λ c. search needs)
     (λ c. search needs)
     (λ c. search needs)
@@ -46,7 +55,7 @@ solve-spec =
     (λ c. search needs)
     solve-read-requires
     (λ c. search needs)
-    solve-few-requires
+    solve-few-requires-2
     (λ c. search needs)
     (λ c. search needs)
     (λ c. search needs)
@@ -57,5 +66,5 @@ solve-spec =
     (λ c. search needs)
     (λ c. search needs)
     (λ c. search needs)
-    returns-2
-    returns-3)
+    returns-3
+    returns-4)
