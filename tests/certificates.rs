@@ -303,6 +303,24 @@ fn array_sizes(count: &mut Count) {
     }
 }
 
+// The solver at the sizes of its arrays for clauses, and at the length up to which it begins with the smallest: all
+// clauses are the first variable, which one change meets, or have no literal. A remark makes a text as long as it is to
+// be.
+fn solver_sizes(count: &mut Count) {
+    let kinds = [("1 0\n", [SATISFIABLE, 1, 1, 2]), ("0\n", [CERTIFIED, 1, 44, 0])];
+    for clauses in [32, 256, 1024, 4096].into_iter().flat_map(|size| [size - 1, size, size + 1]) {
+        for (clause, answer) in kinds {
+            let wanted = if clauses > 4096 { [REFUSED, 3, 0, 0] } else { answer };
+            let text = format!("p cnf 1 {clauses}\n{}c", clause.repeat(clauses));
+            for length in [text.len(), 255, 256, 257] {
+                let longer = format!("{text:x<length$}");
+                let (found, _) = solved(longer.as_bytes(), 8, 100);
+                count.compare(&format!("{clauses} times {clause:?}, {length} bytes"), found.reply, wanted);
+            }
+        }
+    }
+}
+
 // Every other answer of the solver leaves the output as it was, and a refusal the slots too.
 fn other_answers(count: &mut Count) {
     let a = text(2, &formula_a(), &[]);
@@ -361,6 +379,7 @@ fn main() {
     damaged_permutations(&mut count);
     damaged_entries(&mut count);
     array_sizes(&mut count);
+    solver_sizes(&mut count);
     end_to_end(&mut count);
     other_answers(&mut count);
     no_place(&mut count);
