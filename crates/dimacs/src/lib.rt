@@ -62,8 +62,8 @@ fn read_sized(
 }
 
 // The reader, to lent images, which are 0 before: the numbers of the formula, beside the answer. The work is linear in
-// the text: a byte before the problem line is visited at most five times, one of that line at most ten times, one
-// behind it at most twenty-two times (`read_lines`).
+// the text: a byte before the problem line is visited at most four times, one of that line at most nine times, one
+// behind it at most twenty-one times (`read_lines`).
 pub fn read_lent(
     text: &[u8],
     positive: &mut [u64],

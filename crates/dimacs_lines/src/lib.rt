@@ -230,7 +230,7 @@ fn afresh(state: State) -> State
 }
 
 // N3: "then the first fault in text order": the lines behind the one that ends at `end`. A byte of a comment is visited
-// at most three times to find its line's end, at most fifteen times as part of a head, and at most four times more; one
+// at most twice to find its line's end, at most fifteen times as part of a head, and at most four times more; one
 // of another line at most six times. So the work is linear in the text. `dimacs_lines::collect` sees to what it
 // requires: refusals 1 and 3, slices with room for C clauses, images of zeros.
 pub fn read_lines(

@@ -130,8 +130,8 @@ fn is_skipped(line: &[u8]) -> bool
     end == line.len()
 }
 
-// S11: "The first other line that isn't all blanks must be the problem line". A byte before it is visited at most five
-// times, three of them to find its line's end.
+// S11: "The first other line that isn't all blanks must be the problem line". A byte before it is visited at most four
+// times, two of them to find its line's end.
 pub fn find_problem(text: &[u8]) -> Located
     ensures { λ r. ⌜ ProblemFound (now (text .entry)) r ⌝ }
 {
