@@ -68,9 +68,9 @@ fn moved_from(e: &[u8], first: usize, s: Point) -> Point
 // How many variables of a set go one by one: beyond so many, one pass over all that follow takes less time.
 const SINGLE: u32 = 8;
 
-// Where a permutation sends the variables of a set, lowest variable first: one step each for the first eight, and a pass
-// over those behind them for what is left of a larger set. Nothing is counted first: that would take a fifth of the time
-// where a set has one or two. Refusal 11 sees to what it requires.
+// Where a permutation sends the variables of a set, lowest variable first: one step each for the first eight, and for
+// what is left of a larger set a pass over those behind them. Nothing is counted first: that would take a fifth of the
+// time where a set has one or two. Refusal 11 sees to what it requires.
 pub fn moved(e: &[u8], s: Point) -> Point
     requires { ⌜ Movable (now e) ⌝ }
     ensures { λ r. ⌜ r ≡ moved (now (e .entry)) s ⌝ }

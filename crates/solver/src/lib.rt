@@ -27,7 +27,7 @@ ghost use Rattle.solver.specs.Laws.Steps.{Refuted, Certifies, unsatisfia
 const TINY_CLAUSES: usize = 32;
 
 // The longest text that is tried with them, eight bytes a clause. A longer one mostly has more clauses, and what stands
-// before these, often a comment for each variable, would be read twice.
+// before its problem line, often a comment for each variable, would be read twice.
 const TINY_TEXT: usize = 256;
 
 // What the solver answers. A certificate is `size` bytes at the front of the output, written and checked; where the

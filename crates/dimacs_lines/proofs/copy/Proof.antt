@@ -1,5 +1,5 @@
--- `dimacs_lines::copy` meets its contract: there is room, the first i points are there, the others as they were. Assumes
--- nothing.
+-- `dimacs_lines::copy` meets its contract: there is room, the first i points are there, the others as they were.
+-- Assumes nothing.
 use mathlib.Core.Path.{_≡_, _∙_}
 use Prim.Native.Nat.{_-_}
 use native.Mathlib.Omega.{arith}

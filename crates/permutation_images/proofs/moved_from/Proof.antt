@@ -1,5 +1,5 @@
--- `permutation_images::moved_from` meets its contract: at index i the set holds what the numbers from i on send. Assumes
--- nothing.
+-- `permutation_images::moved_from` meets its contract: at index i the set holds what the numbers from i on send.
+-- Assumes nothing.
 use mathlib.Core.Path.{_≡_, sym, ap, _∙_}
 use Prim.Native.Nat.{_-_, _+_, _*_, _/_, _%_, _^_, _≤_, _<_}
 use lib.Bits.{bitOr}

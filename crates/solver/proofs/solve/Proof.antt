@@ -1,5 +1,5 @@
--- `solver::solve` meets its contract: what the smallest arrays take is solved as with the largest, and where the text is
--- long or these are refused by 4 larger ones are lent. Assumes nothing.
+-- `solver::solve` meets its contract: what the smallest arrays take is solved as with the largest, and where the text
+-- is long or these are refused by 4 larger ones are lent. Assumes nothing.
 use mathlib.Core.Path.{refl}
 use borrow.Author.Needs.{needs}
 use lib.Dec.{lit≤}
