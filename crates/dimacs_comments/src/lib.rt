@@ -3,6 +3,7 @@
 use dimacs_words::Class;
 use dimacs_words::Cursor;
 use dimacs_words::Word;
+use dimacs_words::blank_from;
 use dimacs_words::is_blank;
 use dimacs_words::read_digits;
 use dimacs_words::run_end;
@@ -90,8 +91,8 @@ pub fn read_target(bytes: &[u8], n: u32) -> Wanted
     if bytes.len() < size {
         return no_target();
     }
-    let end = run_end(bytes, size, Class::Blank);
-    if end < bytes.len() {
+    let blank = blank_from(bytes, size);
+    if !blank {
         return no_target();
     }
     target_digits(bytes, n)

@@ -15,7 +15,7 @@ use Rattle.permutation_theory.specs.Permutations.{Permutation, IsPermutation}
 use Rattle.formula.specs.Limits.{maxVariables, maxClauses, maxPermutations}
 use Rattle.dimacs_format.specs.Text.{maxText, isBlank, Line, Word, lines, words, wordsOf, spelled, isComment}
 use Rattle.dimacs_format.specs.Text.{problemWord, formatWord, targetHead, permutationHead, behind, isTargetLine}
-use Rattle.dimacs_format.specs.Text.{isPermutationLine}
+use Rattle.dimacs_format.specs.Text.{isPermutationLine, isPercentLine}
 use Rattle.dimacs_format.specs.Text.{numberIn, Literal, variable, Token, tokenIn, literal, close}
 use Rattle.dimacs_format.specs.Input.{Input, clauseOf}
 
@@ -96,7 +96,12 @@ wordsAmong ls = flatMap wordsOf (select (λ l. not (isComment l)) ls)
 abbrev pub Skipped : Line → Type 0
 Skipped l = (isComment l ≡ true) ⊎ ((b : ℕ) → b ∈ l .bytes → isBlank b ≡ true)
 
--- D2.1: "A sheet is read as DIMACS CNF, as document 01 fixes it.": the text is accepted and says d, with slices that
+-- Q01.2: "now ends the sheet; the bytes behind it are ignored": a percent line and whatever stands behind it, or nothing
+pub data Ignored : List Line → Type 0 where
+  at-text-end : Ignored []
+  at-percent-line : {l : Line} {ls : List Line} → isPercentLine l ≡ true → Ignored (l ∷ ls)
+
+-- D2.1: "A sheet is read as DIMACS CNF, as document 01 fixes it.", and Q01.4: "The reading in demand 2 is this one from now on.": the text is accepted and says d, with slices that
 -- have the given room for its clauses
 pub record Accepts (text : List ℕ) (room : ℕ) (d : Input) : Type 0 where
   -- S7: "The text is at most 1,048,576 bytes."
@@ -104,11 +109,15 @@ pub record Accepts (text : List ℕ) (room : ℕ) (d : Input) : Type 0 where
   pub before : List Line
   pub problem : Line
   pub after : List Line
+  pub ignored : List Line
   -- S8: "Lines end with byte 10; the last may lack it."
-  pub place : lines 0 text ≡ before ++ problem ∷ after
+  pub place : lines 0 text ≡ before ++ problem ∷ (after ++ ignored)
   -- S11: "The first other line that isn't all blanks must be the problem line"
   pub skipped : (l : Line) → l ∈ before → Skipped l
   pub sizes : ProblemLine problem (d .variables) (length (d .clauses))
+  -- Q01.2: "Once C rules are closed, a line whose first byte is `%` and that otherwise holds blanks now ends the sheet"
+  pub unended : (l : Line) → l ∈ after → isPercentLine l ≡ false
+  pub ended : Ignored ignored
   -- S12: "V is 1 to 64 and becomes n, C is 0 to 4,096"
   pub some-variable : 1 ≤ d .variables
   pub few-variables : d .variables ≤ maxVariables

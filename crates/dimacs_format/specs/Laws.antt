@@ -8,6 +8,7 @@ pub mod SideLaws
 pub mod HeadLaws
 pub mod LineLaws
 pub mod ReaderLaws
+pub mod PercentLaws
 pub mod InputLaws
 pub mod RoomLaws
 pub mod Handed

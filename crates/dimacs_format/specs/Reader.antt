@@ -17,7 +17,7 @@ use Rattle.formula.specs.declared.Formula.{Formula}
 use Rattle.dimacs_format.specs.declared.Sizes.{Sizes as SizesValue}
 use Rattle.dimacs_format.specs.Text.{maxText, isBlank, Line, Word, lines, words, wordsOf, spelled, sameBytes}
 use Rattle.dimacs_format.specs.Text.{begins, isComment, allBlank, problemWord, formatWord, targetHead}
-use Rattle.dimacs_format.specs.Text.{permutationHead, behind, numberIn, variable}
+use Rattle.dimacs_format.specs.Text.{permutationHead, behind, isPercentLine, numberIn, variable}
 use Rattle.dimacs_format.specs.Text.{Token, tokenIn, literal, close, malformed}
 use Rattle.dimacs_format.specs.Input.{Input, withLiteral, formulaOf, positives, negatives}
 
@@ -248,10 +248,6 @@ unfoldable pub lineStep : Sizes → Progress → Line → Step Progress
 unfolding handled kindOf
 lineStep z s l = handled z s l (kindOf l)
 
--- what the lines behind the problem line say
-abbrev pub linesSay : Sizes → List Line → Step Progress
-linesSay z after = walk (lineStep z) begin after
-
 -- ---- the whole text
 
 -- a line that stands before the problem line: a comment, or all blanks
@@ -274,17 +270,26 @@ inputOf n s = record {
   permutations = s .permutations;
 }
 
--- S15: "Exactly C rules are closed."; R7: "or too few closed", 7 at the "text length"
+-- S15: "Exactly C rules are closed."; R7: "or too few closed", 7 at the place where the sheet ends
 unfoldable pub atEnd : ℕ → Sizes → Progress → Step Input
-atEnd size z s = cond (eqb (length (s .clauses .closed)) (z .total)) (goes (inputOf (z .variables) s)) (refuses 7 size)
+atEnd place z s = cond (eqb (length (s .clauses .closed)) (z .total)) (goes (inputOf (z .variables) s))
+    (refuses 7 place)
 
--- what they say up to the end of a text of the given size
+-- N3: "then the first fault in text order"; R7: at the end of a text, its "text length"; Q01.2: a percent line "now ends
+-- the sheet; the bytes behind it are ignored"; Q01.3: "With fewer rules closed it gives 7 at the percent sign."
+unfoldable pub linesSay : ℕ → Sizes → Progress → List Line → Step Input
+unfolding andThen lineStep atEnd isPercentLine
+linesSay size z s [] = atEnd size z s
+linesSay size z s (l ∷ ls) = cond (isPercentLine l) (atEnd (l .start) z s)
+    (andThen (lineStep z s l) (λ t. linesSay size z t ls))
+
+-- what the lines behind the problem line of a text of the given size say
 abbrev pub textSays : ℕ → Sizes → List Line → Step Input
-textSays size z after = andThen (linesSay z after) (atEnd size z)
+textSays size z after = linesSay size z begin after
 
 -- R4: "a rule slice shorter than C | 4 | line's first byte"; the room is the length of the shortest slice
 unfoldable pub withRoom : ℕ → ℕ → Line → List Line → Sizes → Step Input
-unfolding andThen walk lineStep atEnd
+unfolding linesSay
 withRoom size room l after z = cond (leb (z .total) room) (textSays size z after) (refuses 4 (l .start))
 
 -- R3: "V or C outside limits | 3 | line's first byte"

@@ -138,6 +138,10 @@ targetHead = ascii "c wish "
 abbrev pub permutationHead : List ℕ
 permutationHead = ascii "c exch "
 
+-- the byte that ends a sheet before its text ends
+abbrev pub percentSign : List ℕ
+percentSign = ascii "%"
+
 -- what stands behind the head of a line
 abbrev pub behind : List ℕ → Line → List ℕ
 behind head l = drop (length head) (l .bytes)
@@ -151,6 +155,11 @@ isTargetLine l = begins targetHead (l .bytes)
 unfoldable pub isPermutationLine : Line → Bool
 unfolding begins
 isPermutationLine l = begins permutationHead (l .bytes)
+
+-- Q01.2: "a line whose first byte is `%` and that otherwise holds blanks"
+unfoldable pub isPercentLine : Line → Bool
+unfolding begins allBlank
+isPercentLine l = begins percentSign (l .bytes) && allBlank (behind percentSign l)
 
 -- ---- numbers
 

@@ -10,6 +10,7 @@ use dimacs_comments::permutation_line;
 use dimacs_comments::target_line;
 use dimacs_format::Sizes;
 use dimacs_words::begins;
+use dimacs_words::blank_from;
 use dimacs_words::line_end;
 use formula::Checked;
 use formula::Formula;
@@ -31,7 +32,8 @@ ghost use Rattle.dimacs_words.specs.Laws.Scans.{linesBehind};
 ghost use Rattle.dimacs_clauses.specs.Laws.ClauseScans.{Ready};
 ghost use Rattle.dimacs_comments.specs.Laws.CommentScans.{wantedOf};
 ghost use Rattle.dimacs_lines.specs.Laws.LineScans.{nothingSaid, Kept, Standing, CommentRead};
-ghost use Rattle.dimacs_lines.specs.Laws.LineScans.{opensComment, Following, Advancing, LinesRead};
+ghost use Rattle.dimacs_lines.specs.Laws.LineScans.{opensWith, opensComment, opensApart, percentAt};
+ghost use Rattle.dimacs_lines.specs.Laws.LineScans.{WordsThere, Following, Advancing, endedWith, LinesRead};
 ghost use Rattle.dimacs_lines.specs.Laws.ParsedAs.{Copied, refusedNumbers, toldRefused, parsedWith, parsedIn};
 ghost use Rattle.dimacs_lines.specs.Laws.ParsedAs.{HasRoom};
 ghost use Rattle.dimacs_lines.specs.Laws.ParsedAs.{Collectable, ParsedAs, Accepting};
@@ -97,19 +99,51 @@ fn read_comment(
     }
 }
 
-// S10: "A line whose first byte is `c` is a comment.": whether one begins at the place.
-fn opens_comment(text: &[u8], at: usize) -> bool
-    ensures { λ r. ⌜ r ≡ opensComment (now (text .entry)) at ⌝ }
+// Whether the line that begins at the place has the byte first.
+fn opens_with(text: &[u8], at: usize, byte: u8) -> bool
+    ensures { λ r. ⌜ r ≡ opensWith byte (now (text .entry)) at ⌝ }
 {
     if text.len() <= at {
         return false;
     }
-    text[at] == 99
+    text[at] == byte
 }
 
-// The lines of words from the one that begins at `start` up to the next comment or the end of the text, and where the
-// last of them ends. One step a line, and a byte of a line is visited at most five times: four by `clause_line`, and
-// the first of a line once more. `read_part` sees to what it requires.
+// S10: "A line whose first byte is `c` is a comment.": whether one begins at the place.
+fn opens_comment(text: &[u8], at: usize) -> bool
+    ensures { λ r. ⌜ r ≡ opensComment (now (text .entry)) at ⌝ }
+{
+    opens_with(text, at, 99)
+}
+
+// Q01.2: "a line whose first byte is `%` and that otherwise holds blanks": whether one begins at the place. Lines with
+// another first byte cost one step; a line with this one is the last that is read. Callers stand within the text.
+fn percent_line(text: &[u8], at: usize) -> bool
+    requires { ⌜ at ≤ length (now text) ⌝ }
+    ensures { λ r. ⌜ r ≡ percentAt (now (text .entry)) at ⌝ }
+{
+    let sign = opens_with(text, at, 37);
+    if !sign {
+        return false;
+    }
+    let stop = line_end(text, at);
+    blank_from(&text[at..stop], 1)
+}
+
+// Whether the line that begins at the place may be no line of words: a comment, or one that begins with `%`.
+fn opens_apart(text: &[u8], at: usize) -> bool
+    ensures { λ r. ⌜ r ≡ opensApart (now (text .entry)) at ⌝ }
+{
+    if text.len() <= at {
+        return false;
+    }
+    let first = text[at];
+    (first == 99) | (first == 37)
+}
+
+// The lines of words from the one that begins at `start` up to the next comment, a `%` that begins a line, or the end of
+// the text, and where the last of them ends. One step a line, and a byte of a line is visited at most five times: four
+// by `clause_line`, and the first of a line once more. `read_part` sees to what it requires.
 fn clause_lines(
     text: &[u8],
     start: usize,
@@ -119,7 +153,7 @@ fn clause_lines(
     negative: &mut [u64],
 ) -> Stepped
     requires { ⌜ Ready sizes (begun .closed) (clauseSlices (now positive) (now negative)) × (start ≤ length (now text))
-        × (opensComment (now text) start ≡ false) ⌝ }
+        × WordsThere (now text) start ⌝ }
     ensures { λ r. ⌜ Following sizes (now (text .entry)) start
         (clauseSlices (now (positive .entry)) (now (negative .entry))) begun r
         (clauseSlices (now (positive .exit)) (now (negative .exit))) ⌝ }
@@ -139,8 +173,8 @@ fn clause_lines(
             return step;
         }
         let next = stop + 1;
-        let comment = opens_comment(text, next);
-        if comment {
+        let apart = opens_apart(text, next);
+        if apart {
             return step;
         }
         state = taken.begun;
@@ -148,14 +182,14 @@ fn clause_lines(
     }
 }
 
-// What a comment or lines of words lead to, and where the last line ends.
+// What lines lead to, and where the last of them ends.
 pub struct Lined {
     pub advanced: Advanced,
     pub stop: usize,
 }
 
 // A comment, or lines of words: what begins at `start` decides. The heads are at most fourteen bytes to compare, and
-// each handler says how often it visits a byte.
+// each handler says how often it visits a byte. `read_lines` sees to what it requires.
 fn read_part(
     text: &[u8],
     start: usize,
@@ -166,7 +200,7 @@ fn read_part(
     images: &mut [u8],
 ) -> Lined
     requires { ⌜ Standing sizes state (clauseSlices (now positive) (now negative)) (now images)
-        × (start ≤ length (now text)) ⌝ }
+        × (start ≤ length (now text)) × (percentAt (now text) start ≡ false) ⌝ }
     ensures { λ r. ⌜ Advancing sizes (now (text .entry)) start state
         (clauseSlices (now (positive .entry)) (now (negative .entry))) (now (images .entry)) r
         (clauseSlices (now (positive .exit)) (now (negative .exit))) (now (images .exit)) ⌝ }
@@ -229,10 +263,22 @@ fn afresh(state: State) -> State
     }
 }
 
-// N3: "then the first fault in text order": the lines behind the one that ends at `end`. A byte of a comment is visited
-// at most twice to find its line's end, at most fifteen times as part of a head, and at most four times more; one
-// of another line at most six times. So the work is linear in the text. `dimacs_lines::collect` sees to what it
-// requires: refusals 1 and 3, slices with room for C clauses, images of zeros.
+// What was said up to the end of the sheet.
+fn ended_with(state: State, stop: usize) -> Lined
+    ensures { λ r. ⌜ r ≡ endedWith state stop ⌝ }
+{
+    let advanced = Advanced {
+        answer: Checked::Passed,
+        state,
+    };
+    Lined { advanced, stop }
+}
+
+// N3: "then the first fault in text order": the lines behind the one that ends at `end`, and where the sheet ends: the
+// text's length, or the first byte of a percent line (Q01.2). A byte of a comment is visited at most twice to find its
+// line's end, at most fifteen times as part of a head, and at most five times more; one of another line at most seven
+// times. So the work is linear in the text. `dimacs_lines::collect` sees to what it requires: refusals 1 and 3, slices
+// with room for C clauses, images of zeros.
 pub fn read_lines(
     text: &[u8],
     end: usize,
@@ -240,7 +286,7 @@ pub fn read_lines(
     positive: &mut [u64],
     negative: &mut [u64],
     images: &mut [u8],
-) -> Advanced
+) -> Lined
     requires { ⌜ Standing sizes nothingSaid (clauseSlices (now positive) (now negative)) (now images)
         × (length (now text) ≤ maxText) × (end ≤ length (now text)) ⌝ }
     ensures { λ r. ⌜ LinesRead sizes (now (text .entry)) end r
@@ -250,20 +296,22 @@ pub fn read_lines(
     let mut last = end;
     while last < text.len() {
         let start = last + 1;
+        let ended = percent_line(text, start);
+        if ended {
+            return ended_with(state, start);
+        }
         let part = read_part(text, start, sizes, state, positive, negative, images);
         let step = part.advanced;
         let answer = step.answer;
         let Checked::Passed = answer else {
-            return step;
+            return part;
         };
         let told = step.state;
         state = afresh(told);
         last = part.stop;
     }
-    Advanced {
-        answer: Checked::Passed,
-        state,
-    }
+    let size = text.len();
+    ended_with(state, size)
 }
 
 // What the reader says of a text.
@@ -351,10 +399,10 @@ fn told_refused(code: u32, place: usize) -> Told
     }
 }
 
-// S15: "Exactly C rules are closed." Then, and not before, the clauses go to the lent slices. Refusals 3 and 4 see to
-// the room.
+// S15: "Exactly C rules are closed." Then, and not before, the clauses go to the lent slices; with fewer it is refused
+// at the place where the sheet ends. Refusals 3 and 4 see to the room.
 fn accept(
-    size: usize,
+    end: usize,
     sizes: Sizes,
     state: State,
     p: &[u64],
@@ -364,13 +412,13 @@ fn accept(
 ) -> Told
     requires { ⌜ Ready sizes (state .begun .closed) (clauseSlices (now p) (now q))
         × HasRoom sizes (clauseSlices (now positive) (now negative)) ⌝ }
-    ensures { λ r. ⌜ Accepting size sizes state (clauseSlices (now (p .entry)) (now (q .entry)))
+    ensures { λ r. ⌜ Accepting end sizes state (clauseSlices (now (p .entry)) (now (q .entry)))
         (clauseSlices (now (positive .entry)) (now (negative .entry))) r
         (clauseSlices (now (positive .exit)) (now (negative .exit))) ⌝ }
 {
     let begun = state.begun;
     if begun.closed < sizes.total {
-        return told_refused(7, size);
+        return told_refused(7, end);
     }
     let wanted = state.wanted;
     let target = wanted_or_0(wanted);
@@ -402,12 +450,12 @@ pub fn collect(
         (clauseSlices (now (positive .entry)) (now (negative .entry))) (parsedWith sizes r (now (images .exit)))
         (clauseSlices (now (positive .exit)) (now (negative .exit))) ⌝ }
 {
-    let size = text.len();
-    let done = read_lines(text, end, sizes, p, q, images);
+    let read = read_lines(text, end, sizes, p, q, images);
+    let done = read.advanced;
     let answer = done.answer;
     let state = done.state;
     match answer {
-        Checked::Passed => accept(size, sizes, state, p, q, positive, negative),
+        Checked::Passed => accept(read.stop, sizes, state, p, q, positive, negative),
         Checked::Refused { code, place } => told_refused(code, place),
     }
 }

@@ -4,6 +4,7 @@ use dimacs_words::Class;
 use dimacs_words::Cursor;
 use dimacs_words::Number;
 use dimacs_words::begins;
+use dimacs_words::blank_from;
 use dimacs_words::line_end;
 use dimacs_words::read_number;
 use dimacs_words::run_end;
@@ -126,8 +127,7 @@ fn is_skipped(line: &[u8]) -> bool
     if comment {
         return true;
     }
-    let end = run_end(line, 0, Class::Blank);
-    end == line.len()
+    blank_from(line, 0)
 }
 
 // S11: "The first other line that isn't all blanks must be the problem line". A byte before it is visited at most four

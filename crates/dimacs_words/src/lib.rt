@@ -1,9 +1,9 @@
 // The bytes of a text: blanks and digits, runs of bytes, and words read as numbers.
 ghost use mathlib.Core.Path.{_≡_};
 ghost use Prim.Native.Nat.{_≤_};
-ghost use lib.ListN.{length};
+ghost use lib.ListN.{length, drop};
 ghost use Rattle.math.specs.Lists.{any};
-ghost use Rattle.dimacs_format.specs.Text.{endsLine, isBlank, isDigit, numberIn, begins};
+ghost use Rattle.dimacs_format.specs.Text.{endsLine, isBlank, isDigit, allBlank, numberIn, begins};
 ghost use Rattle.dimacs_words.specs.Laws.Scans.{belongs, Stretch, Skipped, endsWord, numberOf, wordMade};
 ghost use Rattle.dimacs_words.specs.Laws.Scans.{DigitsRead};
 
@@ -89,6 +89,16 @@ pub fn run_end(bytes: &[u8], from: usize, class: Class) -> usize
         i += 1;
     }
     i
+}
+
+// Whether the bytes from a place on are all blanks. One step a byte, up to the first that is none. Callers stand within
+// the bytes.
+pub fn blank_from(bytes: &[u8], from: usize) -> bool
+    requires { ⌜ from ≤ length (now bytes) ⌝ }
+    ensures { λ r. ⌜ r ≡ allBlank (drop from (now (bytes .entry))) ⌝ }
+{
+    let end = run_end(bytes, from, Class::Blank);
+    end == bytes.len()
 }
 
 // How many bytes are tested at once for the end of a line: as many as a register of the least x86-64 holds.

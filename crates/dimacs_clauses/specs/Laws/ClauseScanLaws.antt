@@ -24,7 +24,7 @@ use Rattle.dimacs_words.specs.declared.Word.{Word as WordAnswer}
 use Rattle.dimacs_words.specs.declared.Word.the-variants.{Read, Malformed}
 use Rattle.dimacs_format.specs.Text.{isBlank, endsLine, piece, words, Token, malformed}
 use Rattle.dimacs_format.specs.Reader.{goes, refuses, andThen, walk, Sizes, Clauses, tokenStep, wordStep}
-use Rattle.dimacs_format.specs.Laws.AnswerLaws.{WherePassed, then-passed, then-refused}
+use Rattle.dimacs_format.specs.Laws.AnswerLaws.{where-refused, then-passed, then-refused}
 use Rattle.dimacs_words.specs.Laws.Scans.{belongs, endsWord, Stretch, signed, Spelt, WordAt, WordRead}
 use Rattle.dimacs_words.specs.Laws.ScanLaws.{run-begins, run-exists, run-later, run-rest, cut, word-in-line, word-skip}
 use Rattle.dimacs_words.specs.Laws.ScanLaws.{words-end}
@@ -305,7 +305,7 @@ module _ {z : Sizes} {text : List ℕ} {start : ℕ} {clauses₀ : ClauseSlices}
           record {
             stop = a .stop;
             line = a .line;
-            ended = subst (λ x. WherePassed x (r .next .at ≡ a .stop)) (sym e) tt;
+            ended = where-refused (r .next .at ≡ a .stop) e;
             step = sym (a .left ∙ k .left (a .stop) rest .1 ∙ then-refused (r .taken .answer) code place
                 (clausesFrom clauses₁ (r .taken .begun)) (clausesFrom clauses₁ (r .taken .begun))
                 (wordsFrom z (take (a .stop) text) (r .next .at)) e);

@@ -136,35 +136,17 @@ module _ (n : ℕ) (bytes : List ℕ) where
   unfolding targetIn
   target-short h = rw (lt-leb n (length bytes) h)
 
-  pub target-unblank : {e : ℕ} → Stretch (belongs Blank) bytes n e → e < length bytes → none ≡ targetIn n bytes
-  unfolding targetIn belongs allBlank
-  target-unblank {e} s inside = by (leb n (length bytes) && all isBinary (take n bytes))
+  pub target-unblank : allBlank (drop n bytes) ≡ false → none ≡ targetIn n bytes
+  unfolding targetIn
+  target-unblank unblank = by (leb n (length bytes) && all isBinary (take n bytes))
     where
-      place : n + (e - n) ≡ e
-      place = let o = s .ordered in omega arith
-
-      member : getD bytes e 0 ∈ drop n bytes
-      member =
-          subst (λ b. b ∈ drop n bytes) (getD-drop n bytes (e - n) 0 ∙ ap (λ j. getD bytes j 0) place)
-          (getD-in (drop n bytes) (e - n) 0 (let o = s .ordered in omega (arith, length-drop n bytes)))
-
-      unblank : all isBlank (drop n bytes) ≡ false
-      unblank = not-all isBlank member (s .stops inside)
-
-      by : (t : Bool) → none ≡ cond (t && all isBlank (drop n bytes)) (some (binary (take n bytes))) none
+      by : (t : Bool) → none ≡ cond (t && allBlank (drop n bytes)) (some (binary (take n bytes))) none
       by true = rw unblank
       by false = refl
 
-  pub target-blank : {e : ℕ} → n ≤ length bytes → Stretch (belongs Blank) bytes n e → length bytes ≤ e
-      → binaryIn n bytes ≡ targetIn n bytes
-  unfolding targetIn binaryIn belongs allBlank
-  target-blank {e} room s past =
-      let end : e ≡ length bytes = let w = s .within in omega arith in
-      let whole : take (e - n) (drop n bytes) ≡ drop n bytes = ap (λ j. take (j - n) (drop n bytes)) end
-      ∙ part-end bytes n in
-      let blank : all isBlank (drop n bytes) ≡ true = ap (all isBlank) (sym whole)
-      ∙ run-all (belongs Blank) bytes n e s in
-      by (all isBinary (take n bytes)) (le-leb n (length bytes) room) blank
+  pub target-blank : n ≤ length bytes → allBlank (drop n bytes) ≡ true → binaryIn n bytes ≡ targetIn n bytes
+  unfolding targetIn binaryIn
+  target-blank room blank = by (all isBinary (take n bytes)) (le-leb n (length bytes) room) blank
     where
       by : (t : Bool) {u v : Bool} → u ≡ true → v ≡ true
           → cond t (some (binary (take n bytes))) none ≡ cond (u && t && v) (some (binary (take n bytes))) none

@@ -34,11 +34,11 @@ module _ {S T : Type 0} where
   then-refused a code place s t k e = ap (λ b. andThen (stepTo b s) k) e ∙ sym (ap (λ b. stepTo b t) e)
 
   -- what follows a refusal may be anything
-  pub then-alike : (a : Checked) (s : S) (m n : ℕ) (k : ℕ → S → Step T) → WherePassed a (m ≡ n)
-      → andThen (stepTo a s) (k n) ≡ andThen (stepTo a s) (k m)
+  pub then-alike : (a : Checked) (s : S) (j k : S → Step T) → WherePassed a (j s ≡ k s)
+      → andThen (stepTo a s) j ≡ andThen (stepTo a s) k
   unfolding andThen
-  then-alike Passed s m n k e = ap (λ j. k j s) (sym e)
-  then-alike (Refused code place) s m n k e = refl
+  then-alike Passed s j k e = e
+  then-alike (Refused code place) s j k e = refl
 
 pub where-told : (A : Type 0) {a : Checked} → a ≡ Passed → WherePassed a A → A
 where-told A e h = subst (λ x. WherePassed x A) e h
@@ -46,6 +46,9 @@ where-told A e h = subst (λ x. WherePassed x A) e h
 pub where-passed : {A : Type 0} (a : Checked) → A → WherePassed a A
 where-passed Passed h = h
 where-passed (Refused code place) h = tt
+
+pub where-refused : (A : Type 0) {a : Checked} {code place : ℕ} → a ≡ Refused code place → WherePassed a A
+where-refused A e = subst (λ x. WherePassed x A) (sym e) tt
 
 pub where-both : {A B : Type 0} (a : Checked) → (A → B) → WherePassed a A → WherePassed a B
 where-both Passed f h = f h

@@ -73,3 +73,40 @@ pub target-remark-read : Example target-remark (5 ∷ []) (6 ∷ []) (refused 8 
     emptyFormula (5 ∷ []) (6 ∷ [])
 unfolding readReply readFormula readClauses
 target-remark-read = record { reply = refl; formula = refl; clauses = refl }
+
+-- Q01.1: "whose files close with a line holding only `%`, then a 0"
+abbrev pub exercise-text : List ℕ
+exercise-text =
+    ascii "c an exercise\n" ++ ascii "p cnf 3 2\n" ++ ascii " 1 -2 0\n" ++ ascii "2 3 0\n" ++ ascii "%\n" ++ ascii "0\n\n"
+
+pub exercise-text-read : Example exercise-text (7 ∷ 8 ∷ 9 ∷ []) (7 ∷ 8 ∷ []) parsed
+    (record { variables = 3; clauses = 2; target = 0; permutations = 0; images = replicate maxImages 0 })
+    (1 ∷ 6 ∷ 9 ∷ []) (2 ∷ 0 ∷ [])
+unfolding readReply readFormula readClauses
+exercise-text-read = record { reply = refl; formula = refl; clauses = refl }
+
+-- what the reader answers to a text, with slices for two clauses
+abbrev Answered : List ℕ → Reply → Type 0
+Answered text r = readReply text (wholeClauses (5 ∷ 5 ∷ []) (6 ∷ 6 ∷ [])) ≡ r
+
+-- Q01.2: a percent line ends the sheet, and malformed lines behind it are not looked at
+pub percent-ends : Answered (ascii "p cnf 1 1\n1 0\n% \t\r\nc wish 9\nc exch 4097\n") parsed
+    × Answered (ascii "p cnf 1 0\n%") parsed
+unfolding readReply
+percent-ends = (refl, refl)
+
+-- Q01.3: "With fewer rules closed it gives 7 at the percent sign.", also inside a rule; before the problem line it is
+-- a malformed one
+pub percent-early : Answered (ascii "p cnf 2 2\n1 0\n%\n0\n") (refused 7 14)
+    × Answered (ascii "p cnf 2 1\n1 2\n%\n0\n") (refused 7 14)
+    × Answered (ascii "c x\n%\np cnf 1 0\n") (refused 2 4)
+unfolding readReply
+percent-early = (refl, refl, refl)
+
+-- `%x` and ` %` are words: 5, or 7 once C rules are closed
+pub percent-words : Answered (ascii "p cnf 2 1\n%x\n1 0\n") (refused 5 10)
+    × Answered (ascii "p cnf 2 1\n1 0\n%x\n") (refused 7 14)
+    × Answered (ascii "p cnf 2 1\n %\n1 0\n") (refused 5 11)
+    × Answered (ascii "p cnf 2 1\n1 0\n %\n") (refused 7 15)
+unfolding readReply
+percent-words = (refl, refl, refl, refl)

@@ -17,18 +17,21 @@ use Rattle.point_slices.specs.Slices.{ClauseSlices, clauseRoom}
 use Rattle.formula.specs.Limits.{maxVariables, maxClauses}
 use Rattle.formula.specs.Problem.{emptyFormula}
 use Rattle.formula.specs.Reply.{parsed, refused}
-use Rattle.dimacs_format.specs.Text.{maxText, isBlank, Line, lines, wordsOf, spelled, sameBytes, begins}
+use Rattle.dimacs_format.specs.Text.{maxText, isBlank, isDigit, Line, lines, wordsOf, spelled, sameBytes, begins}
 use Rattle.dimacs_format.specs.Text.{isComment, allBlank, problemWord, formatWord, isTargetLine}
-use Rattle.dimacs_format.specs.Text.{isPermutationLine, numberIn, decimal, unsigned, tokenIn, malformed}
+use Rattle.dimacs_format.specs.Text.{isPermutationLine, isPercentLine, numberIn, decimal, unsigned, tokenIn}
+use Rattle.dimacs_format.specs.Text.{malformed}
 use Rattle.dimacs_format.specs.Input.{Input, formulaOf}
 use Rattle.dimacs_format.specs.Reader.{Step, andThen, walk, Sizes, sizesIn, problemWords, problemIn, withinLimits}
-use Rattle.dimacs_format.specs.Reader.{Kind, Progress, begin, partOf, partStep, linesSay, isSkipped, fromProblem}
-use Rattle.dimacs_format.specs.Reader.{inputOf, atEnd, textSays, withRoom, withProblem, withLines, reading}
+use Rattle.dimacs_format.specs.Reader.{Kind, Progress, begin, partOf, partStep, lineStep, linesSay, isSkipped}
+use Rattle.dimacs_format.specs.Reader.{fromProblem, inputOf, atEnd, textSays, withRoom, withProblem, withLines, reading}
 use Rattle.dimacs_format.specs.Reader.{replyTo, formulaFrom, storedIn, slicesFrom, readReply, readFormula}
 use Rattle.dimacs_format.specs.Reader.{readClauses, goes, refuses, clause-line, target-line, permutation-line}
-use Rattle.dimacs_format.specs.Accepted.{ProblemLine, Permuted, wordsAmong, Skipped, Accepts}
+use Rattle.dimacs_format.specs.Accepted.{ProblemLine, Permuted, wordsAmong, Skipped, Ignored, Accepts}
+use Rattle.dimacs_format.specs.Accepted.{at-text-end, at-percent-line}
 use Rattle.dimacs_format.specs.Laws.TextLaws.{begins-split, same-bytes}
 use Rattle.dimacs_format.specs.Laws.StepLaws.{same-some, not-some, some-cond, goes-same, never, both-go}
+use Rattle.dimacs_format.specs.Laws.StepLaws.{walk-step}
 use Rattle.dimacs_format.specs.Laws.ClauseLaws.{walk-grouped, grouped-walk}
 use Rattle.dimacs_format.specs.Laws.LineLaws.{isKind, walk-parts, parts-walk, clause-words}
 use Rattle.dimacs_format.specs.Laws.CommentLaws.{walk-targeted, targeted-walk, walk-permuted, permuted-walk}
@@ -124,64 +127,163 @@ from-of (k ∷ before) l after h e =
     ap (λ t. cond t (fromProblem (before ++ l ∷ after)) (k ∷ before ++ l ∷ after)) (skipped-is k (h k (here k before)))
     ∙ from-of before l after (λ j m. h j (List·Memᴰ·tail m)) e
 
--- S16: "A second `p` line is a malformed word.": as every word is that begins so
-pub second-problem : (w : List ℕ) → tokenIn (problemWord ++ w) ≡ malformed
+-- a word whose first byte is neither a minus nor a digit is malformed
+pub word-malformed : (b : ℕ) (w : List ℕ) → eqb b 45 ≡ false → isDigit b ≡ false → tokenIn (b ∷ w) ≡ malformed
 unfolding tokenIn
-second-problem w = by (leb 1 (length (problemWord ++ w)) && leb (length (problemWord ++ w)) 4)
+word-malformed b w e f = rw (e, f) (by (leb 1 (length (b ∷ w)) && leb (length (b ∷ w)) 4))
   where
-    by : (b : Bool) → unsigned (cond (b && false) (some (decimal 0 (problemWord ++ w))) none) ≡ malformed
+    by : (t : Bool) → unsigned (cond (t && false) (some (decimal 0 (b ∷ w))) none) ≡ malformed
     by true = refl
     by false = refl
+
+-- S16: "A second `p` line is a malformed word.": as every word is that begins so
+pub second-problem : (w : List ℕ) → tokenIn (problemWord ++ w) ≡ malformed
+unfolding isDigit
+second-problem w = word-malformed 112 w refl refl
+
+-- ---- the lines behind it, up to the end of the sheet
+
+-- lines lead to an input: the walk over those before the percent line came to its end, and C clauses are closed
+record Led (z : Sizes) (s : Progress) (ls : List Line) (d : Input) : Type 0 where
+  sheet : List Line
+  ignored : List Line
+  split : ls ≡ sheet ++ ignored
+  unended : (l : Line) → l ∈ sheet → isPercentLine l ≡ false
+  ended : Ignored ignored
+  last : Progress
+  walked : walk (lineStep z) s sheet ≡ goes last
+  full : length (last .clauses .closed) ≡ z .total
+  input : inputOf (z .variables) last ≡ d
+
+module _ (size : ℕ) (z : Sizes) where
+  -- the end of the sheet leads to an input: C clauses are closed
+  end-full : (place : ℕ) (s : Progress) (d : Input) → atEnd place z s ≡ goes d
+      → (length (s .clauses .closed) ≡ z .total) × (inputOf (z .variables) s ≡ d)
+  unfolding atEnd
+  end-full place s d e = by (eqb (length (s .clauses .closed)) (z .total)) refl e
+    where
+      by : (t : Bool) → eqb (length (s .clauses .closed)) (z .total) ≡ t
+          → cond t (goes (inputOf (z .variables) s)) (refuses 7 place) ≡ goes d
+          → (length (s .clauses .closed) ≡ z .total) × (inputOf (z .variables) s ≡ d)
+      by true f e = (eqb-true (length (s .clauses .closed)) (z .total) f, goes-same e)
+      by false f e = absurd (never e)
+
+  full-end : (place : ℕ) (s : Progress) → length (s .clauses .closed) ≡ z .total
+      → atEnd place z s ≡ goes (inputOf (z .variables) s)
+  unfolding atEnd
+  full-end place s e = rw (eq-eqb (length (s .clauses .closed)) (z .total) e)
+
+  says-led : (ls : List Line) (s : Progress) (d : Input) → linesSay size z s ls ≡ goes d → Led z s ls d
+  unfolding linesSay walk
+  says-led [] s d e =
+      let f = end-full size s d e in
+      record {
+        sheet = [];
+        ignored = [];
+        split = refl;
+        unended = λ l m. absurd (List·Memᴰ·not-nil m);
+        ended = at-text-end;
+        last = s;
+        walked = refl;
+        full = f .0;
+        input = f .1;
+      }
+  says-led (l ∷ ls) s d e = by (isPercentLine l) refl e (λ t. says-led ls t d)
+    where
+      by : (p : Bool) → isPercentLine l ≡ p
+          → cond p (atEnd (l .start) z s) (andThen (lineStep z s l) (λ t. linesSay size z t ls)) ≡ goes d
+          → ((t : Progress) → linesSay size z t ls ≡ goes d → Led z t ls d) → Led z s (l ∷ ls) d
+      by true f e ih =
+          let g = end-full (l .start) s d e in
+          record {
+            sheet = [];
+            ignored = l ∷ ls;
+            split = refl;
+            unended = λ l m. absurd (List·Memᴰ·not-nil m);
+            ended = at-percent-line f;
+            last = s;
+            walked = refl;
+            full = g .0;
+            input = g .1;
+          }
+      by false f e ih =
+          let v = both-go (lineStep z s l) (λ t. linesSay size z t ls) e in
+          let i = ih (v .0) (v .2) in
+          record {
+            sheet = l ∷ i .sheet;
+            ignored = i .ignored;
+            split = ap (λ r. l ∷ r) (i .split);
+            unended = λ k m. ⊎-elim (λ p. subst (λ j. isPercentLine j ≡ false) (sym p) f) (λ m. i .unended k m)
+                (List·Memᴰ·cases-cons m);
+            ended = i .ended;
+            last = i .last;
+            walked = walk-step (lineStep z) s (v .0) l (i .sheet) (v .1) ∙ i .walked;
+            full = i .full;
+            input = i .input;
+          }
+
+  led-says : (sheet ignored : List Line) (s q : Progress) → ((l : Line) → l ∈ sheet → isPercentLine l ≡ false)
+      → Ignored ignored → walk (lineStep z) s sheet ≡ goes q → length (q .clauses .closed) ≡ z .total
+      → linesSay size z s (sheet ++ ignored) ≡ goes (inputOf (z .variables) q)
+  unfolding linesSay walk
+  led-says [] [] s q unended at-text-end w full =
+      full-end size s (ap (λ (t : Progress). length (t .clauses .closed)) (goes-same w) ∙ full)
+      ∙ ap (λ t. goes (inputOf (z .variables) t)) (goes-same w)
+  led-says [] (l ∷ ls) s q unended (at-percent-line e) w full =
+      ap (λ p. cond p (atEnd (l .start) z s) (andThen (lineStep z s l) (λ t. linesSay size z t ls))) e
+      ∙ full-end (l .start) s (ap (λ (t : Progress). length (t .clauses .closed)) (goes-same w) ∙ full)
+      ∙ ap (λ t. goes (inputOf (z .variables) t)) (goes-same w)
+  led-says (l ∷ ls) ignored s q unended ended w full =
+      let v = both-go (lineStep z s l) (λ t. walk (lineStep z) t ls) w in
+      ap (λ p. cond p (atEnd (l .start) z s) (andThen (lineStep z s l) (λ t. linesSay size z t (ls ++ ignored))))
+      (unended l (here l ls))
+      ∙ ap (λ m. andThen m (λ t. linesSay size z t (ls ++ ignored))) (v .1)
+      ∙ led-says ls ignored (v .0) q (λ k m. unended k (List·Memᴰ·tail m)) ended (v .2) full
 
 -- ---- what the reader takes is accepted
 
 module _ (text : List ℕ) (room : ℕ) where
-  -- behind a problem line with sizes z: the walk came to s, and C clauses are closed
-  accepts-with : (l : Line) (after : List Line) (z : Sizes) (s : Progress) → length text ≤ maxText
+  -- behind a problem line with sizes z lines lead to an input
+  accepts-with : (l : Line) (after : List Line) (z : Sizes) (d : Input) → length text ≤ maxText
       → fromProblem (lines 0 text) ≡ l ∷ after
-      → problemIn l ≡ some z → withinLimits z ≡ true → leb (z .total) room ≡ true → linesSay z after ≡ goes s
-      → length (s .clauses .closed) ≡ z .total → Accepts text room (inputOf (z .variables) s)
+      → problemIn l ≡ some z → withinLimits z ≡ true → leb (z .total) room ≡ true → Led z begin after d
+      → Accepts text room d
   unfolding withinLimits
-  accepts-with l after z s size from is limits enough walked full =
+  accepts-with l after z d size from is limits enough led =
       let f = from-split (lines 0 text) l after from in
-      let a = walk-parts z after begin s walked in
+      let s = led .last in
+      let a = walk-parts z (led .sheet) begin s (led .walked) in
       let t = and-split (leb 1 (z .variables) && leb (z .variables) maxVariables) (leb (z .total) maxClauses) limits in
       let v = and-split (leb 1 (z .variables)) (leb (z .variables) maxVariables) (t .0) in
-      let e = walk-permuted (z .variables) (select isPermutationLine after) [] (omega arith) (a permutation-line) in
-      record {
+      let e = walk-permuted (z .variables) (select isPermutationLine (led .sheet)) [] (omega arith)
+      (a permutation-line) in
+      subst (Accepts text room) (led .input) (record {
         size = size;
         before = f .0;
         problem = l;
-        after = after;
-        place = f .1;
+        after = led .sheet;
+        ignored = led .ignored;
+        place = f .1 ∙ ap (λ ls. f .0 ++ l ∷ ls) (led .split);
         skipped = f .2;
-        sizes = subst (ProblemLine l (z .variables)) (sym full) (problem-of l z is);
+        sizes = subst (ProblemLine l (z .variables)) (sym (led .full)) (problem-of l z is);
+        unended = led .unended;
+        ended = led .ended;
         some-variable = leb-true 1 (z .variables) (v .0);
         few-variables = leb-true (z .variables) maxVariables (v .1);
-        few-clauses = subst (λ k. k ≤ maxClauses) (sym full) (leb-true (z .total) maxClauses (t .1));
-        enough-room = subst (λ k. k ≤ room) (sym full) (leb-true (z .total) room enough);
-        grouped = walk-grouped z (wordsAmong after) (s .clauses)
-            (sym (clause-words z (begin .clauses) after) ∙ a clause-line) full;
-        targeted = walk-targeted (z .variables) (select isTargetLine after) (a target-line);
-        permuted = subst (Permuted (z .variables) (select isPermutationLine after)) (sym (e .2)) (e .1);
+        few-clauses = subst (λ k. k ≤ maxClauses) (sym (led .full)) (leb-true (z .total) maxClauses (t .1));
+        enough-room = subst (λ k. k ≤ room) (sym (led .full)) (leb-true (z .total) room enough);
+        grouped = walk-grouped z (wordsAmong (led .sheet)) (s .clauses)
+            (sym (clause-words z (begin .clauses) (led .sheet)) ∙ a clause-line) (led .full);
+        targeted = walk-targeted (z .variables) (select isTargetLine (led .sheet)) (a target-line);
+        permuted = subst (Permuted (z .variables) (select isPermutationLine (led .sheet))) (sym (e .2)) (e .1);
         few-permutations = e .3;
-      }
+      })
 
   -- D2.1: a text that the reader takes is an accepted one, and says what the reader found
   pub reading-accepts : (d : Input) → reading text room ≡ goes d → Accepts text room d
   unfolding reading
   reading-accepts d e = whole (leb (length text) maxText) refl (fromProblem (lines 0 text)) refl e
     where
-      ends : (l : Line) (after : List Line) (z : Sizes) (s : Progress) → length text ≤ maxText
-          → fromProblem (lines 0 text) ≡ l ∷ after → problemIn l ≡ some z
-          → withinLimits z ≡ true → leb (z .total) room ≡ true → linesSay z after ≡ goes s
-          → (t : Bool) → eqb (length (s .clauses .closed)) (z .total) ≡ t
-          → cond t (goes (inputOf (z .variables) s)) (refuses 7 (length text)) ≡ goes d → Accepts text room d
-      ends l after z s size from is limits enough walked true f e =
-          subst (Accepts text room) (goes-same e) (accepts-with l after z s size from is limits enough walked
-          (eqb-true (length (s .clauses .closed)) (z .total) f))
-      ends l after z s size from is limits enough walked false f e = absurd (never e)
-
       sized : (l : Line) (after : List Line) (z : Sizes) → length text ≤ maxText
           → fromProblem (lines 0 text) ≡ l ∷ after → problemIn l ≡ some z
           → (t : Bool) → withinLimits z ≡ t → (u : Bool) → leb (z .total) room ≡ u
@@ -190,8 +292,7 @@ module _ (text : List ℕ) (room : ℕ) where
       sized l after z size from is false f u g e = absurd (never e)
       sized l after z size from is true f false g e = absurd (never e)
       sized l after z size from is true f true g e =
-          let v = both-go (linesSay z after) (atEnd (length text) z) e in
-          ends l after z (v .0) size from is f g (v .1) (eqb (length (v .0 .clauses .closed)) (z .total)) refl (v .2)
+          accepts-with l after z d size from is f g (says-led (length text) z after begin d e)
 
       headed : (l : Line) (after : List Line) → length text ≤ maxText → fromProblem (lines 0 text) ≡ l ∷ after
           → (o : Option Sizes) → problemIn l ≡ o
@@ -219,8 +320,8 @@ module _ (text : List ℕ) (room : ℕ) where
         target = t .0;
         permutations = d .permutations;
       } in
-      let from : fromProblem (lines 0 text) ≡ a .problem ∷ a .after =
-      ap fromProblem (a .place) ∙ from-of (a .before) (a .problem) (a .after) (a .skipped)
+      let from : fromProblem (lines 0 text) ≡ a .problem ∷ (a .after ++ a .ignored) =
+      ap fromProblem (a .place) ∙ from-of (a .before) (a .problem) (a .after ++ a .ignored) (a .skipped)
       (problem-shown (a .problem) (d .variables) (length (d .clauses)) (a .sizes)) in
       let limits : withinLimits z ≡ true =
       and-join (leb 1 (d .variables) && leb (d .variables) maxVariables) (leb (length (d .clauses)) maxClauses)
@@ -234,14 +335,14 @@ module _ (text : List ℕ) (room : ℕ) where
       ap (λ b. cond b (withLines (length text) room (fromProblem (lines 0 text))) (refuses 1 maxText))
       (le-leb (length text) maxText (a .size))
       ∙ ap (withLines (length text) room) from
-      ∙ ap (withProblem (length text) room (a .problem) (a .after))
+      ∙ ap (withProblem (length text) room (a .problem) (a .after ++ a .ignored))
       (problem-in (a .problem) (d .variables) (length (d .clauses)) (a .sizes))
-      ∙ ap (λ b. cond b (withRoom (length text) room (a .problem) (a .after) z) (refuses 3 (a .problem .start))) limits
-      ∙ ap (λ b. cond b (textSays (length text) z (a .after)) (refuses 4 (a .problem .start)))
+      ∙ ap (λ b. cond b (withRoom (length text) room (a .problem) (a .after ++ a .ignored) z)
+      (refuses 3 (a .problem .start))) limits
+      ∙ ap (λ b. cond b (textSays (length text) z (a .after ++ a .ignored)) (refuses 4 (a .problem .start)))
       (le-leb (length (d .clauses)) room (a .enough-room))
-      ∙ ap (λ m. andThen m (atEnd (length text) z)) (parts-walk z (a .after) begin s parts)
-      ∙ ap (λ b. cond b (goes (inputOf (d .variables) s)) (refuses 7 (length text)))
-      (eq-eqb (length (d .clauses)) (length (d .clauses)) refl)
+      ∙ led-says (length text) z (a .after) (a .ignored) begin s (a .unended) (a .ended)
+      (parts-walk z (a .after) begin s parts) refl
       ∙ ap (λ x. goes (record {
         variables = d .variables;
         clauses = d .clauses;

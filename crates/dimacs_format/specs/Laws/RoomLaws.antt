@@ -20,7 +20,7 @@ use Rattle.formula.specs.Limits.{maxVariables, maxClauses, maxPermutations}
 use Rattle.formula.specs.Problem.{emptyFormula}
 use Rattle.formula.specs.Reply.{refused}
 use Rattle.dimacs_format.specs.Text.{maxText, Line, Word, lines, wordsOf, variable, Token, tokenIn, literal}
-use Rattle.dimacs_format.specs.Text.{close, malformed, targetHead, permutationHead, behind}
+use Rattle.dimacs_format.specs.Text.{close, malformed, targetHead, permutationHead, behind, isPercentLine}
 use Rattle.dimacs_format.specs.Input.{Input, formulaOf, positives, negatives}
 use Rattle.dimacs_format.specs.Reader.{Step, andThen, walk, Sizes, problemIn, withinLimits, Clauses, tokenStep}
 use Rattle.dimacs_format.specs.Reader.{wordStep, targetIn, targetKept, targetSaid, permutationIn, permutationKept}
@@ -192,10 +192,16 @@ late-line z s l = by (kindOf l)
     by (some k) = late-then (partStep z k (partOf k s) l) (late-part z k (partOf k s) l)
         (λ a. late-goes (withPart k s a))
 
-late-text : (size : ℕ) (z : Sizes) (after : List Line) → Late (textSays size z after)
+late-end : (place : ℕ) (z : Sizes) (s : Progress) → Late (atEnd place z s)
 unfolding atEnd
-late-text size z after = late-then (linesSay z after) (late-walk (late-line z) after begin)
-    (λ s. late-cond (eqb (length (s .clauses .closed)) (z .total)) (late-goes _) (late-code 7 size (omega arith)))
+late-end place z s = late-cond (eqb (length (s .clauses .closed)) (z .total)) (late-goes _)
+    (late-code 7 place (omega arith))
+
+late-lines : (size : ℕ) (z : Sizes) (ls : List Line) (s : Progress) → Late (linesSay size z s ls)
+unfolding linesSay
+late-lines size z [] s = late-end size z s
+late-lines size z (l ∷ ls) s = late-cond (isPercentLine l) (late-end (l .start) z s)
+    (late-then (lineStep z s l) (late-line z s l) (λ t. late-lines size z ls t))
 
 -- R4 does not occur where there is room for 4,096 clauses
 pub room-enough : (text : List ℕ) (room : ℕ) → maxClauses ≤ room → (place : ℕ) → reading text room ≡ refuses 4 place → ⊥
@@ -208,7 +214,7 @@ room-enough text room le place e = whole (leb (length text) maxText) (fromProble
     roomy : (size : ℕ) (l : Line) (after : List Line) (z : Sizes) → z .total ≤ maxClauses → (t : Bool)
         → leb (z .total) room ≡ t
         → cond t (textSays size z after) (refuses 4 (l .start)) ≡ refuses 4 place → ⊥
-    roomy size l after z few true f e = let h = late-text size z after 4 place e in let x : ⊥ = omega arith in x
+    roomy size l after z few true f e = let h = late-lines size z after begin 4 place e in let x : ⊥ = omega arith in x
     roomy size l after z few false f e = true≢false (sym (le-leb (z .total) room (le-trans few le)) ∙ f)
 
     sized : (size : ℕ) (l : Line) (after : List Line) (z : Sizes) (t : Bool) → withinLimits z ≡ t

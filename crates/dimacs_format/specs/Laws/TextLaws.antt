@@ -1,7 +1,7 @@
 -- Laws of lines and words: the computed runs are the declared ones and no others, how they go on from a place of the
 -- text, and what the tests on bytes say. Assumes nothing.
 use mathlib.Core.Bool.{Bool, true, false, not, cond, false≢true}
-use mathlib.Core.List.{List, [], _∷_, _++_, map}
+use mathlib.Core.List.{List, [], _∷_, _++_, map, nil≢cons}
 use mathlib.Core.Path.{_≡_, refl, sym, ap, ap₂, _∙_, subst}
 use Prim.Native.Nat.{ℕ, suc, _+_, _≤_, _<_}
 use native.Mathlib.Nat.{add-suc, suc-add, add-zero}
@@ -13,8 +13,8 @@ use borrow.Author.Tests.{eqb-true, eq-eqb, not-true, le-leb}
 use Rattle.math.specs.Laws.ListLaws.{and-split, and-join}
 use Rattle.math.specs.Lists.{all, select}
 use Rattle.math.specs.Laws.SplitLaws.{select-cons}
-use Rattle.dimacs_format.specs.Text.{endsLine, isBlank, Piece, piece, Clean, Split, joined, pieces, Word, lines}
-use Rattle.dimacs_format.specs.Text.{holdsBytes, words, sameBytes, begins, split-last, split-more}
+use Rattle.dimacs_format.specs.Text.{endsLine, isBlank, Piece, piece, Clean, Split, joined, pieces, Line, Word, lines}
+use Rattle.dimacs_format.specs.Text.{holdsBytes, words, sameBytes, begins, allBlank, split-last, split-more}
 
 -- ---- the runs
 
@@ -72,6 +72,34 @@ module _ (t : ℕ → Bool) where
   split-pieces (split-more {at = at} {b = b} {run = run} {rest = rest} {ps = ps} clean e s) =
       ap (λ l. piece at run ∷ l) (split-pieces s) ∙ sym (pieces-next at run b rest clean e)
 
+  -- there is at least one run, and the first begins where the bytes do
+  pub pieces-some : (at : ℕ) (xs : List ℕ) → (run : List ℕ) × (ps : List Piece) × (pieces t at xs ≡ piece at run ∷ ps)
+  unfolding pieces joined
+  pieces-some at [] = ([], [], refl)
+  pieces-some at (b ∷ bs) = let i = pieces-some (suc at) bs in by (t b) (i .0) (i .1) (i .2)
+    where
+      by : (v : Bool) (run : List ℕ) (ps : List Piece) → pieces t (suc at) bs ≡ piece (suc at) run ∷ ps
+          → (run : List ℕ) × (ps : List Piece) × (joined v at b (pieces t (suc at) bs) ≡ piece at run ∷ ps)
+      by true run ps e = ([], pieces t (suc at) bs, refl)
+      by false run ps e = (b ∷ run, ps, ap (joined false at b) e)
+
+  -- the runs before a byte that separates, and those behind it
+  pub pieces-append : (at : ℕ) (xs : List ℕ) (b : ℕ) (ys : List ℕ) → t b ≡ true
+      → pieces t at (xs ++ b ∷ ys) ≡ pieces t at xs ++ pieces t (suc (at + length xs)) ys
+  unfolding pieces joined
+  pieces-append at [] b ys e = rw (e, add-zero)
+  pieces-append at (x ∷ xs) b ys e =
+      ap (joined (t x) at x) (pieces-append (suc at) xs b ys e)
+      ∙ by (t x) (pieces t (suc at) xs) (pieces t (suc (suc at + length xs)) ys) (pieces-some (suc at) xs .2)
+      ∙ ap (λ k. joined (t x) at x (pieces t (suc at) xs) ++ pieces t (suc k) ys)
+      (suc-add at (length xs) ∙ sym (add-suc at (length xs)))
+    where
+      by : (v : Bool) (ps rest : List Piece) {p : Piece} {qs : List Piece} → ps ≡ p ∷ qs
+          → joined v at x (ps ++ rest) ≡ joined v at x ps ++ rest
+      by true ps rest e = refl
+      by false [] rest e = absurd (nil≢cons e)
+      by false (p ∷ ps) rest e = refl
+
   -- what the runs hold does not depend on where the text begins
   pub pieces-bytes : (a b : ℕ) (xs : List ℕ)
       → map (λ (p : Piece). p .bytes) (pieces t a xs) ≡ map (λ (p : Piece). p .bytes) (pieces t b xs)
@@ -100,6 +128,29 @@ pub lines-next : (at k : ℕ) (bytes : List ℕ) → k < length bytes → Clean 
     → lines at bytes ≡ piece at (take k bytes) ∷ lines (suc (at + k)) (drop (suc k) bytes)
 unfolding lines
 lines-next at k bytes lt clean e = pieces-at endsLine at k bytes lt clean e
+
+-- the first line begins where the bytes do
+pub lines-some : (at : ℕ) (bytes : List ℕ) → (run : List ℕ) × (ls : List Line) × (lines at bytes ≡ piece at run ∷ ls)
+unfolding lines
+lines-some at bytes = pieces-some endsLine at bytes
+
+-- the lines before a byte 10, and those behind it
+pub lines-append : (at : ℕ) (xs ys : List ℕ)
+    → lines at (xs ++ 10 ∷ ys) ≡ lines at xs ++ lines (suc (at + length xs)) ys
+unfolding lines
+lines-append at xs ys = pieces-append endsLine at xs 10 ys refl
+
+-- blanks end no line
+pub blank-clean : (bytes : List ℕ) → allBlank bytes ≡ true → Clean endsLine bytes
+unfolding allBlank endsLine all
+blank-clean [] e = refl
+blank-clean (b ∷ bs) e =
+    let w = and-split (isBlank b) (all isBlank bs) e in
+    and-join (not (eqb b 10)) (all (λ x. not (eqb x 10)) bs) (by (eqb b 10) refl (w .0)) (blank-clean bs (w .1))
+  where
+    by : (t : Bool) → eqb b 10 ≡ t → isBlank b ≡ true → not t ≡ true
+    by true f h = absurd (false≢true (ap isBlank (sym (eqb-true b 10 f)) ∙ h))
+    by false f h = refl
 
 -- ---- the words
 

@@ -28,8 +28,8 @@ returns c = going-ends (c .before .before .before .before .before .before .befor
 returns-2 : tie.Need-returns-2 Inv-loop μ-loop
 returns-2 c = going-ends (c .before .before .before .before .before .before .before .before .before .before .before .before .loop .inv .0) (c .before .before .before .before .before .before .before .before .before .clause-line .ensures)
 
-opens-comment-requires : tie.Need-opens-comment-requires Inv-loop μ-loop
-opens-comment-requires c κs = search needs
+opens-apart-requires : tie.Need-opens-apart-requires Inv-loop μ-loop
+opens-apart-requires c κs = search needs
 
 returns-3 : tie.Need-returns-3 Inv-loop μ-loop
 returns-3 c = going-ends (c .before .before .before .before .before .before .before .before .before .before .before .before .before .before .loop .inv .0) (c .before .before .before .before .before .before .before .before .before .before .before .clause-line .ensures)
@@ -39,7 +39,7 @@ loop-less c = omega (arith, c .before .before .before .if1 .left, going-later (c
 
 loop-again : tie.Need-loop-again Inv-loop μ-loop
 loop-again c = (
-  going-goes-on (c .before .before .before .before .before .before .before .before .before .before .before .before .before .before .before .loop .inv .0) (c .before .before .before .before .before .before .before .before .before .before .before .before .clause-line .ensures) (c .before .before .before .before .before .enum-told .given .1) (c .before .before .before .if1 .left) (sym (c .before .before .opens-comment .ensures) ∙ c .before .if2 .left),
+  going-goes-on (c .before .before .before .before .before .before .before .before .before .before .before .before .before .before .before .loop .inv .0) (c .before .before .before .before .before .before .before .before .before .before .before .before .clause-line .ensures) (c .before .before .before .before .before .enum-told .given .1) (c .before .before .before .if1 .left) (sym (c .before .before .opens-apart .ensures) ∙ c .before .if2 .left),
   c .before .before .before .before .before .before .before .before .before .before .before .before .clause-line .kept .1 .1 .1 .1 .0 ∙ c .before .before .before .before .before .before .before .before .before .before .before .before .before .before .before .loop .inv .1,
   c .before .before .before .before .before .before .before .before .before .before .before .before .clause-line .kept .1 .1 .1 .1 .1 .0 ∙ c .before .before .before .before .before .before .before .before .before .before .before .before .before .before .before .loop .inv .2,
 )
@@ -61,7 +61,7 @@ clause-lines-spec =
     (λ c. search needs)
     returns-2
     (λ c. search needs)
-    opens-comment-requires
+    opens-apart-requires
     (λ c. search needs)
     (λ c. search needs)
     returns-3

@@ -1,7 +1,7 @@
 -- `dimacs_lines::read_part` meets its contract: a comment, or lines of words. Assumes nothing.
 use mathlib.Core.Path.{sym, _∙_}
 use borrow.Author.Needs.{needs}
-use Rattle.dimacs_lines.specs.Laws.LineScanLaws.{comment-there, part-comment, part-words}
+use Rattle.dimacs_lines.specs.Laws.LineScanLaws.{comment-there, words-begin, part-comment, part-words}
 use Rattle.dimacs_lines.proofs.read_part.Statement.{statement}
 use Rattle.dimacs_lines.proofs.read_part.Tie as tie
 
@@ -15,10 +15,10 @@ read-comment-requires : tie.Need-read-comment-requires
 read-comment-requires c κs = (c .before .before .before .before .before .before .before .before .before .pre .0 .kept, comment-there (c .before .before .before .before .before .before .before .before .before .args .text .now) (c .before .before .line-end .ensures) ∙ sym (c .before .before .before .before .opens-comment .ensures) ∙ c .before .before .before .if1 .taken)
 
 returns : tie.Need-returns
-returns c = part-comment (c .before .before .before .before .before .before .before .before .before .before .before .before .pre .0) (c .before .before .before .before .before .line-end .ensures) (c .before .before .read-comment .ensures)
+returns c = part-comment (c .before .before .before .before .before .before .before .before .before .before .before .before .pre .0) (c .before .before .before .before .before .before .before .before .before .before .before .before .pre .2) (c .before .before .before .before .before .line-end .ensures) (c .before .before .read-comment .ensures)
 
 clause-lines-requires : tie.Need-clause-lines-requires
-clause-lines-requires c κs = (c .before .before .before .before .before .before .before .before .before .pre .0 .ready, c .before .before .before .before .before .before .before .before .before .pre .1, sym (c .before .before .before .before .opens-comment .ensures) ∙ c .before .before .before .if1 .left)
+clause-lines-requires c κs = (c .before .before .before .before .before .before .before .before .before .pre .0 .ready, c .before .before .before .before .before .before .before .before .before .pre .1, words-begin (c .before .before .before .before .before .before .before .before .before .pre .0) (c .before .before .before .before .before .before .before .before .before .pre .2) (sym (c .before .before .before .before .opens-comment .ensures) ∙ c .before .before .before .if1 .left))
 
 returns-2 : tie.Need-returns-2
 returns-2 c = part-words (c .before .before .before .before .before .before .before .before .before .before .before .before .before .before .before .before .before .pre .0) (c .before .before .before .before .before .before .before .clause-lines .ensures)

@@ -1,5 +1,5 @@
 -- Laws of the lines behind the problem line, as the code goes along them. Assumes nothing.
-use mathlib.Core.Bool.{Bool, true, false, not, _&&_}
+use mathlib.Core.Bool.{Bool, true, false, not, cond, _&&_, true≢false}
 use mathlib.Core.List.{List, [], _∷_}
 use mathlib.Core.Path.{_≡_, refl, sym, ap, _∙_, subst}
 use Prim.Native.Nat.{ℕ, suc, _+_, _-_, _≤_, _<_}
@@ -7,7 +7,8 @@ use native.Mathlib.Decide.{decLt, ℕ-discrete}
 use native.Mathlib.Omega.{arith}
 use lib.Dec.{eqb, ltb}
 use lib.ListN.{length, getD, take, drop, length-append}
-use borrow.Author.Tests.{lt-ltb, le-ltb, eq-eqb, ne-eqb, eqb-true, not-false}
+use borrow.Author.Tests.{lt-ltb, le-ltb, ltb-true, eq-eqb, ne-eqb, eqb-true, not-false}
+use Rattle.math.specs.Laws.ListLaws.{and-split, not-true-false, or-left, or-right}
 use Rattle.permutation_theory.specs.Permutations.{permutationsIn}
 use Rattle.point_slices.specs.Slices.{ClauseSlices}
 use Rattle.formula.specs.declared.Checked.the-variants.{Passed, Refused}
@@ -19,25 +20,28 @@ use Rattle.dimacs_comments.specs.declared.PermutationTaken.{PermutationTaken}
 use Rattle.dimacs_lines.specs.declared.State.{State}
 use Rattle.dimacs_lines.specs.declared.Advanced.{Advanced}
 use Rattle.dimacs_lines.specs.declared.Lined.{Lined}
-use Rattle.dimacs_format.specs.Text.{maxText, endsLine, Line, piece, sameBytes, begins, isComment, targetHead}
+use Rattle.dimacs_format.specs.Text.{maxText, endsLine, Line, piece, sameBytes, begins, isComment, allBlank}
+use Rattle.dimacs_format.specs.Text.{isPercentLine, targetHead}
 use Rattle.dimacs_format.specs.Text.{permutationHead, isTargetLine, isPermutationLine}
-use Rattle.dimacs_format.specs.Reader.{andThen, walk, Sizes, Progress, withPart, lineStep, linesSay}
+use Rattle.dimacs_format.specs.Reader.{andThen, Sizes, Progress, withPart, lineStep, atEnd, linesSay, textSays}
 use Rattle.dimacs_format.specs.Reader.{clause-line, target-line, permutation-line}
 use Rattle.dimacs_format.specs.Laws.AnswerLaws.{stepTo, WherePassed, where-passed, where-both, step-within}
-use Rattle.dimacs_format.specs.Laws.AnswerLaws.{where-told, then-passed, then-refused, then-alike}
+use Rattle.dimacs_format.specs.Laws.AnswerLaws.{where-told, where-refused, then-passed, then-alike}
 use Rattle.dimacs_format.specs.Laws.LineLaws.{kind-clauses, kind-target, kind-permutation, kind-remark, line-remark}
 use Rattle.dimacs_format.specs.Laws.LineLaws.{line-of-kind}
 use Rattle.dimacs_format.specs.Laws.TextLaws.{begins-split}
 use Rattle.dimacs_words.specs.Laws.Scans.{belongs, Stretch, linesBehind}
 use Rattle.dimacs_words.specs.Laws.ScanLaws.{here-on, part-end, behind-none, behind-some, lines-from}
+use Rattle.dimacs_words.specs.Laws.ScanLaws.{run-begins, run-exists, run-later}
 use Rattle.dimacs_clauses.specs.Laws.ClauseScans.{clausesFrom, Ready, Scanning}
 use Rattle.dimacs_comments.specs.Laws.CommentScans.{wantedOf}
 use Rattle.dimacs_comments.specs.Laws.HandlerScans.{TargetRead, PermutationRead}
 use Rattle.dimacs_lines.specs.Laws.LineScans.{nothingSaid, withBegun, withWanted, withPermutations, progressWith}
 use Rattle.dimacs_lines.specs.Laws.LineScans.{progressFrom, Kept, Standing}
 use Rattle.dimacs_lines.specs.Laws.LineScans.{CommentRead}
-use Rattle.dimacs_lines.specs.Laws.LineScans.{opensComment, linesFrom, linesAfter, Following, Going}
-use Rattle.dimacs_lines.specs.Laws.LineScans.{Advancing, LinesRead, Passing}
+use Rattle.dimacs_lines.specs.Laws.LineScans.{opensWith, opensComment, opensApart, percentFirst, percentAt}
+use Rattle.dimacs_lines.specs.Laws.LineScans.{WordsThere, linesFrom, linesAfter, Following, Going}
+use Rattle.dimacs_lines.specs.Laws.LineScans.{Advancing, endedWith, LinesRead, Passing}
 
 -- ---- a line of any kind
 
@@ -102,32 +106,32 @@ module _ {z : Sizes} {start : ℕ} {line : List ℕ} {s : State} {images : List 
 
 -- ---- what begins at a place
 
--- the line that begins at a place is a comment as its first byte says
-pub comment-there : (text : List ℕ) {at stop : ℕ} → Stretch (belongs LineBytes) text at stop
-    → isComment (piece at (take (stop - at) (drop at text))) ≡ opensComment text at
-unfolding isComment begins sameBytes opensComment belongs endsLine
-comment-there text {at} {stop} line = by (decLt at (length text))
+-- a line begins with a byte that ends no line as its first byte says
+pub head-there : (b : ℕ) → (b ≡ 10 → ⊥) → (text : List ℕ) {at stop : ℕ} → Stretch (belongs LineBytes) text at stop
+    → begins (b ∷ []) (take (stop - at) (drop at text)) ≡ opensWith b text at
+unfolding begins sameBytes opensWith belongs endsLine
+head-there b ne text {at} {stop} line = by (decLt at (length text))
   where
-    empty : {n : ℕ} → n ≡ 0 → sameBytes (99 ∷ []) (take 1 (take n (drop at text))) ≡ false
-    empty e = ap (λ j. sameBytes (99 ∷ []) (take 1 (take j (drop at text)))) e
+    empty : {n : ℕ} → n ≡ 0 → sameBytes (b ∷ []) (take 1 (take n (drop at text))) ≡ false
+    empty e = ap (λ j. sameBytes (b ∷ []) (take 1 (take j (drop at text)))) e
 
-    symmetric : (b : ℕ) → (eqb 99 b && true) ≡ eqb b 99
-    symmetric b = same (ℕ-discrete 99 b)
+    symmetric : (x : ℕ) → (eqb b x && true) ≡ eqb x b
+    symmetric x = same (ℕ-discrete b x)
       where
-        same : Dec (99 ≡ b) → (eqb 99 b && true) ≡ eqb b 99
-        same (yes e) = rw (eq-eqb 99 b e, eq-eqb b 99 (sym e))
-        same (no ne) = rw (ne-eqb 99 b ne, ne-eqb b 99 (λ e. ne (sym e)))
+        same : Dec (b ≡ x) → (eqb b x && true) ≡ eqb x b
+        same (yes e) = rw (eq-eqb b x e, eq-eqb x b (sym e))
+        same (no other) = rw (ne-eqb b x other, ne-eqb x b (λ e. other (sym e)))
 
-    by : Dec (at < length text) → sameBytes (99 ∷ []) (take 1 (take (stop - at) (drop at text)))
-        ≡ (ltb at (length text) && eqb (getD text at 0) 99)
+    by : Dec (at < length text) → sameBytes (b ∷ []) (take 1 (take (stop - at) (drop at text)))
+        ≡ (ltb at (length text) && eqb (getD text at 0) b)
     by (yes lt) = rw (lt-ltb at (length text) lt) (inside (decLt at stop))
       where
-        inside : Dec (at < stop) → sameBytes (99 ∷ []) (take 1 (take (stop - at) (drop at text)))
-            ≡ eqb (getD text at 0) 99
+        inside : Dec (at < stop) → sameBytes (b ∷ []) (take 1 (take (stop - at) (drop at text)))
+            ≡ eqb (getD text at 0) b
         inside (yes on) =
-            ap (λ j. sameBytes (99 ∷ []) (take 1 (take j (drop at text))))
+            ap (λ j. sameBytes (b ∷ []) (take 1 (take j (drop at text))))
             (let z : stop - at ≡ suc (stop - at - 1) = omega arith in z)
-            ∙ ap (λ l. sameBytes (99 ∷ []) (take 1 (take (suc (stop - at - 1)) l))) (here-on text at lt)
+            ∙ ap (λ l. sameBytes (b ∷ []) (take 1 (take (suc (stop - at - 1)) l))) (here-on text at lt)
             ∙ symmetric (getD text at 0)
         inside (no off) =
             let o = line .ordered in
@@ -135,25 +139,81 @@ comment-there text {at} {stop} line = by (decLt at (length text))
             let ten : getD text at 0 ≡ 10 = eqb-true (getD text at 0) 10 (not-false (eqb (getD text at 0) 10)
             (ap (λ j. not (eqb (getD text j 0) 10)) (sym end) ∙ line .stops (omega arith))) in
             empty (let z : stop - at ≡ 0 = omega arith in z)
-            ∙ sym (ne-eqb (getD text at 0) 99 (λ e. let z : ⊥ = omega arith in z))
+            ∙ sym (ne-eqb (getD text at 0) b (λ e. ne (sym e ∙ ten)))
     by (no ge) =
         let o = line .ordered in
         let w = line .within in
         empty (let z : stop - at ≡ 0 = omega arith in z) ∙ sym (rw (le-ltb at (length text) (let z : length text ≤ at = omega arith in z)))
 
--- the line that begins at a place comes first
-line-first : (z : Sizes) (text : List ℕ) {at stop : ℕ} → Stretch (belongs LineBytes) text at stop → (p : Progress)
-    → linesFrom z text at p
-    ≡ andThen (lineStep z p (piece at (take (stop - at) (drop at text)))) (linesAfter z text stop)
-unfolding walk
-line-first z text {at} {stop} line p = ap (walk (lineStep z) p) (lines-from text at stop line)
+-- S10: it is a comment as its first byte says
+pub comment-there : (text : List ℕ) {at stop : ℕ} → Stretch (belongs LineBytes) text at stop
+    → isComment (piece at (take (stop - at) (drop at text))) ≡ opensComment text at
+unfolding isComment
+comment-there text line = head-there 99 (λ e. let z : ⊥ = omega arith in z) text line
+
+-- the line is a percent line
+module _ (text : List ℕ) {at : ℕ} where
+  percent-there : {stop : ℕ} → Stretch (belongs LineBytes) text at stop
+      → percentAt text at ≡ isPercentLine (piece at (take (stop - at) (drop at text)))
+  unfolding percentAt
+  percent-there {stop} line = ap percentFirst (lines-from text at stop line)
+
+  module _ (within : at ≤ length text) where
+    -- it ends somewhere
+    line-there : (stop : ℕ) × (at ≤ stop) × Stretch (belongs LineBytes) text at stop
+    line-there = run-exists (belongs LineBytes) text at at (omega arith) within (run-begins (belongs LineBytes) text at)
+
+    pub no-sign : opensWith 37 text at ≡ false → percentAt text at ≡ false
+    unfolding isPercentLine
+    no-sign e =
+        let l = line-there in
+        percent-there (l .2)
+        ∙ rw (head-there 37 (λ e. let z : ⊥ = omega arith in z) text (l .2) ∙ e)
+
+    pub sign-blank : {stop : ℕ} {blank : Bool} → Stretch (belongs LineBytes) text at stop → opensWith 37 text at ≡ true
+        → blank ≡ allBlank (drop 1 (take (stop - at) (drop at text))) → blank ≡ percentAt text at
+    unfolding isPercentLine
+    sign-blank line e h =
+        h ∙ sym (percent-there line ∙ rw (head-there 37 (λ e. let z : ⊥ = omega arith in z) text line ∙ e))
+
+    -- a line with the sign holds a byte
+    pub sign-inside : {stop : ℕ} → Stretch (belongs LineBytes) text at stop → opensWith 37 text at ≡ true → at < stop
+    unfolding opensWith belongs endsLine
+    sign-inside line e =
+        let w = and-split (ltb at (length text)) (eqb (getD text at 0) 37) e in
+        let sign : getD text at 0 ≡ 37 = eqb-true (getD text at 0) 37 (w .1) in
+        run-later line (rw sign) (ltb-true at (length text) (w .0))
+
+-- ---- what the lines from a place on say
+
+module _ (z : Sizes) (text : List ℕ) {at : ℕ} where
+  -- a line that is no percent line comes first
+  line-first : {stop : ℕ} → percentAt text at ≡ false → Stretch (belongs LineBytes) text at stop → (p : Progress)
+      → linesFrom z text at p
+      ≡ andThen (lineStep z p (piece at (take (stop - at) (drop at text)))) (linesAfter z text stop)
+  unfolding linesSay
+  line-first {stop} no-percent line p =
+      let l : Line = piece at (take (stop - at) (drop at text)) in
+      ap (linesSay (length text) z p) (lines-from text at stop line)
+      ∙ ap (λ b. cond b (atEnd at z p) (andThen (lineStep z p l) (linesAfter z text stop)))
+      (sym (percent-there text line) ∙ no-percent)
+
+  -- Q01.2: a percent line ends the sheet
+  percent-ends : at ≤ length text → percentAt text at ≡ true → (p : Progress) → linesFrom z text at p ≡ atEnd at z p
+  unfolding linesSay
+  percent-ends within percent p =
+      let l = line-there text within in
+      let line : Line = piece at (take (l .0 - at) (drop at text)) in
+      ap (linesSay (length text) z p) (lines-from text at (l .0) (l .2))
+      ∙ ap (λ b. cond b (atEnd at z p) (andThen (lineStep z p line) (linesAfter z text (l .0))))
+      (sym (percent-there text (l .2)) ∙ percent)
 
 -- ---- lines of words
 
 module _ {z : Sizes} {text : List ℕ} where
   -- a line of words replaces the clauses
   pub words-follow : {first : ℕ} {clauses : ClauseSlices} {b : Begun} {r : Stepped} {clauses₁ : ClauseSlices}
-      → opensComment text first ≡ false → Scanning z text first clauses b r clauses₁
+      → WordsThere text first → Scanning z text first clauses b r clauses₁
       → Following z text first clauses b r clauses₁
   words-follow {first} {clauses} {b} {r} {clauses₁} c k =
       let line : Line = piece first (take (k .stop - first) (drop first text)) in
@@ -164,17 +224,19 @@ module _ {z : Sizes} {text : List ℕ} where
         step =
             λ p.
             let q : Progress = withPart clause-line p (clausesFrom clauses b) in
-            line-first z text (k .line) q
+            line-first z text (c .no-percent) (k .line) q
             ∙ ap (λ m. andThen m (linesAfter z text (k .stop)))
-            (line-of-kind z q line clause-line (kind-clauses line (comment-there text (k .line) ∙ c))
+            (line-of-kind z q line clause-line (kind-clauses line (comment-there text (k .line) ∙ c .no-comment))
             ∙ sym (step-within (r .taken .answer) (clausesFrom clauses₁ (r .taken .begun)) (withPart clause-line q) (k .step)))
             ∙ then-alike (r .taken .answer) (withPart clause-line p (clausesFrom clauses₁ (r .taken .begun)))
-            (r .next .at) (k .stop) (linesAfter z text) (k .ended);
+            (linesAfter z text (k .stop)) (linesAfter z text (r .next .at))
+            (where-both (r .taken .answer) (λ e. ap (λ j. linesAfter z text j
+            (withPart clause-line p (clausesFrom clauses₁ (r .taken .begun)))) (sym e)) (k .ended));
         ready = k .ready;
       }
 
   module _ {start : ℕ} {clauses₀ : ClauseSlices} {b₀ : Begun} where
-    pub going-begins : Ready z (b₀ .closed) clauses₀ → start ≤ length text → opensComment text start ≡ false
+    pub going-begins : Ready z (b₀ .closed) clauses₀ → start ≤ length text → WordsThere text start
         → Going z text start clauses₀ b₀ clauses₀ b₀ start
     going-begins ready within c =
         record { ready = ready; lower = omega arith; within = within; words-there = c; left = λ p. refl }
@@ -198,20 +260,27 @@ module _ {z : Sizes} {text : List ℕ} where
       going-later e = where-told ((first ≤ r .next .at) × (r .next .at ≤ length text)) e (follows .within) .0
 
       pub going-goes-on : r .taken .answer ≡ Passed → r .next .at < length text
-          → opensComment text (r .next .at + 1) ≡ false
+          → opensApart text (r .next .at + 1) ≡ false
           → Going z text start clauses₀ b₀ clauses₁ (r .taken .begun) (r .next .at + 1)
       going-goes-on e lt c =
           record {
             ready = k .ready;
             lower = let l = a .lower in let w = going-later e in omega arith;
             within = omega arith;
-            words-there = c;
+            words-there =
+                let comment : Bool = opensComment text (r .next .at + 1) in
+                let sign : Bool = opensWith 37 text (r .next .at + 1) in
+                record {
+                  no-comment = not-true-false comment (λ h. true≢false (sym (or-left comment sign h) ∙ c));
+                  no-percent = no-sign text (omega arith)
+                      (not-true-false sign (λ h. true≢false (sym (or-right comment sign h) ∙ c)));
+                };
             left =
                 λ p.
                 a .left p ∙ follows .step p
                 ∙ then-passed (r .taken .answer) (withPart clause-line p (clausesFrom clauses₁ (r .taken .begun)))
                 (linesAfter z text (r .next .at)) e
-                ∙ ap (walk (lineStep z) (withPart clause-line p (clausesFrom clauses₁ (r .taken .begun))))
+                ∙ ap (linesSay (length text) z (withPart clause-line p (clausesFrom clauses₁ (r .taken .begun))))
                 (behind-some text (r .next .at) lt);
           }
 
@@ -219,15 +288,20 @@ module _ {z : Sizes} {text : List ℕ} where
 
 module _ {z : Sizes} {text : List ℕ} {start : ℕ} {s : State} {clauses : ClauseSlices} {images : List ℕ}
     (st : Standing z s clauses images) where
+  -- the line that begins there is one of words
+  pub words-begin : percentAt text start ≡ false → opensComment text start ≡ false → WordsThere text start
+  words-begin p c = record { no-comment = c; no-percent = p }
+
   -- a comment leaves the clauses as they are
-  pub part-comment : {stop : ℕ} {r : Advanced} {images₁ : List ℕ} → Stretch (belongs LineBytes) text start stop
+  pub part-comment : {stop : ℕ} {r : Advanced} {images₁ : List ℕ} → percentAt text start ≡ false
+      → Stretch (belongs LineBytes) text start stop
       → CommentRead z start (take (stop - start) (drop start text)) s images r images₁
       → Advancing z text start s clauses images (record { advanced = r; stop = stop }) clauses images₁
-  part-comment {stop} {r} {images₁} line k =
+  part-comment {stop} {r} {images₁} no-percent line k =
       record {
         within = where-passed (r .answer) (line .ordered, line .within);
         step =
-            line-first z text line (progressFrom (z .variables) clauses images s)
+            line-first z text no-percent line (progressFrom (z .variables) clauses images s)
             ∙ ap (λ m. andThen m (linesAfter z text stop))
             (sym (ap (λ b. stepTo (r .answer) (progressWith (z .variables) (clausesFrom clauses b) images₁ (r .state)))
             (k .same-clauses)
@@ -271,34 +345,49 @@ module _ {z : Sizes} {text : List ℕ} {end : ℕ} where
 
   module _ {clauses : ClauseSlices} {images : List ℕ} {s : State} {last : ℕ}
       (a : Passing z text end clauses images s last) where
-    pub passing-ends : length text ≤ last → LinesRead z text end (record { answer = Passed; state = s }) clauses images
-    unfolding walk
-    passing-ends h =
-        record {
-          step = sym (a .left ∙ ap (walk (lineStep z) (progressFrom (z .variables) clauses images s))
-              (behind-none text last h));
+    -- the text ends
+    pub passing-ends : length text ≤ last → {r : Lined} → r ≡ endedWith s (length text)
+        → LinesRead z text end r clauses images
+    unfolding linesSay andThen
+    passing-ends h e =
+        subst (λ r. LinesRead z text end r clauses images) (sym e)
+        (record {
+          step = a .left ∙ ap (linesSay (length text) z (progressFrom (z .variables) clauses images s))
+              (behind-none text last h);
           stands = a .standing;
-        }
+        })
+
+    -- Q01.2: a percent line ends the sheet
+    pub passing-percent : last < length text → percentAt text (last + 1) ≡ true → {r : Lined}
+        → r ≡ endedWith s (last + 1) → LinesRead z text end r clauses images
+    unfolding andThen
+    passing-percent inside percent e =
+        subst (λ r. LinesRead z text end r clauses images) (sym e)
+        (record {
+          step = a .left
+              ∙ ap (linesSay (length text) z (progressFrom (z .variables) clauses images s)) (behind-some text last inside)
+              ∙ percent-ends z text (omega arith) percent (progressFrom (z .variables) clauses images s);
+          stands = a .standing;
+        })
 
     module _ {r : Lined} {clauses₁ : ClauseSlices} {images₁ : List ℕ} (inside : last < length text)
         (k : Advancing z text (last + 1) s clauses images r clauses₁ images₁)
       where
         -- the steps of these lines come first
-        stepped : linesSay z (linesBehind text end)
+        stepped : textSays (length text) z (linesBehind text end)
             ≡ andThen (stepTo (r .advanced .answer) (progressFrom (z .variables) clauses₁ images₁ (r .advanced .state)))
             (linesAfter z text (r .stop))
         stepped =
-            a .left ∙ ap (walk (lineStep z) (progressFrom (z .variables) clauses images s))
+            a .left ∙ ap (linesSay (length text) z (progressFrom (z .variables) clauses images s))
             (behind-some text last inside) ∙ k .step
 
         pub passing-stops : {code place : ℕ} → r .advanced .answer ≡ Refused code place
-            → LinesRead z text end (r .advanced) clauses₁ images₁
-        passing-stops {code = code} {place} e =
+            → LinesRead z text end r clauses₁ images₁
+        passing-stops e =
             record {
-              step = sym (stepped ∙ then-refused (r .advanced .answer) code place
-                  (progressFrom (z .variables) clauses₁ images₁ (r .advanced .state))
-                  (progressFrom (z .variables) clauses₁ images₁ (r .advanced .state))
-                  (linesAfter z text (r .stop)) e);
+              step = stepped ∙ then-alike (r .advanced .answer)
+                  (progressFrom (z .variables) clauses₁ images₁ (r .advanced .state)) (linesAfter z text (r .stop))
+                  (atEnd (r .stop) z) (where-refused _ e);
               stands = k .stands;
             }
 

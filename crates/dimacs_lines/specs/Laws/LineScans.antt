@@ -1,7 +1,7 @@
 -- How what the lines have said lies in the code's numbers, slices and images, and what the functions on lines promise.
 -- Assumes nothing.
-use mathlib.Core.Bool.{Bool, false, _&&_}
-use mathlib.Core.List.{List}
+use mathlib.Core.Bool.{Bool, false, _&&_, _||_}
+use mathlib.Core.List.{List, [], _∷_}
 use mathlib.Core.Path.{_≡_}
 use Prim.Native.Nat.{ℕ, _≤_}
 use lib.Dec.{eqb, ltb}
@@ -9,15 +9,17 @@ use lib.ListN.{length, getD, drop}
 use Rattle.point_slices.specs.Slices.{ClauseSlices}
 use Rattle.permutation_theory.specs.Permutations.{permutationsIn}
 use Rattle.formula.specs.Limits.{maxVariables}
+use Rattle.formula.specs.declared.Checked.the-variants.{Passed}
 use Rattle.dimacs_clauses.specs.declared.Begun.{Begun}
 use Rattle.dimacs_clauses.specs.declared.Stepped.{Stepped}
 use Rattle.dimacs_comments.specs.declared.Wanted.{Wanted}
 use Rattle.dimacs_lines.specs.declared.State.{State}
 use Rattle.dimacs_lines.specs.declared.Advanced.{Advanced}
 use Rattle.dimacs_lines.specs.declared.Lined.{Lined}
-use Rattle.dimacs_format.specs.Text.{piece, lines, maxText}
-use Rattle.dimacs_format.specs.Reader.{Step, andThen, walk, Sizes, Clauses, Progress, withPart, clause-line, lineStep}
-use Rattle.dimacs_format.specs.Reader.{linesSay}
+use Rattle.dimacs_format.specs.Text.{Line, piece, lines, isPercentLine, maxText}
+use Rattle.dimacs_format.specs.Input.{Input}
+use Rattle.dimacs_format.specs.Reader.{Step, andThen, Sizes, Clauses, Progress, withPart, clause-line, lineStep}
+use Rattle.dimacs_format.specs.Reader.{atEnd, linesSay, textSays}
 use Rattle.dimacs_format.specs.Laws.AnswerLaws.{stepTo, WherePassed}
 use Rattle.dimacs_words.specs.Laws.Scans.{linesBehind}
 use Rattle.dimacs_clauses.specs.Laws.ClauseScans.{noneBegun, clausesFrom, Ready}
@@ -68,17 +70,44 @@ pub record CommentRead (z : Sizes) (start : ℕ) (line : List ℕ) (s : State) (
   pub same-clauses : r .state .begun ≡ s .begun
   pub kept : WherePassed (r .answer) (Kept z (r .state) images₁)
 
--- S10: a comment begins at a place of a text
-unfoldable pub opensComment : List ℕ → ℕ → Bool
-opensComment text at = ltb at (length text) && eqb (getD text at 0) 99
+-- ---- what begins at a place
 
--- the lines from one that begins at a place on
-abbrev pub linesFrom : Sizes → List ℕ → ℕ → Progress → Step Progress
-linesFrom z text start p = walk (lineStep z) p (lines start (drop start text))
+-- the line that begins at a place of a text has the byte first
+unfoldable pub opensWith : ℕ → List ℕ → ℕ → Bool
+opensWith b text at = ltb at (length text) && eqb (getD text at 0) b
+
+-- S10: it is a comment
+abbrev pub opensComment : List ℕ → ℕ → Bool
+opensComment text at = opensWith 99 text at
+
+-- it may be no line of words
+abbrev pub opensApart : List ℕ → ℕ → Bool
+opensApart text at = opensWith 99 text at || opensWith 37 text at
+
+-- the first of some lines is a percent line
+abbrev pub percentFirst : List Line → Bool
+percentFirst [] = false
+percentFirst (l ∷ ls) = isPercentLine l
+
+-- Q01.2: the line that begins at a place is a percent line
+unfoldable pub percentAt : List ℕ → ℕ → Bool
+unfolding lines isPercentLine
+percentAt text at = percentFirst (lines at (drop at text))
+
+-- it is a line of words
+pub record WordsThere (text : List ℕ) (at : ℕ) : Type 0 where
+  pub no-comment : opensComment text at ≡ false
+  pub no-percent : percentAt text at ≡ false
+
+-- what the lines from one that begins at a place on say, up to the end of the sheet
+abbrev pub linesFrom : Sizes → List ℕ → ℕ → Progress → Step Input
+linesFrom z text start p = linesSay (length text) z p (lines start (drop start text))
 
 -- those behind one that ends at a place
-abbrev pub linesAfter : Sizes → List ℕ → ℕ → Progress → Step Progress
-linesAfter z text end p = walk (lineStep z) p (linesBehind text end)
+abbrev pub linesAfter : Sizes → List ℕ → ℕ → Progress → Step Input
+linesAfter z text end p = linesSay (length text) z p (linesBehind text end)
+
+-- ---- lines of words, and comments
 
 -- what lines of words lead to, whatever else was said, and the lines behind them
 pub record Following (z : Sizes) (text : List ℕ) (start : ℕ) (clauses : ClauseSlices) (b : Begun) (r : Stepped)
@@ -89,13 +118,13 @@ pub record Following (z : Sizes) (text : List ℕ) (start : ℕ) (clauses : Clau
       (linesAfter z text (r .next .at))
   pub ready : Ready z (r .taken .begun .closed) clauses₁
 
--- the loop over lines of words: what is left of the walk, from the line that begins at a place on, is the whole walk
+-- the loop over lines of words: what is left, from the line that begins at a place on, says what all of them say
 pub record Going (z : Sizes) (text : List ℕ) (start : ℕ) (clauses₀ : ClauseSlices) (b₀ : Begun) (clauses : ClauseSlices)
     (b : Begun) (first : ℕ) : Type 0 where
   pub ready : Ready z (b .closed) clauses
   pub lower : start ≤ first
   pub within : first ≤ length text
-  pub words-there : opensComment text first ≡ false
+  pub words-there : WordsThere text first
   pub left : (p : Progress) → linesFrom z text start (withPart clause-line p (clausesFrom clauses₀ b₀))
       ≡ linesFrom z text first (withPart clause-line p (clausesFrom clauses b))
 
@@ -110,18 +139,23 @@ pub record Advancing (z : Sizes) (text : List ℕ) (start : ℕ) (s : State) (cl
 
 -- ---- the lines one after the other
 
--- what the lines behind one that ends at a place lead to
-pub record LinesRead (z : Sizes) (text : List ℕ) (end : ℕ) (r : Advanced) (clauses : ClauseSlices) (images : List ℕ) :
-    Type 0 where
-  pub step : stepTo (r .answer) (progressFrom (z .variables) clauses images (r .state))
-      ≡ linesSay z (linesBehind text end)
-  pub stands : WherePassed (r .answer) (Standing z (r .state) clauses images)
+-- what was said up to the end of the sheet
+abbrev pub endedWith : State → ℕ → Lined
+endedWith s stop = record { advanced = record { answer = Passed; state = s }; stop = stop }
 
--- the loop over the lines: what is left of the walk, with what was said so far, is the whole walk
+-- what the lines behind one that ends at a place lead to, and where the sheet ends
+pub record LinesRead (z : Sizes) (text : List ℕ) (end : ℕ) (r : Lined) (clauses : ClauseSlices) (images : List ℕ) :
+    Type 0 where
+  pub step : textSays (length text) z (linesBehind text end)
+      ≡ andThen (stepTo (r .advanced .answer) (progressFrom (z .variables) clauses images (r .advanced .state)))
+      (atEnd (r .stop) z)
+  pub stands : WherePassed (r .advanced .answer) (Standing z (r .advanced .state) clauses images)
+
+-- the loop over the lines: what is left of them, with what was said so far, says what all of them say
 pub record Passing (z : Sizes) (text : List ℕ) (end : ℕ) (clauses : ClauseSlices) (images : List ℕ) (s : State)
     (last : ℕ) : Type 0 where
   pub standing : Standing z s clauses images
   pub size : length text ≤ maxText
   pub within : last ≤ length text
-  pub left : linesSay z (linesBehind text end)
+  pub left : textSays (length text) z (linesBehind text end)
       ≡ linesAfter z text last (progressFrom (z .variables) clauses images s)

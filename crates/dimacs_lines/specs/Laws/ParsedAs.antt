@@ -105,7 +105,7 @@ pub record Collectable (z : Sizes) (clauses : ClauseSlices) (text : List ℕ) (e
   pub within : end ≤ length text
   pub none-yet : images ≡ noImages
 
--- what the end of the text leads to, whatever images the lines left
+-- what the end of the sheet leads to, whatever images the lines left
 abbrev pub Accepting : ℕ → Sizes → State → ClauseSlices → ClauseSlices → Told → ClauseSlices → Type 0
-Accepting size z s clauses clauses₀ r clauses₁ = (images : List ℕ) → Standing z s clauses images
-    → ParsedAs (atEnd size z (progressFrom (z .variables) clauses images s)) clauses₀ (parsedWith z r images) clauses₁
+Accepting end z s clauses clauses₀ r clauses₁ = (images : List ℕ) → Standing z s clauses images
+    → ParsedAs (atEnd end z (progressFrom (z .variables) clauses images s)) clauses₀ (parsedWith z r images) clauses₁

@@ -23,7 +23,7 @@ use Rattle.dimacs_lines.specs.declared.Parsed.{Parsed}
 use Rattle.dimacs_lines.specs.declared.ParsedNumbers.{ParsedNumbers}
 use Rattle.formula.specs.Laws.Contracts.{formulaWith}
 use Rattle.dimacs_lines.specs.declared.State.{State}
-use Rattle.dimacs_lines.specs.declared.Advanced.{Advanced}
+use Rattle.dimacs_lines.specs.declared.Lined.{Lined}
 use Rattle.dimacs_lines.specs.declared.Told.{Told}
 use Rattle.dimacs_format.specs.Input.{Input, imagesOf, padded, formulaOf, positives, negatives}
 use Rattle.dimacs_format.specs.Reader.{Step, goes, refuses, andThen, Sizes, Progress, inputOf, atEnd, replyTo}
@@ -125,10 +125,10 @@ closed-size : (z : Sizes) (s : State) (clauses : ClauseSlices) (images : List �
     → length (clausesFrom clauses (s .begun) .closed) ≡ s .begun .closed
 closed-size z s clauses images st = closed-length clauses (s .begun) (le-trans (st .ready .closed) (st .ready .room))
 
-module _ (size : ℕ) {z : Sizes} {s : State} {clauses : ClauseSlices} {clauses₀ : ClauseSlices} where
-  -- R7: "or too few closed", 7 at the "text length"
-  pub end-refused : {r : Told} → s .begun .closed < z .total → r ≡ toldRefused 7 size
-      → Accepting size z s clauses clauses₀ r clauses₀
+module _ (end : ℕ) {z : Sizes} {s : State} {clauses : ClauseSlices} {clauses₀ : ClauseSlices} where
+  -- R7: "or too few closed", 7 where the sheet ends
+  pub end-refused : {r : Told} → s .begun .closed < z .total → r ≡ toldRefused 7 end
+      → Accepting end z s clauses clauses₀ r clauses₀
   unfolding atEnd
   end-refused {r} lt e images st =
       told-answers z r images (rw (ne-eqb (length (clausesFrom clauses (s .begun) .closed)) (z .total)
@@ -139,7 +139,7 @@ module _ (size : ℕ) {z : Sizes} {s : State} {clauses : ClauseSlices} {clauses�
       → clauses₁ .positive ≡ over (take (z .total) (clauses .positive)) (clauses₀ .positive)
       → clauses₁ .negative ≡ over (take (z .total) (clauses .negative)) (clauses₀ .negative)
       → clauses₁ .positiveRest ≡ clauses₀ .positiveRest → clauses₁ .negativeRest ≡ clauses₀ .negativeRest
-      → Accepting size z s clauses clauses₀
+      → Accepting end z s clauses clauses₀
       (record { answer = Accepted; target = x; permutations = s .permutations }) clauses₁
   unfolding atEnd replyTo formulaFrom slicesFrom formulaOf
   answers-accepted {x = x} enough ex ep en fp fn images st =
@@ -147,7 +147,7 @@ module _ (size : ℕ) {z : Sizes} {s : State} {clauses : ClauseSlices} {clauses�
       let full = closed-size z s clauses images st ∙ closed in
       let room : s .begun .closed ≤ clauseRoom clauses = le-trans (st .ready .closed) (st .ready .room) in
       answers-same
-      (ap (λ b. cond b (goes (inputOf (z .variables) (progressFrom (z .variables) clauses images s))) (refuses 7 size))
+      (ap (λ b. cond b (goes (inputOf (z .variables) (progressFrom (z .variables) clauses images s))) (refuses 7 end))
       (eq-eqb (length (clausesFrom clauses (s .begun) .closed)) (z .total) full))
       (record {
         reply = refl;
@@ -171,29 +171,30 @@ module _ (size : ℕ) {z : Sizes} {s : State} {clauses : ClauseSlices} {clauses�
         };
       })
 
--- the lines were read: on to the end, or refused
-module _ {z : Sizes} {text : List ℕ} {end : ℕ} {done : Advanced} {clauses : ClauseSlices} {images : List ℕ}
-    (k : LinesRead z text end done clauses images) where
+-- the lines were read: on to the end of the sheet, or refused
+module _ {z : Sizes} {text : List ℕ} {end : ℕ} {read : Lined} {clauses : ClauseSlices} {images : List ℕ}
+    (k : LinesRead z text end read clauses images) where
   -- what the text says, by the lines' answer
-  by-lines : {answer : Checked} → done .answer ≡ answer
+  by-lines : {answer : Checked} → read .advanced .answer ≡ answer
       → textSays (length text) z (linesBehind text end)
-      ≡ andThen (stepTo answer (progressFrom (z .variables) clauses images (done .state))) (atEnd (length text) z)
-  by-lines e =
-      ap (λ m. andThen m (atEnd (length text) z)) (sym (k .step)
-      ∙ ap (λ a. stepTo a (progressFrom (z .variables) clauses images (done .state))) e)
+      ≡ andThen (stepTo answer (progressFrom (z .variables) clauses images (read .advanced .state)))
+      (atEnd (read .stop) z)
+  by-lines e = k .step ∙ ap (λ a. andThen
+      (stepTo a (progressFrom (z .variables) clauses images (read .advanced .state))) (atEnd (read .stop) z)) e
 
-  pub ready-then : done .answer ≡ Passed → Ready z (done .state .begun .closed) clauses
-  ready-then e = where-told (Standing z (done .state) clauses images) e (k .stands) .ready
+  pub ready-then : read .advanced .answer ≡ Passed → Ready z (read .advanced .state .begun .closed) clauses
+  ready-then e = where-told (Standing z (read .advanced .state) clauses images) e (k .stands) .ready
 
-  pub text-ends : (r : Told) {clauses₀ clauses₁ : ClauseSlices} → done .answer ≡ Passed
-      → Accepting (length text) z (done .state) clauses clauses₀ r clauses₁
+  pub text-ends : (r : Told) {clauses₀ clauses₁ : ClauseSlices} → read .advanced .answer ≡ Passed
+      → Accepting (read .stop) z (read .advanced .state) clauses clauses₀ r clauses₁
       → ParsedAs (textSays (length text) z (linesBehind text end)) clauses₀ (parsedWith z r images) clauses₁
   unfolding andThen
   text-ends r e a =
       answers-same (by-lines e)
-      (a images (where-told (Standing z (done .state) clauses images) e (k .stands)))
+      (a images (where-told (Standing z (read .advanced .state) clauses images) e (k .stands)))
 
-  pub text-refused : (r : Told) {clauses₀ : ClauseSlices} {code place : ℕ} → done .answer ≡ Refused code place → r ≡ toldRefused code place
+  pub text-refused : (r : Told) {clauses₀ : ClauseSlices} {code place : ℕ}
+      → read .advanced .answer ≡ Refused code place → r ≡ toldRefused code place
       → ParsedAs (textSays (length text) z (linesBehind text end)) clauses₀ (parsedWith z r images) clauses₀
   unfolding andThen
   text-refused r e f = told-answers z r images (by-lines e) f

@@ -13,13 +13,13 @@ returns : tie.Need-returns
 unfolding isComment
 returns c = skipped-comment (c .before .before .before .before .args .line .now) (sym (c .before .begins .ensures) ∙ c .if1 .taken)
 
-run-end-requires : tie.Need-run-end-requires
-run-end-requires c κs = search needs
+blank-from-requires : tie.Need-blank-from-requires
+blank-from-requires c κs = search needs
 
 returns-2 : tie.Need-returns-2
 unfolding isComment
-returns-2 c = skipped-blank (c .before .before .before .before .before .args .line .now) _ (sym (c .before .before .begins .ensures) ∙ c .before .if1 .left) (c .run-end .ensures)
+returns-2 c = skipped-blank (c .before .before .before .before .before .args .line .now) (sym (c .before .before .begins .ensures) ∙ c .before .if1 .left) (c .blank-from .ensures)
 
 pub is-skipped-spec : {M : Type 1} → statement M
 is-skipped-spec =
-    tie.close (tie.spec (λ c. search needs) begins-requires returns run-end-requires returns-2)
+    tie.close (tie.spec (λ c. search needs) begins-requires returns blank-from-requires returns-2)

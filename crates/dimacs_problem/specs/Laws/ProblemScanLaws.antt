@@ -260,20 +260,10 @@ pub skipped-comment : (line : List ℕ) → isComment (piece 0 line) ≡ true �
 unfolding isSkipped
 skipped-comment line e = rw e
 
-pub skipped-blank : (line : List ℕ) (end : ℕ) → isComment (piece 0 line) ≡ false → Stretch (belongs Blank) line 0 end
-    → eqb end (length line) ≡ isSkipped (piece 0 line)
-unfolding isSkipped belongs allBlank
-skipped-blank line end e s = rw e (by (decLt end (length line)))
-  where
-    by : Dec (end < length line) → eqb end (length line) ≡ all isBlank line
-    by (yes lt) =
-        ne-eqb end (length line) (λ f. let z : ⊥ = omega arith in z)
-        ∙ sym (not-all isBlank (getD-in line end 0 lt) (s .stops lt))
-    by (no ge) =
-        let w = s .within in
-        let f : end ≡ length line = omega arith in
-        eq-eqb end (length line) f
-        ∙ sym (ap (all isBlank) (sym (take-all (end - 0) line (omega arith))) ∙ run-all (belongs Blank) line 0 end s)
+pub skipped-blank : (line : List ℕ) {blank : Bool} → isComment (piece 0 line) ≡ false → blank ≡ allBlank line
+    → blank ≡ isSkipped (piece 0 line)
+unfolding isSkipped
+skipped-blank line e h = rw e h
 
 -- ---- the lines of the text
 

@@ -13,14 +13,15 @@ use lib.Dec.{eqb, leb}
 use lib.ListN.{length, getD, take, drop, length-take, length-drop, drop-of-length-le}
 use lib.Seq.{drop-cons, getD-take, getD-drop, take-all, length-take-le, drop-drop, take-take}
 use borrow.Author.Tests.{le-leb, lt-leb, lt-ltb, le-ltb, not-true, not-false, leb-true, ne-eqb, eq-eqb}
-use Rattle.math.specs.Laws.ListLaws.{and-split, all-of, any-of, in-getD, getD-in}
+use Rattle.math.specs.Laws.ListLaws.{and-split, all-of, not-all, any-of, in-getD, getD-in}
 use Rattle.math.specs.Laws.QueueLaws.{drop-take}
 use Rattle.math.specs.Laws.ScanLaws.{any-ends}
-use Rattle.math.specs.Lists.{all, any}
+use Rattle.math.specs.Lists.{_∈_, all, any}
 use Rattle.dimacs_words.specs.declared.Class.the-variants.{Blank, Word, Line}
 use Rattle.dimacs_words.specs.declared.Word.{Word as WordAnswer}
 use Rattle.dimacs_words.specs.declared.Word.the-variants.{Read, Malformed as no-word}
 use Rattle.dimacs_format.specs.Text.{isBlank, endsLine, isDigit, Clean, piece, lines, words, sameBytes, begins}
+use Rattle.dimacs_format.specs.Text.{allBlank}
 use Rattle.dimacs_format.specs.Text.{isNumber, numberIn, decimal, tokenIn, unsigned, negated, malformed, Token}
 use Rattle.dimacs_format.specs.Laws.TextLaws.{lines-last, lines-next, words-none, words-blank, words-last, words-next}
 use Rattle.dimacs_words.specs.Laws.Scans.{belongs, endsWord, inWord, Stretch, signed, withSign, wordMade}
@@ -469,6 +470,27 @@ digits-none text sign from le n = by (decLt from (length text))
 -- the part of a list up to its end
 pub part-end : (xs : List ℕ) (a : ℕ) → take (length xs - a) (drop a xs) ≡ drop a xs
 part-end xs a = take-all (length xs - a) (drop a xs) (le-of-eq (length-drop a xs))
+
+-- a run of blanks goes up to the end just where all bytes from its first on are blanks
+pub blank-run : (bytes : List ℕ) {from end : ℕ} → Stretch (belongs Blank) bytes from end
+    → eqb end (length bytes) ≡ allBlank (drop from bytes)
+unfolding belongs allBlank
+blank-run bytes {from} {end} s = by (decLt end (length bytes))
+  where
+    by : Dec (end < length bytes) → eqb end (length bytes) ≡ all isBlank (drop from bytes)
+    by (yes lt) =
+        let o = s .ordered in
+        let place : from + (end - from) ≡ end = omega arith in
+        ne-eqb end (length bytes) (λ f. let z : ⊥ = omega arith in z)
+        ∙ sym (not-all isBlank
+        (subst (λ b. b ∈ drop from bytes) (getD-drop from bytes (end - from) 0 ∙ ap (λ j. getD bytes j 0) place)
+        (getD-in (drop from bytes) (end - from) 0 (omega (arith, length-drop from bytes)))) (s .stops lt))
+    by (no ge) =
+        let f : end ≡ length bytes = let w = s .within in omega arith in
+        let whole : take (end - from) (drop from bytes) ≡ drop from bytes = ap (λ j. take (j - from) (drop from bytes)) f
+        ∙ part-end bytes from in
+        eq-eqb end (length bytes) f
+        ∙ sym (ap (all isBlank) (sym whole) ∙ run-all (belongs Blank) bytes from end s)
 
 token-minus : (bs : List ℕ) (b : ℕ) → b ≡ 45 → tokenIn (b ∷ bs) ≡ negated (numberIn bs)
 unfolding tokenIn

@@ -1,0 +1,209 @@
+-- Request 2026-01, as theorems: a percent line ends the sheet, whatever stands behind it, and what it is with other bytes.
+-- Assumes nothing.
+use mathlib.Core.Bool.{Bool, true, false, cond, _&&_, _||_}
+use mathlib.Core.List.{List, [], _∷_, _++_, List·Memᴰ·tail}
+use mathlib.Core.Option.{Option, some, none}
+use mathlib.Core.Path.{_≡_, refl, sym, ap, _∙_, subst}
+use Prim.Native.Nat.{ℕ, suc, _+_, _≤_, _<_}
+use native.Mathlib.Nat.{zero-add}
+use native.Mathlib.Omega.{arith}
+use lib.Dec.{eqb, leb, ltb}
+use lib.ListN.{length, drop, length-append}
+use borrow.Author.Tests.{le-leb, ne-eqb}
+use Rattle.math.specs.Laws.ListLaws.{here, and-split, not-all}
+use Rattle.math.specs.Lists.{_∈_, all}
+use Rattle.dimacs_format.specs.Text.{maxText, isBlank, isDigit, endsLine, Clean, Line, Word, piece, lines}
+use Rattle.dimacs_format.specs.Text.{words, wordsOf, spelled, begins, isComment, allBlank, percentSign, isPercentLine}
+use Rattle.dimacs_format.specs.Text.{problemWord, tokenIn, malformed}
+use Rattle.dimacs_format.specs.Input.{Input}
+use Rattle.dimacs_format.specs.Reader.{Step, andThen, walk, goes, refuses, Sizes, problemWords, problemIn}
+use Rattle.dimacs_format.specs.Reader.{withinLimits, wordStep, tokenStep, Progress, handled, lineStep, clause-line}
+use Rattle.dimacs_format.specs.Reader.{withPart}
+use Rattle.dimacs_format.specs.Reader.{isSkipped, fromProblem, atEnd, linesSay, textSays, withRoom, withSizes}
+use Rattle.dimacs_format.specs.Reader.{withProblem, withLines, reading}
+use Rattle.dimacs_format.specs.Accepted.{Accepts}
+use Rattle.dimacs_format.specs.Laws.TextLaws.{begins-split, lines-some, lines-append, lines-last, blank-clean}
+use Rattle.dimacs_format.specs.Laws.StepLaws.{both-go}
+use Rattle.dimacs_format.specs.Laws.LineLaws.{kind-clauses, line-of-kind}
+use Rattle.dimacs_format.specs.Laws.ReaderLaws.{word-malformed, reading-accepts, accepts-reading}
+
+-- ---- with fewer rules closed
+
+-- Q01.3: "With fewer rules closed it gives 7 at the percent sign.": whether a clause is begun or not
+pub few-closed : (size : ℕ) (z : Sizes) (sheet : List Line) (s q : Progress) (l : Line) (ls : List Line)
+    → ((k : Line) → k ∈ sheet → isPercentLine k ≡ false) → isPercentLine l ≡ true
+    → walk (lineStep z) s sheet ≡ goes q → length (q .clauses .closed) < z .total
+    → linesSay size z s (sheet ++ l ∷ ls) ≡ refuses 7 (l .start)
+unfolding linesSay walk atEnd
+few-closed size z [] s q l ls unended e w few =
+    ap (λ p. cond p (atEnd (l .start) z s) (andThen (lineStep z s l) (λ t. linesSay size z t ls))) e
+    ∙ rw (ne-eqb (length (s .clauses .closed)) (z .total) (λ f. let x : ⊥ = omega (arith, same) in x))
+  where
+    same : length (s .clauses .closed) ≡ length (q .clauses .closed)
+    same = cc
+few-closed size z (k ∷ sheet) s q l ls unended e w few =
+    let v = both-go (lineStep z s k) (λ t. walk (lineStep z) t sheet) w in
+    ap (λ p. cond p (atEnd (k .start) z s) (andThen (lineStep z s k) (λ t. linesSay size z t (sheet ++ l ∷ ls))))
+    (unended k (here k sheet))
+    ∙ ap (λ m. andThen m (λ t. linesSay size z t (sheet ++ l ∷ ls))) (v .1)
+    ∙ few-closed size z sheet (v .0) q l ls (λ j m. unended j (List·Memᴰ·tail m)) e (v .2) few
+
+-- ---- the sheet ends there
+
+-- a line without bytes says nothing
+empty-line : (z : Sizes) (s : Progress) (at : ℕ) → lineStep z s (piece at []) ≡ goes s
+unfolding lineStep handled
+empty-line z s at = refl
+
+-- the lines say what they say in a text that ends before the percent line
+lines-cut : (size : ℕ) (z : Sizes) (front : List Line) (s : Progress) (l : Line) (ls : List Line)
+    → isPercentLine l ≡ true
+    → linesSay size z s (front ++ l ∷ ls) ≡ linesSay (l .start) z s (front ++ piece (l .start) [] ∷ [])
+unfolding linesSay
+lines-cut size z [] s l ls e =
+    ap (λ p. cond p (atEnd (l .start) z s) (andThen (lineStep z s l) (λ t. linesSay size z t ls))) e
+    ∙ sym (ap (λ m. andThen m (λ t. atEnd (l .start) z t)) (empty-line z s (l .start)))
+lines-cut size z (k ∷ front) s l ls e =
+    ap (λ f. cond (isPercentLine k) (atEnd (k .start) z s) (andThen (lineStep z s k) f))
+    (λ i t. lines-cut size z front t l ls e i)
+
+-- the bytes of a percent line
+sign-split : (l : Line) → isPercentLine l ≡ true → l .bytes ≡ 37 ∷ drop 1 (l .bytes)
+unfolding isPercentLine
+sign-split l e = begins-split percentSign (l .bytes)
+    (and-split (begins percentSign (l .bytes)) (allBlank (drop 1 (l .bytes))) e .0)
+
+-- before the problem line it is a malformed one
+sign-shown : (l : Line) → isPercentLine l ≡ true → isSkipped l ≡ false
+unfolding isSkipped
+sign-shown l e = ap (λ bs. begins (99 ∷ []) bs || allBlank bs) (sign-split l e)
+
+sign-malformed : (l : Line) → isPercentLine l ≡ true → problemIn l ≡ none
+unfolding problemIn
+sign-malformed l e = ap (λ t. cond t (problemWords (spelled (wordsOf l))) none)
+    (ap (begins problemWord) (sign-split l e))
+
+module _ (size room : ℕ) (l : Line) (ls : List Line) (e : isPercentLine l ≡ true) where
+  -- the problem line and those behind it
+  text-cut : (ks : List Line) → withLines size room (fromProblem (ks ++ l ∷ ls))
+      ≡ withLines (l .start) room (fromProblem (ks ++ piece (l .start) [] ∷ []))
+  unfolding fromProblem withLines
+  text-cut [] =
+      ap (λ t. withLines size room (cond t (fromProblem ls) (l ∷ ls))) (sign-shown l e)
+      ∙ ap (withProblem size room l ls) (sign-malformed l e)
+  text-cut (k ∷ ks) = by (isSkipped k) (text-cut ks)
+    where
+      sized : (z : Sizes) (t u : Bool)
+          → cond t (cond u (textSays size z (ks ++ l ∷ ls)) (refuses 4 (k .start))) (refuses 3 (k .start))
+          ≡ cond t (cond u (textSays (l .start) z (ks ++ piece (l .start) [] ∷ [])) (refuses 4 (k .start))) (refuses 3 (k .start))
+      sized z t u = ap (λ m. cond t (cond u m (refuses 4 (k .start))) (refuses 3 (k .start)))
+          (lines-cut size z ks _ l ls e)
+
+      headed : (o : Option Sizes) → withProblem size room k (ks ++ l ∷ ls) o
+          ≡ withProblem (l .start) room k (ks ++ piece (l .start) [] ∷ []) o
+      headed none = refl
+      headed (some z) = sized z (withinLimits z) (leb (z .total) room)
+
+      by : (t : Bool) → withLines size room (fromProblem (ks ++ l ∷ ls))
+          ≡ withLines (l .start) room (fromProblem (ks ++ piece (l .start) [] ∷ []))
+          → withLines size room (cond t (fromProblem (ks ++ l ∷ ls)) (k ∷ (ks ++ l ∷ ls)))
+          ≡ withLines (l .start) room (cond t (fromProblem (ks ++ piece (l .start) [] ∷ [])) (k ∷ (ks ++ piece (l .start) [] ∷ [])))
+      by true ih = ih
+      by false ih = headed (problemIn k)
+
+-- Q01.2, Q01.3: a text is read as the same text cut before its percent line, whose end is the place of the sign: what
+-- stands behind is not looked at, a sheet that was accepted is, and what is missing is missing at the sign
+pub percent-cuts : (front tail : List ℕ) (room : ℕ) {l : Line} {ls : List Line} → length (front ++ 10 ∷ tail) ≤ maxText
+    → lines (suc (length front)) tail ≡ l ∷ ls → isPercentLine l ≡ true
+    → reading (front ++ 10 ∷ tail) room ≡ reading (front ++ 10 ∷ []) room
+unfolding reading
+percent-cuts front tail room {l} {ls} few first percent =
+    ap (λ b. cond b (withLines (length (front ++ 10 ∷ tail)) room (fromProblem (lines 0 (front ++ 10 ∷ tail))))
+    (refuses 1 maxText)) (le-leb (length (front ++ 10 ∷ tail)) maxText few)
+    ∙ ap (λ ks. withLines (length (front ++ 10 ∷ tail)) room (fromProblem ks)) (whole tail
+    ∙ ap (λ ks. lines 0 front ++ ks) first)
+    ∙ text-cut (length (front ++ 10 ∷ tail)) room l ls percent (lines 0 front)
+    ∙ sym (ap (λ b. cond b (withLines (length (front ++ 10 ∷ [])) room (fromProblem (lines 0 (front ++ 10 ∷ []))))
+    (refuses 1 maxText)) (le-leb (length (front ++ 10 ∷ [])) maxText (omega (arith, size, length-append front (10 ∷ tail))))
+    ∙ ap (λ ks. withLines (length (front ++ 10 ∷ [])) room (fromProblem ks)) (whole [])
+    ∙ ap (λ j. withLines j room (fromProblem (lines 0 front ++ lines (suc (length front)) []))) size
+    ∙ ap (λ j. withLines j room (fromProblem (lines 0 front ++ piece j [] ∷ []))) (sym start))
+  where
+    whole : (bytes : List ℕ) → lines 0 (front ++ 10 ∷ bytes) ≡ lines 0 front ++ lines (suc (length front)) bytes
+    whole bytes = lines-append 0 front bytes ∙ ap (λ k. lines 0 front ++ lines (suc k) bytes) (zero-add (length front))
+
+    size : length (front ++ 10 ∷ []) ≡ suc (length front)
+    size = omega (arith, length-append front (10 ∷ []))
+
+    start : l .start ≡ suc (length front)
+    start = let i = lines-some (suc (length front)) tail in cc
+
+-- a percent line in bytes
+sign-line : (at : ℕ) (blanks rest : List ℕ) → allBlank blanks ≡ true
+    → lines at (percentSign ++ blanks ++ 10 ∷ rest)
+    ≡ piece at (percentSign ++ blanks) ∷ lines (suc (at + length (percentSign ++ blanks))) rest
+unfolding all endsLine
+sign-line at blanks rest e =
+    lines-append at (percentSign ++ blanks) rest
+    ∙ ap (λ ks. ks ++ lines (suc (at + length (percentSign ++ blanks))) rest)
+    (lines-last at (percentSign ++ blanks) (blank-clean blanks e))
+
+is-sign : (at : ℕ) (blanks : List ℕ) → allBlank blanks ≡ true → isPercentLine (piece at (percentSign ++ blanks)) ≡ true
+unfolding isPercentLine
+is-sign at blanks e = e
+
+-- a text with a percent line, and bytes behind it
+abbrev pub closedBySign : List ℕ → List ℕ → List ℕ → List ℕ
+closedBySign front blanks rest = front ++ 10 ∷ (percentSign ++ blanks ++ 10 ∷ rest)
+
+module _ (front blanks : List ℕ) (room : ℕ) (blank : allBlank blanks ≡ true) where
+  cut : (rest : List ℕ) → length (closedBySign front blanks rest) ≤ maxText
+      → reading (closedBySign front blanks rest) room ≡ reading (front ++ 10 ∷ []) room
+  cut rest few = percent-cuts front (percentSign ++ blanks ++ 10 ∷ rest) room few
+      (sign-line (suc (length front)) blanks rest blank) (is-sign (suc (length front)) blanks blank)
+
+  -- Q01.1: "whose files close with a line holding only `%`, then a 0": a sheet that is accepted says the same with such
+  -- an ending
+  pub ending-accepted : (rest : List ℕ) (d : Input) → length (closedBySign front blanks rest) ≤ maxText
+      → Accepts (front ++ 10 ∷ []) room d → Accepts (closedBySign front blanks rest) room d
+  ending-accepted rest d few a = reading-accepts (closedBySign front blanks rest) room d
+      (cut rest few ∙ accepts-reading (front ++ 10 ∷ []) room d a)
+
+  -- Q01.2: "the bytes behind it are ignored": whatever they are, malformed lines too, the reader answers the same
+  pub behind-ignored : (rest more : List ℕ) → length (closedBySign front blanks rest) ≤ maxText
+      → length (closedBySign front blanks more) ≤ maxText
+      → reading (closedBySign front blanks rest) room ≡ reading (closedBySign front blanks more) room
+  behind-ignored rest more few few₁ = cut rest few ∙ sym (cut more few₁)
+
+-- ---- what is no percent line
+
+-- `%x`: a byte behind the sign that is no blank
+pub byte-behind : (at : ℕ) (bytes : List ℕ) {b : ℕ} → b ∈ bytes → isBlank b ≡ false
+    → isPercentLine (piece at (percentSign ++ bytes)) ≡ false
+unfolding isPercentLine
+byte-behind at bytes m e = not-all isBlank m e
+
+-- ` %`: another first byte
+pub byte-before : (at b : ℕ) (bytes : List ℕ) → (b ≡ 37 → ⊥) → isPercentLine (piece at (b ∷ bytes)) ≡ false
+unfolding isPercentLine
+byte-before at b bytes ne = rw (ne-eqb 37 b (λ e. ne (sym e)))
+
+-- such a line is one of words: 5 at the word with the sign, or 7 once C clauses are closed
+pub sign-word : (size : ℕ) (z : Sizes) (s : Progress) (l : Line) (ls : List Line) (at : ℕ) (v : List ℕ) (ws : List Word)
+    → isPercentLine l ≡ false → isComment l ≡ false → wordsOf l ≡ piece at (percentSign ++ v) ∷ ws
+    → linesSay size z s (l ∷ ls) ≡ refuses (cond (ltb (length (s .clauses .closed)) (z .total)) 5 7) at
+unfolding linesSay walk wordStep
+sign-word size z s l ls at v ws p c e =
+    ap (λ t. cond t (atEnd (l .start) z s) (andThen (lineStep z s l) (λ t. linesSay size z t ls))) p
+    ∙ ap (λ m. andThen m (λ t. linesSay size z t ls)) (line-of-kind z s l clause-line (kind-clauses l c)
+    ∙ ap (λ ks. andThen (walk (wordStep z) (s .clauses) ks) (λ a. goes (withPart clause-line s a))) e)
+    ∙ ap (λ t. andThen (andThen (andThen (cond (ltb (length (s .clauses .closed)) (z .total))
+    (tokenStep (z .variables) (s .clauses) at t) (refuses 7 at)) (λ q. walk (wordStep z) q ws))
+    (λ a. goes (withPart clause-line s a))) (λ t. linesSay size z t ls)) (word-malformed 37 v refl refl)
+    ∙ by (ltb (length (s .clauses .closed)) (z .total))
+  where
+    by : (t : Bool) → andThen (andThen (andThen (cond t (tokenStep (z .variables) (s .clauses) at malformed) (refuses 7 at))
+        (λ q. walk (wordStep z) q ws)) (λ a. goes (withPart clause-line s a))) (λ t. linesSay size z t ls)
+        ≡ refuses (cond t 5 7) at
+    by true = refl
+    by false = refl
