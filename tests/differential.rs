@@ -193,6 +193,9 @@ fn text(r: &mut Random) -> Vec<u8> {
     out.push(b'\n');
     comments.into_iter().for_each(|c| out.extend(c));
     if r.chance(3) {
+        out.extend(*r.pick(&[&b"%\n0\n\n"[..], b"%\n", b"% \t\r\nc wish 2\n%x\n", b"%x\n", b" %\n", b"%%\n", b"% "]));
+    }
+    if r.chance(3) {
         out.pop();
     }
     out
@@ -223,6 +226,8 @@ fn damage(r: &mut Random, bytes: &mut Vec<u8>) {
                     b"-",
                     b"65 ",
                     b"c",
+                    b"%",
+                    b"\n%\n",
                     b"\n",
                     b"\0",
                 ]);

@@ -1,6 +1,6 @@
-// An implementation of document 01 for comparison, written from its sentences: names are numbers from 1, a rule is a
-// list of literals as the text has them, sets are the standard library's. It shares nothing with the library but the
-// forms in which things are lent.
+// An implementation of document 01, with the requests of document 02 that are in, for comparison, written from their
+// sentences: names are numbers from 1, a rule is a list of literals as the text has them, sets are the standard
+// library's. It shares nothing with the library but the forms in which things are lent.
 #![allow(dead_code)] // a program uses some of them
 use std::collections::{BTreeSet, HashMap, HashSet};
 
@@ -74,6 +74,11 @@ fn literal(word: &[u8]) -> Option<i64> {
         Some(rest) => digits(rest).filter(|&n| n > 0).map(|n| -i64::from(n)),
         None => digits(word).map(i64::from),
     }
+}
+
+// 2026-01: "a line whose first byte is `%` and that otherwise holds blanks".
+fn percent(line: &[u8]) -> bool {
+    line.first() == Some(&b'%') && line[1..].iter().all(|&b| blank(b))
 }
 
 // "Lines end with byte 10; the last may lack it."
@@ -190,7 +195,12 @@ pub fn read(text: &[u8], yes_room: usize, no_room: usize) -> Result<Sheet, Refus
         return Err((4, start));
     }
     let mut reading = Reading { wished: None, exchanges: Vec::new(), closed: Vec::new(), current: Vec::new() };
+    let mut end = text.len();
     for &(at, line) in &all[place + 1..] {
+        if percent(line) {
+            end = at;
+            break;
+        }
         if line.first() == Some(&b'c') {
             reading.comment(at, line, names)?;
         } else {
@@ -200,7 +210,7 @@ pub fn read(text: &[u8], yes_room: usize, no_room: usize) -> Result<Sheet, Refus
         }
     }
     if reading.closed.len() < rules as usize {
-        return Err((7, text.len() as u128));
+        return Err((7, end as u128));
     }
     let mut bytes = reading.exchanges.concat();
     bytes.resize(1024, 0);

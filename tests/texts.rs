@@ -84,6 +84,29 @@ fn precedence(count: &mut Texts) {
     count.expect("a target inside a clause has", b"p cnf 2 1\n1\nc wish 01\n2 0\n", 1, read(2, 1, 2, 0));
 }
 
+// Request 2026-01: benchmark sheets end in a percent sign.
+fn percent(count: &mut Texts) {
+    count.expect("SATLIB's ending", b"p cnf 3 2\n 1 -2 0\n2 3 0\n%\n0\n\n", 2, read(3, 2, 0, 0));
+    count.expect("no byte behind the sign", b"p cnf 1 0\n%", 0, read(1, 0, 0, 0));
+    count.expect("blanks behind the sign", b"p cnf 1 0\n%\t \r\n", 0, read(1, 0, 0, 0));
+    count.expect("malformed lines behind", b"p cnf 2 0\n%\nc wish 9\nc exch 1 1\nx\n", 0, read(2, 0, 0, 0));
+    count.expect("too few closed: 7 at the sign", b"p cnf 2 2\n1 0\n%\n0\n", 2, Said::Refused(7, 14));
+    count.expect("inside a rule: 7 at the sign", b"p cnf 2 1\n1 2\n%\n0\n", 1, Said::Refused(7, 14));
+    count.expect("before the problem line: 2", b"c x\n%\np cnf 1 0\n", 0, Said::Refused(2, 4));
+    count.expect("%x: 5", b"p cnf 1 1\n%x\n1 0\n", 1, Said::Refused(5, 10));
+    count.expect("%x once C rules are closed: 7", b"p cnf 1 0\n%x\n", 0, Said::Refused(7, 10));
+    count.expect("a blank before the sign: 5", b"p cnf 1 1\n %\n1 0\n", 1, Said::Refused(5, 11));
+    count.expect("the same once C rules are closed: 7", b"p cnf 1 0\n %\n", 0, Said::Refused(7, 11));
+    count.expect("a sign inside a line: 5", b"p cnf 1 1\n1 % 0\n", 1, Said::Refused(5, 12));
+    count.expect("a fault before the sign goes first", b"p cnf 1 1\nc wish 7\n%\n", 1, Said::Refused(8, 10));
+    let ending = [b"p cnf 1 0\n%\n".to_vec(), vec![b'x'; MIB - 12]].concat();
+    count.expect("1 MiB of bytes behind the sign", &ending, 0, read(1, 0, 0, 0));
+    let long = [ending, b"x".to_vec()].concat();
+    count.expect("one byte more: 1 counts them", &long, 0, Said::Refused(1, MIB as u64));
+    let blanks = [b"p cnf 1 0\n%".to_vec(), vec![b' '; MIB - 12], b"x".to_vec()].concat();
+    count.expect("a word 1 MiB behind the sign: 7", &blanks, 0, Said::Refused(7, 10));
+}
+
 fn hostile(count: &mut Texts) {
     let long = |head: &[u8], part: &[u8]| [head.to_vec(), part.repeat((MIB - head.len()) / part.len())].concat();
     let end = |text: &[u8]| text.len() as u64;
@@ -104,6 +127,7 @@ fn main() {
     limits(&mut count);
     refusals(&mut count);
     precedence(&mut count);
+    percent(&mut count);
     hostile(&mut count);
     count.0.finish("texts");
 }

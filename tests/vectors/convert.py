@@ -1,10 +1,10 @@
 #!/usr/bin/env python3
 """Turns vectors, one JSON object a line, into the plain form that tests/vectors.rs reads.
 
-usage: convert.py BASE.jsonl > base.txt
+usage: convert.py FILE.jsonl [RETIRED.txt ..] > FILE.txt
 
-A vector is a block of lines, a key and its words; an empty line ends it.
-Words are decimal numbers, except that bytes are given as runs:
+A vector is a block of lines, a key and its words; an empty line ends it. Those whose ids stand in a file RETIRED.txt,
+one a line, are left out: a later request changed their answers. Words are decimal numbers, except that bytes are given as runs:
 H:hex:times (these bytes so many times) or U:first:count (that many 8-byte numbers counting up, low byte first)."""
 import json
 import sys
@@ -79,7 +79,11 @@ def block(v):
             yield "after-bytes", runs(e, name)
 
 
+retired = {word for path in sys.argv[2:] for word in open(path).read().split()}
 for line in open(sys.argv[1]):
-    for key, words in block(json.loads(line)):
+    vector = json.loads(line)
+    if vector["id"] in retired:
+        continue
+    for key, words in block(vector):
         print(" ".join([key] + [str(w) for w in words]))
     print()

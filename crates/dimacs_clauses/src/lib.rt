@@ -187,7 +187,7 @@ fn clause_word(
 }
 
 // The words of the line that begins at `start`, and where it ends. A byte of the line is visited at most four times: to
-// test whether the line or a word ends there, for a minus, and for its digit. `dimacs_lines::clause_lines` sees to what
+// test whether the line or a word ends there, for a minus, and for its digit. `dimacs_body::clause_lines` sees to what
 // it requires.
 pub fn clause_line(
     text: &[u8],

@@ -251,7 +251,7 @@ pub struct PermutationTaken {
 }
 
 // R9: "exchange line malformed or seventeenth | 9 | line's first byte", which stands at `start`.
-// `dimacs_lines::read_comment` hands on the images as the lines so far left them; refusal 3 sees to n.
+// `dimacs_body::read_comment` hands on the images as the lines so far left them; refusal 3 sees to n.
 pub fn permutation_line(
     bytes: &[u8],
     start: usize,

@@ -12,13 +12,13 @@ use Rattle.dimacs_lines.specs.declared.Parse.{Parse}
 use Rattle.dimacs_lines.specs.declared.Parse.the-variants.{Accepted, Refused}
 use Rattle.dimacs_lines.specs.declared.Parsed.{Parsed}
 use Rattle.dimacs_lines.specs.declared.ParsedNumbers.{ParsedNumbers}
-use Rattle.dimacs_lines.specs.declared.State.{State}
+use Rattle.dimacs_body.specs.declared.State.{State}
 use Rattle.dimacs_lines.specs.declared.Told.{Told}
 use Rattle.dimacs_lines.specs.Reply.{replyOfParse}
 use Rattle.dimacs_format.specs.Input.{Input}
 use Rattle.dimacs_format.specs.Text.{maxText}
 use Rattle.dimacs_format.specs.Reader.{Step, Sizes, atEnd, replyTo, formulaFrom, slicesFrom}
-use Rattle.dimacs_lines.specs.Laws.LineScans.{progressFrom, Standing}
+use Rattle.dimacs_body.specs.Laws.LineScans.{progressFrom, Standing}
 
 -- the first points of one slice went to the front of another
 pub record Copied (from to₀ : List ℕ) (count : ℕ) (to₁ : List ℕ) : Type 0 where

@@ -22,8 +22,8 @@ use Rattle.dimacs_lines.specs.declared.Parse.the-variants.{Accepted, Ref
 use Rattle.dimacs_lines.specs.declared.Parsed.{Parsed}
 use Rattle.dimacs_lines.specs.declared.ParsedNumbers.{ParsedNumbers}
 use Rattle.formula.specs.Laws.Contracts.{formulaWith}
-use Rattle.dimacs_lines.specs.declared.State.{State}
-use Rattle.dimacs_lines.specs.declared.Lined.{Lined}
+use Rattle.dimacs_body.specs.declared.State.{State}
+use Rattle.dimacs_body.specs.declared.Lined.{Lined}
 use Rattle.dimacs_lines.specs.declared.Told.{Told}
 use Rattle.dimacs_format.specs.Input.{Input, imagesOf, padded, formulaOf, positives, negatives}
 use Rattle.dimacs_format.specs.Reader.{Step, goes, refuses, andThen, Sizes, Progress, inputOf, atEnd, replyTo}
@@ -36,7 +36,7 @@ use Rattle.dimacs_clauses.specs.Laws.ClauseScanLaws.{closed-length}
 use Rattle.dimacs_comments.specs.Laws.CommentScans.{wantedOf}
 use Rattle.dimacs_comments.specs.Laws.HandlerScans.{KeptImages}
 use Rattle.dimacs_comments.specs.Laws.HandlerLaws.{images-take}
-use Rattle.dimacs_lines.specs.Laws.LineScans.{nothingSaid, progressFrom, Standing, LinesRead}
+use Rattle.dimacs_body.specs.Laws.LineScans.{nothingSaid, progressFrom, Standing, LinesRead}
 use Rattle.dimacs_lines.specs.Laws.ParsedAs.{refusedWith, toldRefused, parsedWith, parsedIn, noImages}
 use Rattle.dimacs_lines.specs.Laws.ParsedAs.{Limited, HasRoom}
 use Rattle.dimacs_lines.specs.Laws.ParsedAs.{ParsedAs, Accepting}

@@ -1,11 +1,11 @@
--- `dimacs_lines::begin` meets its contract. Assumes nothing.
+-- `dimacs_body::begin` meets its contract. Assumes nothing.
 use mathlib.Core.Path.{ap₂}
 use borrow.Author.Needs.{needs}
 use Rattle.dimacs_clauses.specs.declared.Begun.{Begun}
 use Rattle.dimacs_comments.specs.declared.Wanted.{Wanted}
-use Rattle.dimacs_lines.specs.declared.State.{State}
-use Rattle.dimacs_lines.proofs.begin.Statement.{statement}
-use Rattle.dimacs_lines.proofs.begin.Tie as tie
+use Rattle.dimacs_body.specs.declared.State.{State}
+use Rattle.dimacs_body.proofs.begin.Statement.{statement}
+use Rattle.dimacs_body.proofs.begin.Tie as tie
 
 none-begun-requires : tie.Need-none-begun-requires
 none-begun-requires c κs = search needs

@@ -1,10 +1,10 @@
--- `dimacs_lines::read_comment` meets its contract: one handler a head. Assumes nothing.
+-- `dimacs_body::read_comment` meets its contract: one handler a head. Assumes nothing.
 use mathlib.Core.Path.{sym, _∙_}
 use borrow.Author.Needs.{needs}
-use Rattle.dimacs_lines.specs.Laws.LineScanLaws.{head-length, target-read, permutation-read, remark-read}
+use Rattle.dimacs_body.specs.Laws.LineScanLaws.{head-length, target-read, permutation-read, remark-read}
 use Rattle.dimacs_format.specs.Text.{targetHead, isTargetLine, permutationHead, isPermutationLine}
-use Rattle.dimacs_lines.proofs.read_comment.Statement.{statement}
-use Rattle.dimacs_lines.proofs.read_comment.Tie as tie
+use Rattle.dimacs_body.proofs.read_comment.Statement.{statement}
+use Rattle.dimacs_body.proofs.read_comment.Tie as tie
 
 begins-requires : tie.Need-begins-requires
 begins-requires c κs = search needs

@@ -1,4 +1,4 @@
--- `dimacs_lines::percent_line` meets its contract: the sign first, and blanks up to the end of its line. Assumes nothing.
+-- `dimacs_body::percent_line` meets its contract: the sign first, and blanks up to the end of its line. Assumes nothing.
 use mathlib.Core.Path.{sym, _∙_}
 use native.Mathlib.Omega.{arith}
 use borrow.Author.Needs.{needs}
@@ -6,9 +6,9 @@ use borrow.Author.Tests.{not-true, not-false}
 use Rattle.dimacs_words.specs.declared.Class.the-variants.{Line}
 use Rattle.dimacs_words.specs.Laws.Scans.{belongs}
 use Rattle.dimacs_words.specs.Laws.ScanLaws.{run-length}
-use Rattle.dimacs_lines.specs.Laws.LineScanLaws.{no-sign, sign-blank, sign-inside}
-use Rattle.dimacs_lines.proofs.percent_line.Statement.{statement}
-use Rattle.dimacs_lines.proofs.percent_line.Tie as tie
+use Rattle.dimacs_body.specs.Laws.LineScanLaws.{no-sign, sign-blank, sign-inside}
+use Rattle.dimacs_body.proofs.percent_line.Statement.{statement}
+use Rattle.dimacs_body.proofs.percent_line.Tie as tie
 
 returns : tie.Need-returns
 returns c = sym (no-sign (c .before .before .before .args .text .now) (c .before .before .before .pre) (sym (c .before .opens-with .ensures) ∙ not-true _ (c .if1 .taken)))

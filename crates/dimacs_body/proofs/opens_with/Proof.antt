@@ -1,13 +1,13 @@
--- `dimacs_lines::opens_with` meets its contract: the first byte decides, if there is one. Assumes nothing.
+-- `dimacs_body::opens_with` meets its contract: the first byte decides, if there is one. Assumes nothing.
 use mathlib.Core.Bool.{_&&_}
 use mathlib.Core.Path.{sym, ap}
 use lib.Dec.{eqb}
 use lib.ListN.{getD}
 use borrow.Author.Needs.{needs}
 use borrow.Author.Tests.{lt-ltb, le-ltb}
-use Rattle.dimacs_lines.specs.Laws.LineScans.{opensWith}
-use Rattle.dimacs_lines.proofs.opens_with.Statement.{statement}
-use Rattle.dimacs_lines.proofs.opens_with.Tie as tie
+use Rattle.dimacs_body.specs.Laws.LineScans.{opensWith}
+use Rattle.dimacs_body.proofs.opens_with.Statement.{statement}
+use Rattle.dimacs_body.proofs.opens_with.Tie as tie
 
 returns : tie.Need-returns
 unfolding opensWith

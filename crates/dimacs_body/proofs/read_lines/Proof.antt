@@ -1,4 +1,4 @@
--- `dimacs_lines::read_lines` meets its contract: what is left of the walk over the lines is the whole walk. Assumes
+-- `dimacs_body::read_lines` meets its contract: what is left of the walk over the lines is the whole walk. Assumes
 -- nothing.
 use mathlib.Core.Path.{_≡_, sym, _∙_}
 use Prim.Native.Nat.{_-_}
@@ -6,11 +6,11 @@ use native.Mathlib.Omega.{arith}
 use lib.ListN.{length}
 use borrow.Author.Needs.{needs}
 use Rattle.point_slices.specs.Slices.{clauseSlices}
-use Rattle.dimacs_lines.specs.Laws.LineScanLaws.{passing-begins, passing-ends, passing-percent, passing-stops}
-use Rattle.dimacs_lines.specs.Laws.LineScanLaws.{passing-later, passing-goes-on}
-use Rattle.dimacs_lines.specs.Laws.LineScans.{Passing}
-use Rattle.dimacs_lines.proofs.read_lines.Statement.{statement}
-use Rattle.dimacs_lines.proofs.read_lines.Tie as tie
+use Rattle.dimacs_body.specs.Laws.LineScanLaws.{passing-begins, passing-ends, passing-percent, passing-stops}
+use Rattle.dimacs_body.specs.Laws.LineScanLaws.{passing-later, passing-goes-on}
+use Rattle.dimacs_body.specs.Laws.LineScans.{Passing}
+use Rattle.dimacs_body.proofs.read_lines.Statement.{statement}
+use Rattle.dimacs_body.proofs.read_lines.Tie as tie
 
 abbrev Inv-loop : tie.InvT-loop
 Inv-loop text end sizes positive₀ negative₀ images₀ state₀ last₀ positive negative images state last =

@@ -1,10 +1,10 @@
--- `dimacs_lines::opens_apart` meets its contract: the first byte decides, if there is one. Assumes nothing.
+-- `dimacs_body::opens_apart` meets its contract: the first byte decides, if there is one. Assumes nothing.
 use mathlib.Core.Path.{sym}
 use borrow.Author.Needs.{needs}
 use borrow.Author.Tests.{lt-ltb, le-ltb}
-use Rattle.dimacs_lines.specs.Laws.LineScans.{opensWith}
-use Rattle.dimacs_lines.proofs.opens_apart.Statement.{statement}
-use Rattle.dimacs_lines.proofs.opens_apart.Tie as tie
+use Rattle.dimacs_body.specs.Laws.LineScans.{opensWith}
+use Rattle.dimacs_body.proofs.opens_apart.Statement.{statement}
+use Rattle.dimacs_body.proofs.opens_apart.Tie as tie
 
 returns : tie.Need-returns
 unfolding opensWith

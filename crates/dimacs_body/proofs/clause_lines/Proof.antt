@@ -1,4 +1,4 @@
--- `dimacs_lines::clause_lines` meets its contract: what is left of the walk over the lines is the whole walk. Assumes
+-- `dimacs_body::clause_lines` meets its contract: what is left of the walk over the lines is the whole walk. Assumes
 -- nothing.
 use mathlib.Core.Path.{_≡_, sym, _∙_}
 use Prim.Native.Nat.{_-_}
@@ -6,10 +6,10 @@ use native.Mathlib.Omega.{arith}
 use lib.ListN.{length}
 use borrow.Author.Needs.{needs}
 use Rattle.point_slices.specs.Slices.{clauseSlices}
-use Rattle.dimacs_lines.specs.Laws.LineScans.{Going}
-use Rattle.dimacs_lines.specs.Laws.LineScanLaws.{going-begins, going-ends, going-later, going-goes-on}
-use Rattle.dimacs_lines.proofs.clause_lines.Statement.{statement}
-use Rattle.dimacs_lines.proofs.clause_lines.Tie as tie
+use Rattle.dimacs_body.specs.Laws.LineScans.{Going}
+use Rattle.dimacs_body.specs.Laws.LineScanLaws.{going-begins, going-ends, going-later, going-goes-on}
+use Rattle.dimacs_body.proofs.clause_lines.Statement.{statement}
+use Rattle.dimacs_body.proofs.clause_lines.Tie as tie
 
 abbrev Inv-loop : tie.InvT-loop
 Inv-loop text start sizes positive₀ negative₀ state₀ first₀ positive negative state first =

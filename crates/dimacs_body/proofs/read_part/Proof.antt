@@ -1,9 +1,9 @@
--- `dimacs_lines::read_part` meets its contract: a comment, or lines of words. Assumes nothing.
+-- `dimacs_body::read_part` meets its contract: a comment, or lines of words. Assumes nothing.
 use mathlib.Core.Path.{sym, _∙_}
 use borrow.Author.Needs.{needs}
-use Rattle.dimacs_lines.specs.Laws.LineScanLaws.{comment-there, words-begin, part-comment, part-words}
-use Rattle.dimacs_lines.proofs.read_part.Statement.{statement}
-use Rattle.dimacs_lines.proofs.read_part.Tie as tie
+use Rattle.dimacs_body.specs.Laws.LineScanLaws.{comment-there, words-begin, part-comment, part-words}
+use Rattle.dimacs_body.proofs.read_part.Statement.{statement}
+use Rattle.dimacs_body.proofs.read_part.Tie as tie
 
 opens-comment-requires : tie.Need-opens-comment-requires
 opens-comment-requires c κs = search needs

@@ -13,9 +13,9 @@ use Rattle.formula.specs.declared.Checked.the-variants.{Passed}
 use Rattle.dimacs_clauses.specs.declared.Begun.{Begun}
 use Rattle.dimacs_clauses.specs.declared.Stepped.{Stepped}
 use Rattle.dimacs_comments.specs.declared.Wanted.{Wanted}
-use Rattle.dimacs_lines.specs.declared.State.{State}
-use Rattle.dimacs_lines.specs.declared.Advanced.{Advanced}
-use Rattle.dimacs_lines.specs.declared.Lined.{Lined}
+use Rattle.dimacs_body.specs.declared.State.{State}
+use Rattle.dimacs_body.specs.declared.Advanced.{Advanced}
+use Rattle.dimacs_body.specs.declared.Lined.{Lined}
 use Rattle.dimacs_format.specs.Text.{Line, piece, lines, isPercentLine, maxText}
 use Rattle.dimacs_format.specs.Input.{Input}
 use Rattle.dimacs_format.specs.Reader.{Step, andThen, Sizes, Clauses, Progress, withPart, clause-line, lineStep}

@@ -17,9 +17,9 @@ use Rattle.dimacs_clauses.specs.declared.Begun.{Begun}
 use Rattle.dimacs_clauses.specs.declared.Stepped.{Stepped}
 use Rattle.dimacs_comments.specs.declared.TargetTaken.{TargetTaken}
 use Rattle.dimacs_comments.specs.declared.PermutationTaken.{PermutationTaken}
-use Rattle.dimacs_lines.specs.declared.State.{State}
-use Rattle.dimacs_lines.specs.declared.Advanced.{Advanced}
-use Rattle.dimacs_lines.specs.declared.Lined.{Lined}
+use Rattle.dimacs_body.specs.declared.State.{State}
+use Rattle.dimacs_body.specs.declared.Advanced.{Advanced}
+use Rattle.dimacs_body.specs.declared.Lined.{Lined}
 use Rattle.dimacs_format.specs.Text.{maxText, endsLine, Line, piece, sameBytes, begins, isComment, allBlank}
 use Rattle.dimacs_format.specs.Text.{isPercentLine, targetHead}
 use Rattle.dimacs_format.specs.Text.{permutationHead, isTargetLine, isPermutationLine}
@@ -36,12 +36,12 @@ use Rattle.dimacs_words.specs.Laws.ScanLaws.{run-begins, run-exists, run-later}
 use Rattle.dimacs_clauses.specs.Laws.ClauseScans.{clausesFrom, Ready, Scanning}
 use Rattle.dimacs_comments.specs.Laws.CommentScans.{wantedOf}
 use Rattle.dimacs_comments.specs.Laws.HandlerScans.{TargetRead, PermutationRead}
-use Rattle.dimacs_lines.specs.Laws.LineScans.{nothingSaid, withBegun, withWanted, withPermutations, progressWith}
-use Rattle.dimacs_lines.specs.Laws.LineScans.{progressFrom, Kept, Standing}
-use Rattle.dimacs_lines.specs.Laws.LineScans.{CommentRead}
-use Rattle.dimacs_lines.specs.Laws.LineScans.{opensWith, opensComment, opensApart, percentFirst, percentAt}
-use Rattle.dimacs_lines.specs.Laws.LineScans.{WordsThere, linesFrom, linesAfter, Following, Going}
-use Rattle.dimacs_lines.specs.Laws.LineScans.{Advancing, endedWith, LinesRead, Passing}
+use Rattle.dimacs_body.specs.Laws.LineScans.{nothingSaid, withBegun, withWanted, withPermutations, progressWith}
+use Rattle.dimacs_body.specs.Laws.LineScans.{progressFrom, Kept, Standing}
+use Rattle.dimacs_body.specs.Laws.LineScans.{CommentRead}
+use Rattle.dimacs_body.specs.Laws.LineScans.{opensWith, opensComment, opensApart, percentFirst, percentAt}
+use Rattle.dimacs_body.specs.Laws.LineScans.{WordsThere, linesFrom, linesAfter, Following, Going}
+use Rattle.dimacs_body.specs.Laws.LineScans.{Advancing, endedWith, LinesRead, Passing}
 
 -- ---- a line of any kind
 
