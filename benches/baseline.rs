@@ -1,7 +1,7 @@
-// An implementation of document 01 in plain Rust for the library to be timed beside, written for speed: one pass over
-// a text, points in the standard library's hash set as it comes, clauses tried eight at a time, permutations as
-// rotations of masks, images made only where a flip itself is not found. compare.rs stops where its answers are not
-// the library's.
+// An implementation of document 01, with the requests of document 02 that are in, in plain Rust for the library to be
+// timed beside, written for speed: one pass over a text, points in the standard library's hash set as it comes, clauses
+// tried eight at a time, permutations as rotations of masks, images made only where a flip itself is not found.
+// compare.rs stops where its answers are not the library's.
 #![allow(dead_code)] // a program uses some of them
 use std::collections::HashSet;
 use std::hash::{BuildHasherDefault, Hasher};
@@ -142,6 +142,9 @@ fn body(text: &[u8], mut at: usize, formula: &mut Formula) -> Result<Vec<(u64, u
             at += line.len() + 1;
             continue;
         }
+        if text[at] == b'%' && line(text, at)[1..].iter().all(|&byte| blank(byte)) {
+            break;
+        }
         while let Some(&byte) = text.get(at) {
             if blank(byte) {
                 at += 1;
@@ -183,7 +186,7 @@ fn body(text: &[u8], mut at: usize, formula: &mut Formula) -> Result<Vec<(u64, u
         }
         at += 1;
     }
-    Some(clauses).filter(|clauses| clauses.len() == count).ok_or((7, text.len() as u64))
+    Some(clauses).filter(|clauses| clauses.len() == count).ok_or((7, at.min(text.len()) as u64))
 }
 
 pub fn read(text: &[u8], positive: &mut [u64], negative: &mut [u64]) -> Result<Formula, Refusal> {

@@ -12,7 +12,7 @@ import sys
 
 import tree
 
-KINDS = r"D\d\.\d|S\d+|E\d+|W\d+|C\d+|K\d+|N\d+|R\d+|G\.[a-d]|V\d+|P\d+|F\d+|T\d+"
+KINDS = r"D\d\.\d|S\d+|E\d+|W\d+|C\d+|K\d+|N\d+|R\d+|G\.[a-d]|V\d+|P\d+|F\d+|T\d+|Q\d\d\.\d+"
 BEGIN, END = "<!-- made by tools/promises.py -->\n", "<!-- end of the table -->\n"
 LABEL = re.compile(r"(?<![\w.])(%s)(?![\w]|\.\d)" % KINDS)
 

@@ -147,13 +147,16 @@ fn refusal(reply: &[u64; WORDS]) -> Refusal {
     Refusal { number: reply[1] as u32, place: reply[2] }
 }
 
-/// Reads a DIMACS text.
+/// Reads a DIMACS text, up to its end or to a line that holds only a percent sign and blanks (SATLIB's files have one).
 ///
 /// ```
 /// let f = jugbowo::read(b"p cnf 2 1\nc wish 01\n1 -2 0\n").unwrap();
 /// assert_eq!((f.variables, f.target, f.clauses.len()), (2, 0b10, 1));
 /// let refusal = jugbowo::read(b"p cnf 65 0\n").unwrap_err();
 /// assert_eq!((refusal.number, refusal.place), (3, 0));
+/// assert_eq!(jugbowo::read(b"p cnf 2 1\n1 -2 0\n%\n0\n").unwrap().clauses.len(), 1);
+/// let refusal = jugbowo::read(b"p cnf 2 2\n1 -2 0\n%\n0\n").unwrap_err();
+/// assert_eq!((refusal.number, refusal.place), (7, 17));
 /// ```
 pub fn read(text: &[u8]) -> Result<Formula, Refusal> {
     let (mut positive, mut negative) = (vec![0; 4096], vec![0; 4096]);

@@ -126,9 +126,9 @@ fn opens_apart(text: &[u8], at: usize) -> bool
     (first == 99) | (first == 37)
 }
 
-// The lines of words from the one that begins at `start` up to the next comment, a `%` that begins a line, or the end of
-// the text, and where the last of them ends. One step a line, and a byte of a line is visited at most five times: four
-// by `clause_line`, and the first of a line once more. `read_part` sees to what it requires.
+// The lines of words from the one that begins at `start` up to the next that begins with `c` or `%`, or the end of the
+// text, and where the last of them ends. One step a line, and a byte of a line is visited at most five times: four by
+// `clause_line`, and the first of a line once more. `read_part` sees to what it requires.
 fn clause_lines(
     text: &[u8],
     start: usize,
@@ -167,14 +167,32 @@ fn clause_lines(
     }
 }
 
-// What lines lead to, and where the last of them ends.
+// What lines lead to, where the last of them ends, and whether the sheet ends there.
 pub struct Lined {
     pub advanced: Advanced,
     pub stop: usize,
+    pub ended: bool,
 }
 
-// A comment, or lines of words: what begins at `start` decides. The heads are at most fourteen bytes to compare, and
-// each handler says how often it visits a byte. `read_lines` sees to what it requires.
+// What was said up to the end of the sheet.
+fn ended_with(state: State, stop: usize) -> Lined
+    ensures { λ r. ⌜ r ≡ endedWith state stop ⌝ }
+{
+    let advanced = Advanced {
+        answer: Checked::Passed,
+        state,
+    };
+    Lined {
+        advanced,
+        stop,
+        ended: true,
+    }
+}
+
+// A comment, a percent line, or lines of words: what begins at `start` decides. The heads are at most fourteen bytes to
+// compare, and each handler says how often it visits a byte. Comments are asked for first, so that a text of remarks
+// pays nothing for percent lines; those of words are, since many lines are one part. `read_lines` sees to what it
+// requires.
 fn read_part(
     text: &[u8],
     start: usize,
@@ -185,7 +203,7 @@ fn read_part(
     images: &mut [u8],
 ) -> Lined
     requires { ⌜ Standing sizes state (clauseSlices (now positive) (now negative)) (now images)
-        × (start ≤ length (now text)) × (percentAt (now text) start ≡ false) ⌝ }
+        × (start ≤ length (now text)) ⌝ }
     ensures { λ r. ⌜ Advancing sizes (now (text .entry)) start state
         (clauseSlices (now (positive .entry)) (now (negative .entry))) (now (images .entry)) r
         (clauseSlices (now (positive .exit)) (now (negative .exit))) (now (images .exit)) ⌝ }
@@ -194,7 +212,15 @@ fn read_part(
     if comment {
         let stop = line_end(text, start);
         let advanced = read_comment(&text[start..stop], start, sizes, state, images);
-        return Lined { advanced, stop };
+        return Lined {
+            advanced,
+            stop,
+            ended: false,
+        };
+    }
+    let ended = percent_line(text, start);
+    if ended {
+        return ended_with(state, start);
     }
     let mut more = state;
     let begun = state.begun;
@@ -211,6 +237,7 @@ fn read_part(
     Lined {
         advanced,
         stop: end.at,
+        ended: false,
     }
 }
 
@@ -248,17 +275,6 @@ fn afresh(state: State) -> State
     }
 }
 
-// What was said up to the end of the sheet.
-fn ended_with(state: State, stop: usize) -> Lined
-    ensures { λ r. ⌜ r ≡ endedWith state stop ⌝ }
-{
-    let advanced = Advanced {
-        answer: Checked::Passed,
-        state,
-    };
-    Lined { advanced, stop }
-}
-
 // N3: "then the first fault in text order": the lines behind the one that ends at `end`, and where the sheet ends: the
 // text's length, or the first byte of a percent line (Q01.2). A byte of a comment is visited at most twice to find its
 // line's end, at most fifteen times as part of a head, and at most five times more; one of another line at most seven
@@ -281,16 +297,15 @@ pub fn read_lines(
     let mut last = end;
     while last < text.len() {
         let start = last + 1;
-        let ended = percent_line(text, start);
-        if ended {
-            return ended_with(state, start);
-        }
         let part = read_part(text, start, sizes, state, positive, negative, images);
         let step = part.advanced;
         let answer = step.answer;
         let Checked::Passed = answer else {
             return part;
         };
+        if part.ended {
+            return part;
+        }
         let told = step.state;
         state = afresh(told);
         last = part.stop;

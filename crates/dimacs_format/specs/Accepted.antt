@@ -96,13 +96,13 @@ wordsAmong ls = flatMap wordsOf (select (λ l. not (isComment l)) ls)
 abbrev pub Skipped : Line → Type 0
 Skipped l = (isComment l ≡ true) ⊎ ((b : ℕ) → b ∈ l .bytes → isBlank b ≡ true)
 
--- Q01.2: "now ends the sheet; the bytes behind it are ignored": a percent line and whatever stands behind it, or nothing
+-- Q01.2: "now ends the sheet; the bytes behind it are ignored": a percent line and what stands behind it, or nothing
 pub data Ignored : List Line → Type 0 where
   at-text-end : Ignored []
   at-percent-line : {l : Line} {ls : List Line} → isPercentLine l ≡ true → Ignored (l ∷ ls)
 
--- D2.1: "A sheet is read as DIMACS CNF, as document 01 fixes it.", and Q01.4: "The reading in demand 2 is this one from now on.": the text is accepted and says d, with slices that
--- have the given room for its clauses
+-- D2.1: "A sheet is read as DIMACS CNF, as document 01 fixes it."; Q01.4: "The reading in demand 2 is this one from now
+-- on.": the text is accepted and says d, with slices that have the given room for its clauses
 pub record Accepts (text : List ℕ) (room : ℕ) (d : Input) : Type 0 where
   -- S7: "The text is at most 1,048,576 bytes."
   pub size : length text ≤ maxText

@@ -1,12 +1,12 @@
 -- `dimacs_body::read_lines` meets its contract: what is left of the walk over the lines is the whole walk. Assumes
 -- nothing.
-use mathlib.Core.Path.{_≡_, sym, _∙_}
+use mathlib.Core.Path.{_≡_, _∙_}
 use Prim.Native.Nat.{_-_}
 use native.Mathlib.Omega.{arith}
 use lib.ListN.{length}
 use borrow.Author.Needs.{needs}
 use Rattle.point_slices.specs.Slices.{clauseSlices}
-use Rattle.dimacs_body.specs.Laws.LineScanLaws.{passing-begins, passing-ends, passing-percent, passing-stops}
+use Rattle.dimacs_body.specs.Laws.LineScanLaws.{passing-begins, passing-ends, passing-stops, passing-ended}
 use Rattle.dimacs_body.specs.Laws.LineScanLaws.{passing-later, passing-goes-on}
 use Rattle.dimacs_body.specs.Laws.LineScans.{Passing}
 use Rattle.dimacs_body.proofs.read_lines.Statement.{statement}
@@ -26,33 +26,30 @@ begin-requires c κs = search needs
 add-start : tie.Need-add-start Inv-loop μ-loop
 add-start c = let w = c .before .loop .inv .0 .size in omega (arith, c .loop-test .taken)
 
-percent-line-requires : tie.Need-percent-line-requires Inv-loop μ-loop
-percent-line-requires c κs = omega (arith, c .loop-test .taken)
+read-part-requires : tie.Need-read-part-requires Inv-loop μ-loop
+read-part-requires c κs = (c .before .before .before .before .loop .inv .0 .standing, omega (arith, c .before .before .before .loop-test .taken))
 
 returns : tie.Need-returns Inv-loop μ-loop
-returns c = passing-percent (c .before .before .before .before .loop .inv .0) (c .before .before .before .loop-test .taken) (sym (c .before .before .percent-line .ensures) ∙ c .before .if1 .taken) (c .ended-with .ensures)
-
-read-part-requires : tie.Need-read-part-requires Inv-loop μ-loop
-read-part-requires c κs = (c .before .before .before .before .before .before .loop .inv .0 .standing, omega (arith, c .before .before .before .before .before .loop-test .taken), sym (c .before .before .before .before .percent-line .ensures) ∙ c .before .before .before .if1 .left)
+returns c = passing-stops (c .before .before .before .before .before .before .before .before .before .before .before .before .before .before .loop .inv .0) (c .before .before .before .before .before .before .before .before .before .before .before .before .before .loop-test .taken) (c .before .before .before .before .before .before .before .before .before .read-part .ensures) (c .enum-told2 .given .1)
 
 returns-2 : tie.Need-returns-2 Inv-loop μ-loop
-returns-2 c = passing-stops (c .before .before .before .before .before .before .before .before .before .before .before .before .before .before .before .before .loop .inv .0) (c .before .before .before .before .before .before .before .before .before .before .before .before .before .before .before .loop-test .taken) (c .before .before .before .before .before .before .before .before .before .read-part .ensures) (c .enum-told2 .given .1)
+returns-2 c = passing-ended (c .before .before .before .before .before .before .before .before .before .before .before .before .before .before .before .loop .inv .0) (c .before .before .before .before .before .before .before .before .before .before .before .before .before .before .loop-test .taken) (c .before .before .before .before .before .before .before .before .before .before .read-part .ensures) (c .if1 .taken)
 
 loop-less : tie.Need-loop-less Inv-loop μ-loop
 loop-less c =
-    let l = passing-later (c .before .before .before .before .before .before .before .before .before .before .before .before .before .before .before .before .before .before .loop .inv .0) (c .before .before .before .before .before .before .before .before .before .before .before .before .before .before .before .before .before .loop-test .taken) (c .before .before .before .before .before .before .before .before .before .before .before .read-part .ensures) (c .before .before .enum-told .given .1) in
-    omega (arith, c .before .before .before .before .before .before .before .before .before .before .before .before .before .before .before .before .before .loop-test .taken)
+    let l = passing-later (c .before .before .before .before .before .before .before .before .before .before .before .before .before .before .before .before .before .loop .inv .0) (c .before .before .before .before .before .before .before .before .before .before .before .before .before .before .before .before .loop-test .taken) (c .before .before .before .before .before .before .before .before .before .before .before .before .read-part .ensures) (c .before .before .before .enum-told .given .1) in
+    omega (arith, c .before .before .before .before .before .before .before .before .before .before .before .before .before .before .before .before .loop-test .taken)
 
 loop-again : tie.Need-loop-again Inv-loop μ-loop
 loop-again c = (
-  passing-goes-on (c .before .before .before .before .before .before .before .before .before .before .before .before .before .before .before .before .before .before .loop .inv .0) (c .before .before .before .before .before .before .before .before .before .before .before .before .before .before .before .before .before .loop-test .taken) (c .before .before .before .before .before .before .before .before .before .before .before .read-part .ensures) (c .before .before .enum-told .given .1) (c .afresh .ensures),
-  c .before .before .before .before .before .before .before .before .before .before .before .read-part .kept .1 .1 .1 .1 .0 ∙ c .before .before .before .before .before .before .before .before .before .before .before .before .before .before .before .before .before .before .loop .inv .1,
-  c .before .before .before .before .before .before .before .before .before .before .before .read-part .kept .1 .1 .1 .1 .1 .0 ∙ c .before .before .before .before .before .before .before .before .before .before .before .before .before .before .before .before .before .before .loop .inv .2,
-  c .before .before .before .before .before .before .before .before .before .before .before .read-part .kept .1 .1 .1 .1 .1 .1 .0 ∙ c .before .before .before .before .before .before .before .before .before .before .before .before .before .before .before .before .before .before .loop .inv .3,
+  passing-goes-on (c .before .before .before .before .before .before .before .before .before .before .before .before .before .before .before .before .before .loop .inv .0) (c .before .before .before .before .before .before .before .before .before .before .before .before .before .before .before .before .loop-test .taken) (c .before .before .before .before .before .before .before .before .before .before .before .before .read-part .ensures) (c .before .before .before .enum-told .given .1) (c .before .before .if1 .left) (c .afresh .ensures),
+  c .before .before .before .before .before .before .before .before .before .before .before .before .read-part .kept .1 .1 .1 .1 .0 ∙ c .before .before .before .before .before .before .before .before .before .before .before .before .before .before .before .before .before .loop .inv .1,
+  c .before .before .before .before .before .before .before .before .before .before .before .before .read-part .kept .1 .1 .1 .1 .1 .0 ∙ c .before .before .before .before .before .before .before .before .before .before .before .before .before .before .before .before .before .loop .inv .2,
+  c .before .before .before .before .before .before .before .before .before .before .before .before .read-part .kept .1 .1 .1 .1 .1 .1 .0 ∙ c .before .before .before .before .before .before .before .before .before .before .before .before .before .before .before .before .before .loop .inv .3,
 )
 
 returns-3 : tie.Need-returns-3 Inv-loop μ-loop
-returns-3 c = passing-ends (c .before .before .loop .inv .0) (c .before .loop-test .left) (c .ended-with2 .ensures)
+returns-3 c = passing-ends (c .before .before .loop .inv .0) (c .before .loop-test .left) (c .ended-with .ensures)
 
 pub read-lines-spec : {M : Type 1} → statement M
 read-lines-spec =
@@ -63,15 +60,13 @@ read-lines-spec =
     begin-requires
     (λ c. search (needs, passing-begins))
     add-start
-    percent-line-requires
-    (λ c κs. search needs)
+    read-part-requires
+    (λ c. search needs)
+    (λ c. search needs)
     (λ c. search needs)
     (λ c. search needs)
     (λ c. search needs)
     returns
-    read-part-requires
-    (λ c. search needs)
-    (λ c. search needs)
     (λ c. search needs)
     (λ c. search needs)
     (λ c. search needs)

@@ -41,7 +41,7 @@ use Rattle.dimacs_body.specs.Laws.LineScans.{progressFrom, Kept, Standin
 use Rattle.dimacs_body.specs.Laws.LineScans.{CommentRead}
 use Rattle.dimacs_body.specs.Laws.LineScans.{opensWith, opensComment, opensApart, percentFirst, percentAt}
 use Rattle.dimacs_body.specs.Laws.LineScans.{WordsThere, linesFrom, linesAfter, Following, Going}
-use Rattle.dimacs_body.specs.Laws.LineScans.{Advancing, endedWith, LinesRead, Passing}
+use Rattle.dimacs_body.specs.Laws.LineScans.{onward, Advancing, endedWith, LinesRead, Passing}
 
 -- ---- a line of any kind
 
@@ -170,6 +170,14 @@ module _ (text : List ℕ) {at : ℕ} where
         percent-there (l .2)
         ∙ rw (head-there 37 (λ e. let z : ⊥ = omega arith in z) text (l .2) ∙ e)
 
+    -- a comment begins with another byte
+    pub no-comment-sign : opensComment text at ≡ true → percentAt text at ≡ false
+    unfolding opensWith
+    no-comment-sign e =
+        let w = and-split (ltb at (length text)) (eqb (getD text at 0) 99) e in
+        let first : getD text at 0 ≡ 99 = eqb-true (getD text at 0) 99 (w .1) in
+        no-sign (rw (w .0, first))
+
     pub sign-blank : {stop : ℕ} {blank : Bool} → Stretch (belongs LineBytes) text at stop → opensWith 37 text at ≡ true
         → blank ≡ allBlank (drop 1 (take (stop - at) (drop at text))) → blank ≡ percentAt text at
     unfolding isPercentLine
@@ -288,20 +296,16 @@ module _ {z : Sizes} {text : List ℕ} where
 
 module _ {z : Sizes} {text : List ℕ} {start : ℕ} {s : State} {clauses : ClauseSlices} {images : List ℕ}
     (st : Standing z s clauses images) where
-  -- the line that begins there is one of words
-  pub words-begin : percentAt text start ≡ false → opensComment text start ≡ false → WordsThere text start
-  words-begin p c = record { no-comment = c; no-percent = p }
-
   -- a comment leaves the clauses as they are
-  pub part-comment : {stop : ℕ} {r : Advanced} {images₁ : List ℕ} → percentAt text start ≡ false
+  pub part-comment : {stop : ℕ} {r : Advanced} {images₁ : List ℕ} → start ≤ length text → opensComment text start ≡ true
       → Stretch (belongs LineBytes) text start stop
       → CommentRead z start (take (stop - start) (drop start text)) s images r images₁
-      → Advancing z text start s clauses images (record { advanced = r; stop = stop }) clauses images₁
-  part-comment {stop} {r} {images₁} no-percent line k =
+      → Advancing z text start s clauses images (record { advanced = r; stop = stop; ended = false }) clauses images₁
+  part-comment {stop} {r} {images₁} within comment line k =
       record {
         within = where-passed (r .answer) (line .ordered, line .within);
         step =
-            line-first z text no-percent line (progressFrom (z .variables) clauses images s)
+            line-first z text (no-comment-sign text within comment) line (progressFrom (z .variables) clauses images s)
             ∙ ap (λ m. andThen m (linesAfter z text stop))
             (sym (ap (λ b. stepTo (r .answer) (progressWith (z .variables) (clausesFrom clauses b) images₁ (r .state)))
             (k .same-clauses)
@@ -315,11 +319,26 @@ module _ {z : Sizes} {text : List ℕ} {start : ℕ} {s : State} {clauses : Clau
             (k .kept);
       }
 
+  -- Q01.2: a percent line ends the sheet
+  pub part-percent : {r : Lined} → start ≤ length text → percentAt text start ≡ true → r ≡ endedWith s start
+      → Advancing z text start s clauses images r clauses images
+  unfolding andThen
+  part-percent within percent e =
+      subst (λ r. Advancing z text start s clauses images r clauses images) (sym e)
+      (record {
+        within = (omega arith, within);
+        step = percent-ends z text within percent (progressFrom (z .variables) clauses images s);
+        stands = st;
+      })
+
   -- lines of words replace the clauses
   pub part-words : {r : Stepped} {clauses₁ : ClauseSlices} → Following z text start clauses (s .begun) r clauses₁
       → Advancing z text start s clauses images
-      (record { advanced = record { answer = r .taken .answer; state = withBegun s (r .taken .begun) }; stop = r .next .at })
-      clauses₁ images
+      (record {
+        advanced = record { answer = r .taken .answer; state = withBegun s (r .taken .begun) };
+        stop = r .next .at;
+        ended = false;
+      }) clauses₁ images
   part-words {r} k =
       record {
         within = k .within;
@@ -357,26 +376,13 @@ module _ {z : Sizes} {text : List ℕ} {end : ℕ} where
           stands = a .standing;
         })
 
-    -- Q01.2: a percent line ends the sheet
-    pub passing-percent : last < length text → percentAt text (last + 1) ≡ true → {r : Lined}
-        → r ≡ endedWith s (last + 1) → LinesRead z text end r clauses images
-    unfolding andThen
-    passing-percent inside percent e =
-        subst (λ r. LinesRead z text end r clauses images) (sym e)
-        (record {
-          step = a .left
-              ∙ ap (linesSay (length text) z (progressFrom (z .variables) clauses images s)) (behind-some text last inside)
-              ∙ percent-ends z text (omega arith) percent (progressFrom (z .variables) clauses images s);
-          stands = a .standing;
-        })
-
     module _ {r : Lined} {clauses₁ : ClauseSlices} {images₁ : List ℕ} (inside : last < length text)
         (k : Advancing z text (last + 1) s clauses images r clauses₁ images₁)
       where
         -- the steps of these lines come first
         stepped : textSays (length text) z (linesBehind text end)
             ≡ andThen (stepTo (r .advanced .answer) (progressFrom (z .variables) clauses₁ images₁ (r .advanced .state)))
-            (linesAfter z text (r .stop))
+            (onward z text r)
         stepped =
             a .left ∙ ap (linesSay (length text) z (progressFrom (z .variables) clauses images s))
             (behind-some text last inside) ∙ k .step
@@ -386,22 +392,34 @@ module _ {z : Sizes} {text : List ℕ} {end : ℕ} where
         passing-stops e =
             record {
               step = stepped ∙ then-alike (r .advanced .answer)
-                  (progressFrom (z .variables) clauses₁ images₁ (r .advanced .state)) (linesAfter z text (r .stop))
+                  (progressFrom (z .variables) clauses₁ images₁ (r .advanced .state)) (onward z text r)
                   (atEnd (r .stop) z) (where-refused _ e);
               stands = k .stands;
             }
 
+        -- what comes behind these lines, by whether the sheet ends there
+        next : {ended : Bool} → r .ended ≡ ended → textSays (length text) z (linesBehind text end)
+            ≡ andThen (stepTo (r .advanced .answer) (progressFrom (z .variables) clauses₁ images₁ (r .advanced .state)))
+            (λ p. cond ended (atEnd (r .stop) z p) (linesAfter z text (r .stop) p))
+        next e = stepped ∙ ap (λ b. andThen
+            (stepTo (r .advanced .answer) (progressFrom (z .variables) clauses₁ images₁ (r .advanced .state)))
+            (λ p. cond b (atEnd (r .stop) z p) (linesAfter z text (r .stop) p))) e
+
+        -- Q01.2: the sheet ends with them
+        pub passing-ended : r .ended ≡ true → LinesRead z text end r clauses₁ images₁
+        passing-ended e = record { step = next e; stands = k .stands }
+
         pub passing-later : r .advanced .answer ≡ Passed → (last < r .stop) × (r .stop ≤ length text)
         passing-later e = let w = where-told ((last + 1 ≤ r .stop) × (r .stop ≤ length text)) e (k .within) in (let l = w .0 in omega arith, w .1)
 
-        pub passing-goes-on : r .advanced .answer ≡ Passed → {s₁ : State} → s₁ ≡ r .advanced .state
+        pub passing-goes-on : r .advanced .answer ≡ Passed → r .ended ≡ false → {s₁ : State} → s₁ ≡ r .advanced .state
             → Passing z text end clauses₁ images₁ s₁ (r .stop)
-        passing-goes-on e same =
+        passing-goes-on e on same =
             subst (λ t. Passing z text end clauses₁ images₁ t (r .stop)) (sym same)
             (record {
               standing = where-told (Standing z (r .advanced .state) clauses₁ images₁) e (k .stands);
               size = a .size;
               within = passing-later e .1;
-              left = stepped ∙ then-passed (r .advanced .answer)
+              left = next on ∙ then-passed (r .advanced .answer)
                   (progressFrom (z .variables) clauses₁ images₁ (r .advanced .state)) (linesAfter z text (r .stop)) e;
             })

@@ -1,6 +1,6 @@
 -- How what the lines have said lies in the code's numbers, slices and images, and what the functions on lines promise.
 -- Assumes nothing.
-use mathlib.Core.Bool.{Bool, false, _&&_, _||_}
+use mathlib.Core.Bool.{Bool, true, false, cond, _&&_, _||_}
 use mathlib.Core.List.{List, [], _∷_}
 use mathlib.Core.Path.{_≡_}
 use Prim.Native.Nat.{ℕ, _≤_}
@@ -128,20 +128,24 @@ pub record Going (z : Sizes) (text : List ℕ) (start : ℕ) (clauses₀ : Claus
   pub left : (p : Progress) → linesFrom z text start (withPart clause-line p (clausesFrom clauses₀ b₀))
       ≡ linesFrom z text first (withPart clause-line p (clausesFrom clauses b))
 
--- what a comment or lines of words lead to, and the lines behind them
+-- what comes behind lines that were read: the end of the sheet, or the lines behind the last of them
+abbrev pub onward : Sizes → List ℕ → Lined → Progress → Step Input
+onward z text r p = cond (r .ended) (atEnd (r .stop) z p) (linesAfter z text (r .stop) p)
+
+-- what a comment, a percent line or lines of words lead to, and what comes behind them
 pub record Advancing (z : Sizes) (text : List ℕ) (start : ℕ) (s : State) (clauses : ClauseSlices) (images : List ℕ)
     (r : Lined) (clauses₁ : ClauseSlices) (images₁ : List ℕ) : Type 0 where
   pub within : WherePassed (r .advanced .answer) ((start ≤ r .stop) × (r .stop ≤ length text))
   pub step : linesFrom z text start (progressFrom (z .variables) clauses images s)
       ≡ andThen (stepTo (r .advanced .answer) (progressFrom (z .variables) clauses₁ images₁ (r .advanced .state)))
-      (linesAfter z text (r .stop))
+      (onward z text r)
   pub stands : WherePassed (r .advanced .answer) (Standing z (r .advanced .state) clauses₁ images₁)
 
 -- ---- the lines one after the other
 
 -- what was said up to the end of the sheet
 abbrev pub endedWith : State → ℕ → Lined
-endedWith s stop = record { advanced = record { answer = Passed; state = s }; stop = stop }
+endedWith s stop = record { advanced = record { answer = Passed; state = s }; stop = stop; ended = true }
 
 -- what the lines behind one that ends at a place lead to, and where the sheet ends
 pub record LinesRead (z : Sizes) (text : List ℕ) (end : ℕ) (r : Lined) (clauses : ClauseSlices) (images : List ℕ) :

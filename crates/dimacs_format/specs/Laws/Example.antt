@@ -77,7 +77,7 @@ target-remark-read = record { reply = refl; formula = refl; clauses = refl }
 -- Q01.1: "whose files close with a line holding only `%`, then a 0"
 abbrev pub exercise-text : List ℕ
 exercise-text =
-    ascii "c an exercise\n" ++ ascii "p cnf 3 2\n" ++ ascii " 1 -2 0\n" ++ ascii "2 3 0\n" ++ ascii "%\n" ++ ascii "0\n\n"
+    ascii "p cnf 3 2\n" ++ ascii " 1 -2 0\n" ++ ascii "2 3 0\n" ++ ascii "%\n" ++ ascii "0\n\n"
 
 pub exercise-text-read : Example exercise-text (7 ∷ 8 ∷ 9 ∷ []) (7 ∷ 8 ∷ []) parsed
     (record { variables = 3; clauses = 2; target = 0; permutations = 0; images = replicate maxImages 0 })

@@ -1,26 +1,25 @@
--- Request 2026-01, as theorems: a percent line ends the sheet, whatever stands behind it, and what it is with other bytes.
--- Assumes nothing.
-use mathlib.Core.Bool.{Bool, true, false, cond, _&&_, _||_}
+-- Request 2026-01, as theorems: a percent line ends the sheet, whatever stands behind it, and what it is with other
+-- bytes. Assumes nothing.
+use mathlib.Core.Bool.{Bool, true, false, cond, _||_}
 use mathlib.Core.List.{List, [], _∷_, _++_, List·Memᴰ·tail}
 use mathlib.Core.Option.{Option, some, none}
-use mathlib.Core.Path.{_≡_, refl, sym, ap, _∙_, subst}
+use mathlib.Core.Path.{_≡_, refl, sym, ap, _∙_}
 use Prim.Native.Nat.{ℕ, suc, _+_, _≤_, _<_}
 use native.Mathlib.Nat.{zero-add}
 use native.Mathlib.Omega.{arith}
-use lib.Dec.{eqb, leb, ltb}
+use lib.Dec.{leb, ltb}
 use lib.ListN.{length, drop, length-append}
 use borrow.Author.Tests.{le-leb, ne-eqb}
 use Rattle.math.specs.Laws.ListLaws.{here, and-split, not-all}
 use Rattle.math.specs.Lists.{_∈_, all}
-use Rattle.dimacs_format.specs.Text.{maxText, isBlank, isDigit, endsLine, Clean, Line, Word, piece, lines}
-use Rattle.dimacs_format.specs.Text.{words, wordsOf, spelled, begins, isComment, allBlank, percentSign, isPercentLine}
-use Rattle.dimacs_format.specs.Text.{problemWord, tokenIn, malformed}
+use Rattle.dimacs_format.specs.Text.{maxText, isBlank, isDigit, endsLine, Line, Word, piece, lines, wordsOf}
+use Rattle.dimacs_format.specs.Text.{spelled, begins, isComment, allBlank, percentSign, isPercentLine}
+use Rattle.dimacs_format.specs.Text.{problemWord, malformed}
 use Rattle.dimacs_format.specs.Input.{Input}
-use Rattle.dimacs_format.specs.Reader.{Step, andThen, walk, goes, refuses, Sizes, problemWords, problemIn}
-use Rattle.dimacs_format.specs.Reader.{withinLimits, wordStep, tokenStep, Progress, handled, lineStep, clause-line}
-use Rattle.dimacs_format.specs.Reader.{withPart}
-use Rattle.dimacs_format.specs.Reader.{isSkipped, fromProblem, atEnd, linesSay, textSays, withRoom, withSizes}
-use Rattle.dimacs_format.specs.Reader.{withProblem, withLines, reading}
+use Rattle.dimacs_format.specs.Reader.{andThen, walk, goes, refuses, Sizes, problemWords, problemIn, withinLimits}
+use Rattle.dimacs_format.specs.Reader.{Clauses, wordStep, tokenStep, Progress, begin, withPart, handled, lineStep}
+use Rattle.dimacs_format.specs.Reader.{clause-line, isSkipped, fromProblem, atEnd, linesSay, withProblem}
+use Rattle.dimacs_format.specs.Reader.{withLines, reading}
 use Rattle.dimacs_format.specs.Accepted.{Accepts}
 use Rattle.dimacs_format.specs.Laws.TextLaws.{begins-split, lines-some, lines-append, lines-last, blank-clean}
 use Rattle.dimacs_format.specs.Laws.StepLaws.{both-go}
@@ -55,10 +54,13 @@ empty-line : (z : Sizes) (s : Progress) (at : ℕ) → lineStep z s (piece at []
 unfolding lineStep handled
 empty-line z s at = refl
 
--- the lines say what they say in a text that ends before the percent line
+-- the lines before a percent line, in a text that ends where it stands
+abbrev upTo : Line → List Line → List Line
+upTo l front = front ++ piece (l .start) [] ∷ []
+
+-- they say the same
 lines-cut : (size : ℕ) (z : Sizes) (front : List Line) (s : Progress) (l : Line) (ls : List Line)
-    → isPercentLine l ≡ true
-    → linesSay size z s (front ++ l ∷ ls) ≡ linesSay (l .start) z s (front ++ piece (l .start) [] ∷ [])
+    → isPercentLine l ≡ true → linesSay size z s (front ++ l ∷ ls) ≡ linesSay (l .start) z s (upTo l front)
 unfolding linesSay
 lines-cut size z [] s l ls e =
     ap (λ p. cond p (atEnd (l .start) z s) (andThen (lineStep z s l) (λ t. linesSay size z t ls))) e
@@ -84,30 +86,26 @@ sign-malformed l e = ap (λ t. cond t (problemWords (spelled (wordsOf l))) none)
     (ap (begins problemWord) (sign-split l e))
 
 module _ (size room : ℕ) (l : Line) (ls : List Line) (e : isPercentLine l ≡ true) where
-  -- the problem line and those behind it
+  -- from the problem line on
   text-cut : (ks : List Line) → withLines size room (fromProblem (ks ++ l ∷ ls))
-      ≡ withLines (l .start) room (fromProblem (ks ++ piece (l .start) [] ∷ []))
+      ≡ withLines (l .start) room (fromProblem (upTo l ks))
   unfolding fromProblem withLines
   text-cut [] =
       ap (λ t. withLines size room (cond t (fromProblem ls) (l ∷ ls))) (sign-shown l e)
       ∙ ap (withProblem size room l ls) (sign-malformed l e)
   text-cut (k ∷ ks) = by (isSkipped k) (text-cut ks)
     where
-      sized : (z : Sizes) (t u : Bool)
-          → cond t (cond u (textSays size z (ks ++ l ∷ ls)) (refuses 4 (k .start))) (refuses 3 (k .start))
-          ≡ cond t (cond u (textSays (l .start) z (ks ++ piece (l .start) [] ∷ [])) (refuses 4 (k .start))) (refuses 3 (k .start))
-      sized z t u = ap (λ m. cond t (cond u m (refuses 4 (k .start))) (refuses 3 (k .start)))
-          (lines-cut size z ks _ l ls e)
-
-      headed : (o : Option Sizes) → withProblem size room k (ks ++ l ∷ ls) o
-          ≡ withProblem (l .start) room k (ks ++ piece (l .start) [] ∷ []) o
+      headed : (o : Option Sizes)
+          → withProblem size room k (ks ++ l ∷ ls) o ≡ withProblem (l .start) room k (upTo l ks) o
       headed none = refl
-      headed (some z) = sized z (withinLimits z) (leb (z .total) room)
+      headed (some z) =
+          ap (λ m. cond (withinLimits z) (cond (leb (z .total) room) m (refuses 4 (k .start))) (refuses 3 (k .start)))
+          (lines-cut size z ks begin l ls e)
 
       by : (t : Bool) → withLines size room (fromProblem (ks ++ l ∷ ls))
-          ≡ withLines (l .start) room (fromProblem (ks ++ piece (l .start) [] ∷ []))
+          ≡ withLines (l .start) room (fromProblem (upTo l ks))
           → withLines size room (cond t (fromProblem (ks ++ l ∷ ls)) (k ∷ (ks ++ l ∷ ls)))
-          ≡ withLines (l .start) room (cond t (fromProblem (ks ++ piece (l .start) [] ∷ [])) (k ∷ (ks ++ piece (l .start) [] ∷ [])))
+          ≡ withLines (l .start) room (cond t (fromProblem (upTo l ks)) (k ∷ upTo l ks))
       by true ih = ih
       by false ih = headed (problemIn k)
 
@@ -118,19 +116,22 @@ pub percent-cuts : (front tail : List ℕ) (room : ℕ) {l : Line} {ls : List Li
     → reading (front ++ 10 ∷ tail) room ≡ reading (front ++ 10 ∷ []) room
 unfolding reading
 percent-cuts front tail room {l} {ls} few first percent =
-    ap (λ b. cond b (withLines (length (front ++ 10 ∷ tail)) room (fromProblem (lines 0 (front ++ 10 ∷ tail))))
-    (refuses 1 maxText)) (le-leb (length (front ++ 10 ∷ tail)) maxText few)
-    ∙ ap (λ ks. withLines (length (front ++ 10 ∷ tail)) room (fromProblem ks)) (whole tail
-    ∙ ap (λ ks. lines 0 front ++ ks) first)
+    within tail few
+    ∙ ap (λ ks. withLines (length (front ++ 10 ∷ tail)) room (fromProblem (lines 0 front ++ ks))) first
     ∙ text-cut (length (front ++ 10 ∷ tail)) room l ls percent (lines 0 front)
-    ∙ sym (ap (λ b. cond b (withLines (length (front ++ 10 ∷ [])) room (fromProblem (lines 0 (front ++ 10 ∷ []))))
-    (refuses 1 maxText)) (le-leb (length (front ++ 10 ∷ [])) maxText (omega (arith, size, length-append front (10 ∷ tail))))
-    ∙ ap (λ ks. withLines (length (front ++ 10 ∷ [])) room (fromProblem ks)) (whole [])
+    ∙ sym (within [] (omega (arith, size, length-append front (10 ∷ tail)))
     ∙ ap (λ j. withLines j room (fromProblem (lines 0 front ++ lines (suc (length front)) []))) size
     ∙ ap (λ j. withLines j room (fromProblem (lines 0 front ++ piece j [] ∷ []))) (sym start))
   where
-    whole : (bytes : List ℕ) → lines 0 (front ++ 10 ∷ bytes) ≡ lines 0 front ++ lines (suc (length front)) bytes
-    whole bytes = lines-append 0 front bytes ∙ ap (λ k. lines 0 front ++ lines (suc k) bytes) (zero-add (length front))
+    -- the reading of a text that is not too long, by the lines before a byte 10 and those behind it
+    within : (bytes : List ℕ) → length (front ++ 10 ∷ bytes) ≤ maxText → reading (front ++ 10 ∷ bytes) room
+        ≡ withLines (length (front ++ 10 ∷ bytes)) room
+        (fromProblem (lines 0 front ++ lines (suc (length front)) bytes))
+    within bytes le =
+        ap (λ b. cond b (withLines (length (front ++ 10 ∷ bytes)) room (fromProblem (lines 0 (front ++ 10 ∷ bytes))))
+        (refuses 1 maxText)) (le-leb (length (front ++ 10 ∷ bytes)) maxText le)
+        ∙ ap (λ ks. withLines (length (front ++ 10 ∷ bytes)) room (fromProblem ks)) (lines-append 0 front bytes
+        ∙ ap (λ k. lines 0 front ++ lines (suc k) bytes) (zero-add (length front)))
 
     size : length (front ++ 10 ∷ []) ≡ suc (length front)
     size = omega (arith, length-append front (10 ∷ []))
@@ -188,22 +189,28 @@ pub byte-before : (at b : ℕ) (bytes : List ℕ) → (b ≡ 37 → ⊥) → isP
 unfolding isPercentLine
 byte-before at b bytes ne = rw (ne-eqb 37 b (λ e. ne (sym e)))
 
--- such a line is one of words: 5 at the word with the sign, or 7 once C clauses are closed
+-- a word that begins with the sign: 5, or 7 once C clauses are closed
+word-refused : (z : Sizes) (c : Clauses) (at : ℕ) (v : List ℕ) (ws : List Word)
+    → walk (wordStep z) c (piece at (percentSign ++ v) ∷ ws)
+    ≡ refuses (cond (ltb (length (c .closed)) (z .total)) 5 7) at
+unfolding walk wordStep
+word-refused z c at v ws =
+    ap (λ t. andThen (cond (ltb (length (c .closed)) (z .total)) (tokenStep (z .variables) c at t) (refuses 7 at))
+    (λ d. walk (wordStep z) d ws)) (word-malformed 37 v refl refl)
+    ∙ by (ltb (length (c .closed)) (z .total))
+  where
+    by : (t : Bool) → andThen (cond t (tokenStep (z .variables) c at malformed) (refuses 7 at))
+        (λ d. walk (wordStep z) d ws) ≡ refuses (cond t 5 7) at
+    by true = refl
+    by false = refl
+
+-- a line whose first word is such a one, and that is no percent line, is refused there
 pub sign-word : (size : ℕ) (z : Sizes) (s : Progress) (l : Line) (ls : List Line) (at : ℕ) (v : List ℕ) (ws : List Word)
     → isPercentLine l ≡ false → isComment l ≡ false → wordsOf l ≡ piece at (percentSign ++ v) ∷ ws
     → linesSay size z s (l ∷ ls) ≡ refuses (cond (ltb (length (s .clauses .closed)) (z .total)) 5 7) at
-unfolding linesSay walk wordStep
+unfolding linesSay
 sign-word size z s l ls at v ws p c e =
     ap (λ t. cond t (atEnd (l .start) z s) (andThen (lineStep z s l) (λ t. linesSay size z t ls))) p
     ∙ ap (λ m. andThen m (λ t. linesSay size z t ls)) (line-of-kind z s l clause-line (kind-clauses l c)
-    ∙ ap (λ ks. andThen (walk (wordStep z) (s .clauses) ks) (λ a. goes (withPart clause-line s a))) e)
-    ∙ ap (λ t. andThen (andThen (andThen (cond (ltb (length (s .clauses .closed)) (z .total))
-    (tokenStep (z .variables) (s .clauses) at t) (refuses 7 at)) (λ q. walk (wordStep z) q ws))
-    (λ a. goes (withPart clause-line s a))) (λ t. linesSay size z t ls)) (word-malformed 37 v refl refl)
-    ∙ by (ltb (length (s .clauses .closed)) (z .total))
-  where
-    by : (t : Bool) → andThen (andThen (andThen (cond t (tokenStep (z .variables) (s .clauses) at malformed) (refuses 7 at))
-        (λ q. walk (wordStep z) q ws)) (λ a. goes (withPart clause-line s a))) (λ t. linesSay size z t ls)
-        ≡ refuses (cond t 5 7) at
-    by true = refl
-    by false = refl
+    ∙ ap (λ ks. andThen (walk (wordStep z) (s .clauses) ks) (λ a. goes (withPart clause-line s a))) e
+    ∙ ap (λ m. andThen m (λ a. goes (withPart clause-line s a))) (word-refused z (s .clauses) at v ws))

@@ -24,8 +24,8 @@ use Rattle.dimacs_format.specs.Text.{malformed}
 use Rattle.dimacs_format.specs.Input.{Input, formulaOf}
 use Rattle.dimacs_format.specs.Reader.{Step, andThen, walk, Sizes, sizesIn, problemWords, problemIn, withinLimits}
 use Rattle.dimacs_format.specs.Reader.{Kind, Progress, begin, partOf, partStep, lineStep, linesSay, isSkipped}
-use Rattle.dimacs_format.specs.Reader.{fromProblem, inputOf, atEnd, textSays, withRoom, withProblem, withLines, reading}
-use Rattle.dimacs_format.specs.Reader.{replyTo, formulaFrom, storedIn, slicesFrom, readReply, readFormula}
+use Rattle.dimacs_format.specs.Reader.{fromProblem, inputOf, atEnd, textSays, withRoom, withProblem, withLines}
+use Rattle.dimacs_format.specs.Reader.{reading, replyTo, formulaFrom, storedIn, slicesFrom, readReply, readFormula}
 use Rattle.dimacs_format.specs.Reader.{readClauses, goes, refuses, clause-line, target-line, permutation-line}
 use Rattle.dimacs_format.specs.Accepted.{ProblemLine, Permuted, wordsAmong, Skipped, Ignored, Accepts}
 use Rattle.dimacs_format.specs.Accepted.{at-text-end, at-percent-line}

@@ -13,8 +13,8 @@ use borrow.Author.Tests.{eqb-true, eq-eqb, not-true, le-leb}
 use Rattle.math.specs.Laws.ListLaws.{and-split, and-join}
 use Rattle.math.specs.Lists.{all, select}
 use Rattle.math.specs.Laws.SplitLaws.{select-cons}
-use Rattle.dimacs_format.specs.Text.{endsLine, isBlank, Piece, piece, Clean, Split, joined, pieces, Line, Word, lines}
-use Rattle.dimacs_format.specs.Text.{holdsBytes, words, sameBytes, begins, allBlank, split-last, split-more}
+use Rattle.dimacs_format.specs.Text.{endsLine, isBlank, Piece, piece, Clean, Split, joined, pieces, Line, Word}
+use Rattle.dimacs_format.specs.Text.{lines, holdsBytes, words, sameBytes, begins, allBlank, split-last, split-more}
 
 -- ---- the runs
 
