@@ -59,11 +59,12 @@ enum {
     JUGBOWO_UNCERTIFIED = 9
 };
 
-/* Reads a DIMACS text, up to its end or to a line that holds only a percent sign and blanks. Takes the text; leaves the
- * clauses in the first places of `positive` and `negative`, the formula's four numbers (variables, clauses, target,
- * permutations) in the first four words of `numbers`, its images in the first 1,024 bytes of `images`, the answer in
- * the first four words of `reply`: refusals 1 to 9, or parsed. After a refusal clause slices, numbers and images are as
- * they were. Stack: 12 KiB, 96 KiB. */
+/* Reads a DIMACS text, up to its end or to a line behind the problem line that begins with a percent sign and otherwise
+ * holds blanks; the bytes behind it count for refusal 1 alone. Takes the text; leaves the clauses in the first places
+ * of `positive` and `negative`, the formula's four numbers (variables, clauses, target, permutations) in the first
+ * four words of `numbers`, its images in the first 1,024 bytes of `images`, the answer in the first four words of
+ * `reply`: refusals 1 to 9, or parsed. After a refusal clause slices, numbers and images are as they were. Stack:
+ * 12 KiB, 96 KiB. */
 uint32_t jugbowo_read(const uint8_t *text, size_t text_len,
                       uint64_t *positive, size_t positive_len,
                       uint64_t *negative, size_t negative_len,

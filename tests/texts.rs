@@ -1,5 +1,6 @@
-// Texts for the reader: document 01's executed cases (G.d), each refusal number, each rule of precedence, and hostile
-// texts of 1 MiB. Prints a line a text and a count; exit status 1 if one is not answered as expected.
+// Texts for the reader: document 01's executed cases (G.d), each refusal number, each rule of precedence, request
+// 2026-01, and hostile texts of 1 MiB. Prints a line a text and a count; exit status 1 if one is not answered as
+// expected.
 mod library;
 use library::Count;
 
@@ -90,13 +91,18 @@ fn percent(count: &mut Texts) {
     count.expect("no byte behind the sign", b"p cnf 1 0\n%", 0, read(1, 0, 0, 0));
     count.expect("blanks behind the sign", b"p cnf 1 0\n%\t \r\n", 0, read(1, 0, 0, 0));
     count.expect("malformed lines behind", b"p cnf 2 0\n%\nc wish 9\nc exch 1 1\nx\n", 0, read(2, 0, 0, 0));
+    let others = b"p cnf 1 0\n%\nc wish 1\nc exch 1\n%\n";
+    count.expect("well-formed lines behind are not taken", others, 0, read(1, 0, 0, 0));
+    count.expect("right behind the problem line: 7", b"p cnf 1 1\n%\n1 0\n", 1, Said::Refused(7, 10));
     count.expect("too few closed: 7 at the sign", b"p cnf 2 2\n1 0\n%\n0\n", 2, Said::Refused(7, 14));
-    count.expect("inside a rule: 7 at the sign", b"p cnf 2 1\n1 2\n%\n0\n", 1, Said::Refused(7, 14));
+    count.expect("inside a clause: 7 at the sign", b"p cnf 2 1\n1 2\n%\n0\n", 1, Said::Refused(7, 14));
     count.expect("before the problem line: 2", b"c x\n%\np cnf 1 0\n", 0, Said::Refused(2, 4));
+    count.expect("the first line: 2", b"%\np cnf 1 0\n", 0, Said::Refused(2, 0));
+    count.expect("%%: 5", b"p cnf 1 1\n%%\n1 0\n", 1, Said::Refused(5, 10));
     count.expect("%x: 5", b"p cnf 1 1\n%x\n1 0\n", 1, Said::Refused(5, 10));
-    count.expect("%x once C rules are closed: 7", b"p cnf 1 0\n%x\n", 0, Said::Refused(7, 10));
+    count.expect("%x once C clauses are closed: 7", b"p cnf 1 0\n%x\n", 0, Said::Refused(7, 10));
     count.expect("a blank before the sign: 5", b"p cnf 1 1\n %\n1 0\n", 1, Said::Refused(5, 11));
-    count.expect("the same once C rules are closed: 7", b"p cnf 1 0\n %\n", 0, Said::Refused(7, 11));
+    count.expect("the same once C clauses are closed: 7", b"p cnf 1 0\n %\n", 0, Said::Refused(7, 11));
     count.expect("a sign inside a line: 5", b"p cnf 1 1\n1 % 0\n", 1, Said::Refused(5, 12));
     count.expect("a fault before the sign goes first", b"p cnf 1 1\nc wish 7\n%\n", 1, Said::Refused(8, 10));
     let ending = [b"p cnf 1 0\n%\n".to_vec(), vec![b'x'; MIB - 12]].concat();

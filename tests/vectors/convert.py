@@ -5,7 +5,8 @@ usage: convert.py FILE.jsonl [RETIRED.txt ..] > FILE.txt
 
 A vector is a block of lines, a key and its words; an empty line ends it. Those whose ids stand in a file RETIRED.txt,
 one a line, are left out: a later request changed their answers. Words are decimal numbers, except that bytes are given
-as runs: H:hex:times (these bytes so many times) or U:first:count (that many 8-byte numbers counting up, low byte first)."""
+as runs: H:hex:times (these bytes so many times) or U:first:count (that many 8-byte numbers counting up, low byte
+first)."""
 import json
 import sys
 

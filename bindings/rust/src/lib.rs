@@ -147,7 +147,8 @@ fn refusal(reply: &[u64; WORDS]) -> Refusal {
     Refusal { number: reply[1] as u32, place: reply[2] }
 }
 
-/// Reads a DIMACS text, up to its end or to a line that holds only a percent sign and blanks (SATLIB's files have one).
+/// Reads a DIMACS text, up to its end or to a line that begins with a percent sign and otherwise holds blanks, as the
+/// files of SATLIB have one.
 ///
 /// ```
 /// let f = jugbowo::read(b"p cnf 2 1\nc wish 01\n1 -2 0\n").unwrap();

@@ -107,8 +107,8 @@ fn percent_line(text: &[u8], at: usize) -> bool
     requires { ⌜ at ≤ length (now text) ⌝ }
     ensures { λ r. ⌜ r ≡ percentAt (now (text .entry)) at ⌝ }
 {
-    let sign = opens_with(text, at, 37);
-    if !sign {
+    let percent = opens_with(text, at, 37);
+    if !percent {
         return false;
     }
     let stop = line_end(text, at);
@@ -167,7 +167,8 @@ fn clause_lines(
     }
 }
 
-// What lines lead to, where the last of them ends, and whether the sheet ends there.
+// What lines lead to, and where the last of them ends. Where the sheet ends with them, `stop` is the place of its end:
+// the first byte of a percent line, or the text's length.
 pub struct Lined {
     pub advanced: Advanced,
     pub stop: usize,
@@ -190,9 +191,8 @@ fn ended_with(state: State, stop: usize) -> Lined
 }
 
 // A comment, a percent line, or lines of words: what begins at `start` decides. The heads are at most fourteen bytes to
-// compare, and each handler says how often it visits a byte. Comments are asked for first, so that a text of remarks
-// pays nothing for percent lines; those of words are, since many lines are one part. `read_lines` sees to what it
-// requires.
+// compare, and each handler says how often it visits a byte. Comments are asked for first, so that remarks pay nothing
+// for percent lines; lines of words pay one step a part, which is many lines. `read_lines` sees to what it requires.
 fn read_part(
     text: &[u8],
     start: usize,
@@ -254,8 +254,8 @@ fn begin() -> State
     }
 }
 
-// The same state, field by field. A compiler copies a structure with the bytes that part its fields, and these, handed on
-// from line to line, would make each line wait for the one before.
+// The same state, field by field. A compiler copies a structure with the bytes that part its fields, and these, handed
+// on from line to line, would make each line wait for the one before.
 fn afresh(state: State) -> State
     ensures { λ r. ⌜ r ≡ state ⌝ }
 {
@@ -277,9 +277,9 @@ fn afresh(state: State) -> State
 
 // N3: "then the first fault in text order": the lines behind the one that ends at `end`, and where the sheet ends: the
 // text's length, or the first byte of a percent line (Q01.2). A byte of a comment is visited at most twice to find its
-// line's end, at most fifteen times as part of a head, and at most five times more; one of another line at most seven
-// times. So the work is linear in the text. `dimacs_lines::collect` sees to what it requires: refusals 1 and 3, slices
-// with room for C clauses, images of zeros.
+// line's end, at most fifteen times as part of a head, and at most four times more; one of another line at most six
+// times, but a `%` that begins a line at most nine times. So the work is linear in the text. `dimacs_lines::collect`
+// sees to what it requires: refusals 1 and 3, slices with room for C clauses, images of zeros.
 pub fn read_lines(
     text: &[u8],
     end: usize,

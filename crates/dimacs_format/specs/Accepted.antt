@@ -1,5 +1,5 @@
--- Document 01, 'Sheet': which texts are accepted and what they say, without a fold or a state. ReaderLaws has that the
--- reader accepts just these. Assumes nothing.
+-- Document 01, 'Sheet', with request 2026-01 of document 02: which texts are accepted and what they say, without a fold
+-- or a state. ReaderLaws has that the reader accepts just these. Assumes nothing.
 use mathlib.Core.Bool.{true, false, not}
 use mathlib.Core.List.{List, [], _∷_, _++_, map, flatMap}
 use mathlib.Core.Logic.{_⊎_}
@@ -108,6 +108,7 @@ pub record Accepts (text : List ℕ) (room : ℕ) (d : Input) : Type 0 where
   pub size : length text ≤ maxText
   pub before : List Line
   pub problem : Line
+  -- the lines behind the problem line up to the end of the sheet, and those behind that
   pub after : List Line
   pub ignored : List Line
   -- S8: "Lines end with byte 10; the last may lack it."

@@ -1,5 +1,6 @@
--- Document 01, 'Sheet' and rows 1 to 9 of 'When the desk says no': the reader, as a fold over the lines of the text.
--- Accepted has the same for texts that are not refused, without a fold. Assumes nothing.
+-- Document 01, 'Sheet' and rows 1 to 9 of 'When the desk says no', with request 2026-01 of document 02: the reader, as
+-- a fold over the lines of the text. Accepted has the same for texts that are not refused, without a fold. Assumes
+-- nothing.
 use mathlib.Core.Bool.{Bool, false, not, cond, _&&_, _||_}
 use mathlib.Core.List.{List, [], _∷_, _++_}
 use mathlib.Core.Option.{Option, some, none, Option·getD}

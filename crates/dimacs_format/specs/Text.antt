@@ -1,5 +1,5 @@
--- Document 01, 'Sheet', the text: its lines, their words, and the numbers that words are. Definitions alone; TextLaws
--- has what follows. Assumes nothing.
+-- Document 01, 'Sheet', the text, with request 2026-01 of document 02: its lines, their words, and the numbers that
+-- words are. Definitions alone; TextLaws has what follows. Assumes nothing.
 use mathlib.Core.Bool.{Bool, true, false, not, cond, _&&_, _||_}
 use mathlib.Core.List.{List, [], _∷_, _++_, map}
 use mathlib.Core.Option.{Option, some, none}
@@ -138,7 +138,7 @@ targetHead = ascii "c wish "
 abbrev pub permutationHead : List ℕ
 permutationHead = ascii "c exch "
 
--- the byte that ends a sheet before its text ends
+-- the first byte of a line that ends the sheet
 abbrev pub percentSign : List ℕ
 percentSign = ascii "%"
 

@@ -109,10 +109,10 @@ fn told_refused(code: u32, place: usize) -> Told
     }
 }
 
-// S15: "Exactly C rules are closed." Then, and not before, the clauses go to the lent slices; with fewer it is refused
-// at the place where the sheet ends. Refusals 3 and 4 see to the room.
+// S15: "Exactly C rules are closed." Then, and not before, the clauses go to the lent slices; with fewer the text is
+// refused at the place where the sheet ends. Refusals 3 and 4 see to the room.
 fn accept(
-    end: usize,
+    place: usize,
     sizes: Sizes,
     state: State,
     p: &[u64],
@@ -122,13 +122,13 @@ fn accept(
 ) -> Told
     requires { ⌜ Ready sizes (state .begun .closed) (clauseSlices (now p) (now q))
         × HasRoom sizes (clauseSlices (now positive) (now negative)) ⌝ }
-    ensures { λ r. ⌜ Accepting end sizes state (clauseSlices (now (p .entry)) (now (q .entry)))
+    ensures { λ r. ⌜ Accepting place sizes state (clauseSlices (now (p .entry)) (now (q .entry)))
         (clauseSlices (now (positive .entry)) (now (negative .entry))) r
         (clauseSlices (now (positive .exit)) (now (negative .exit))) ⌝ }
 {
     let begun = state.begun;
     if begun.closed < sizes.total {
-        return told_refused(7, end);
+        return told_refused(7, place);
     }
     let wanted = state.wanted;
     let target = wanted_or_0(wanted);

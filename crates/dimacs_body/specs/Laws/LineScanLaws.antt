@@ -106,7 +106,7 @@ module _ {z : Sizes} {start : ℕ} {line : List ℕ} {s : State} {images : List 
 
 -- ---- what begins at a place
 
--- a line begins with a byte that ends no line as its first byte says
+-- whether a line begins with a byte other than 10 is what the byte at its place says
 pub head-there : (b : ℕ) → (b ≡ 10 → ⊥) → (text : List ℕ) {at stop : ℕ} → Stretch (belongs LineBytes) text at stop
     → begins (b ∷ []) (take (stop - at) (drop at text)) ≡ opensWith b text at
 unfolding begins sameBytes opensWith belongs endsLine
@@ -163,34 +163,34 @@ module _ (text : List ℕ) {at : ℕ} where
     line-there : (stop : ℕ) × (at ≤ stop) × Stretch (belongs LineBytes) text at stop
     line-there = run-exists (belongs LineBytes) text at at (omega arith) within (run-begins (belongs LineBytes) text at)
 
-    pub no-sign : opensWith 37 text at ≡ false → percentAt text at ≡ false
+    pub percent-not : opensWith 37 text at ≡ false → percentAt text at ≡ false
     unfolding isPercentLine
-    no-sign e =
+    percent-not e =
         let l = line-there in
         percent-there (l .2)
         ∙ rw (head-there 37 (λ e. let z : ⊥ = omega arith in z) text (l .2) ∙ e)
 
     -- a comment begins with another byte
-    pub no-comment-sign : opensComment text at ≡ true → percentAt text at ≡ false
+    pub comment-no-percent : opensComment text at ≡ true → percentAt text at ≡ false
     unfolding opensWith
-    no-comment-sign e =
+    comment-no-percent e =
         let w = and-split (ltb at (length text)) (eqb (getD text at 0) 99) e in
         let first : getD text at 0 ≡ 99 = eqb-true (getD text at 0) 99 (w .1) in
-        no-sign (rw (w .0, first))
+        percent-not (rw (w .0, first))
 
-    pub sign-blank : {stop : ℕ} {blank : Bool} → Stretch (belongs LineBytes) text at stop → opensWith 37 text at ≡ true
+    pub percent-blank : {stop : ℕ} {blank : Bool} → Stretch (belongs LineBytes) text at stop → opensWith 37 text at ≡ true
         → blank ≡ allBlank (drop 1 (take (stop - at) (drop at text))) → blank ≡ percentAt text at
     unfolding isPercentLine
-    sign-blank line e h =
+    percent-blank line e h =
         h ∙ sym (percent-there line ∙ rw (head-there 37 (λ e. let z : ⊥ = omega arith in z) text line ∙ e))
 
-    -- a line with the sign holds a byte
-    pub sign-inside : {stop : ℕ} → Stretch (belongs LineBytes) text at stop → opensWith 37 text at ≡ true → at < stop
+    -- a line with a percent sign holds a byte
+    pub percent-inside : {stop : ℕ} → Stretch (belongs LineBytes) text at stop → opensWith 37 text at ≡ true → at < stop
     unfolding opensWith belongs endsLine
-    sign-inside line e =
+    percent-inside line e =
         let w = and-split (ltb at (length text)) (eqb (getD text at 0) 37) e in
-        let sign : getD text at 0 ≡ 37 = eqb-true (getD text at 0) 37 (w .1) in
-        run-later line (rw sign) (ltb-true at (length text) (w .0))
+        let first : getD text at 0 ≡ 37 = eqb-true (getD text at 0) 37 (w .1) in
+        run-later line (rw first) (ltb-true at (length text) (w .0))
 
 -- ---- what the lines from a place on say
 
@@ -277,11 +277,11 @@ module _ {z : Sizes} {text : List ℕ} where
             within = omega arith;
             words-there =
                 let comment : Bool = opensComment text (r .next .at + 1) in
-                let sign : Bool = opensWith 37 text (r .next .at + 1) in
+                let percent : Bool = opensWith 37 text (r .next .at + 1) in
                 record {
-                  no-comment = not-true-false comment (λ h. true≢false (sym (or-left comment sign h) ∙ c));
-                  no-percent = no-sign text (omega arith)
-                      (not-true-false sign (λ h. true≢false (sym (or-right comment sign h) ∙ c)));
+                  no-comment = not-true-false comment (λ h. true≢false (sym (or-left comment percent h) ∙ c));
+                  no-percent = percent-not text (omega arith)
+                      (not-true-false percent (λ h. true≢false (sym (or-right comment percent h) ∙ c)));
                 };
             left =
                 λ p.
@@ -292,7 +292,7 @@ module _ {z : Sizes} {text : List ℕ} where
                 (behind-some text (r .next .at) lt);
           }
 
--- ---- a comment, or lines of words
+-- ---- a comment, a percent line, or lines of words
 
 module _ {z : Sizes} {text : List ℕ} {start : ℕ} {s : State} {clauses : ClauseSlices} {images : List ℕ}
     (st : Standing z s clauses images) where
@@ -305,7 +305,7 @@ module _ {z : Sizes} {text : List ℕ} {start : ℕ} {s : State} {clauses : Clau
       record {
         within = where-passed (r .answer) (line .ordered, line .within);
         step =
-            line-first z text (no-comment-sign text within comment) line (progressFrom (z .variables) clauses images s)
+            line-first z text (comment-no-percent text within comment) line (progressFrom (z .variables) clauses images s)
             ∙ ap (λ m. andThen m (linesAfter z text stop))
             (sym (ap (λ b. stepTo (r .answer) (progressWith (z .variables) (clausesFrom clauses b) images₁ (r .state)))
             (k .same-clauses)

@@ -107,7 +107,7 @@ linesFrom z text start p = linesSay (length text) z p (lines start (drop start t
 abbrev pub linesAfter : Sizes → List ℕ → ℕ → Progress → Step Input
 linesAfter z text end p = linesSay (length text) z p (linesBehind text end)
 
--- ---- lines of words, and comments
+-- ---- comments, percent lines, and lines of words
 
 -- what lines of words lead to, whatever else was said, and the lines behind them
 pub record Following (z : Sizes) (text : List ℕ) (start : ℕ) (clauses : ClauseSlices) (b : Begun) (r : Stepped)

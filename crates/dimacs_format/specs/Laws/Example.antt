@@ -7,7 +7,7 @@ use Rattle.formula.specs.Limits.{maxImages}
 use Rattle.formula.specs.Reply.{Reply, parsed, refused}
 use Rattle.formula.specs.declared.Formula.{Formula}
 use Rattle.formula.specs.Problem.{emptyFormula}
-use Rattle.dimacs_format.specs.Text.{ascii, problemWord, formatWord, targetHead, permutationHead}
+use Rattle.dimacs_format.specs.Text.{ascii, problemWord, formatWord, targetHead, permutationHead, percentSign}
 use Rattle.dimacs_format.specs.Reader.{readReply, readFormula, readClauses}
 use Rattle.point_slices.specs.Slices.{wholeClauses}
 
@@ -15,7 +15,8 @@ use Rattle.point_slices.specs.Slices.{wholeClauses}
 pub fixed-bytes : (problemWord ≡ 112 ∷ []) × (formatWord ≡ 99 ∷ 110 ∷ 102 ∷ [])
     × (targetHead ≡ 99 ∷ 32 ∷ 119 ∷ 105 ∷ 115 ∷ 104 ∷ 32 ∷ [])
     × (permutationHead ≡ 99 ∷ 32 ∷ 101 ∷ 120 ∷ 99 ∷ 104 ∷ 32 ∷ [])
-fixed-bytes = (refl, refl, refl, refl)
+    × (percentSign ≡ 37 ∷ [])
+fixed-bytes = (refl, refl, refl, refl, refl)
 
 -- what the reader yields from a text and two slices
 pub record Example (text positive₀ negative₀ : List ℕ) (r : Reply) (f : Formula) (positive₁ negative₁ : List ℕ) : Type 0
@@ -95,15 +96,15 @@ pub percent-ends : Answered (ascii "p cnf 1 1\n1 0\n% \t\r\nc wish 9\nc exch 409
 unfolding readReply
 percent-ends = (refl, refl)
 
--- Q01.3: "With fewer rules closed it gives 7 at the percent sign.", also inside a rule; before the problem line it is
--- a malformed one
+-- Q01.3: "With fewer rules closed it gives 7 at the percent sign.", also inside a clause; before the problem line it
+-- is a malformed one
 pub percent-early : Answered (ascii "p cnf 2 2\n1 0\n%\n0\n") (refused 7 14)
     × Answered (ascii "p cnf 2 1\n1 2\n%\n0\n") (refused 7 14)
     × Answered (ascii "c x\n%\np cnf 1 0\n") (refused 2 4)
 unfolding readReply
 percent-early = (refl, refl, refl)
 
--- `%x` and ` %` are words: 5, or 7 once C rules are closed
+-- `%x` and ` %` are words: 5, or 7 once C clauses are closed
 pub percent-words : Answered (ascii "p cnf 2 1\n%x\n1 0\n") (refused 5 10)
     × Answered (ascii "p cnf 2 1\n1 0\n%x\n") (refused 7 14)
     × Answered (ascii "p cnf 2 1\n %\n1 0\n") (refused 5 11)

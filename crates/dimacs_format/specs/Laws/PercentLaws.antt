@@ -1,5 +1,5 @@
--- Request 2026-01, as theorems: a percent line ends the sheet, whatever stands behind it, and what it is with other
--- bytes. Assumes nothing.
+-- Request 2026-01, as theorems: a percent line ends the sheet, whatever stands behind it, and in another line a percent
+-- sign begins a word or is in one. Assumes nothing.
 use mathlib.Core.Bool.{Bool, true, false, cond, _||_}
 use mathlib.Core.List.{List, [], _∷_, _++_, List·Memᴰ·tail}
 use mathlib.Core.Option.{Option, some, none}
@@ -19,16 +19,17 @@ use Rattle.dimacs_format.specs.Input.{Input}
 use Rattle.dimacs_format.specs.Reader.{andThen, walk, goes, refuses, Sizes, problemWords, problemIn, withinLimits}
 use Rattle.dimacs_format.specs.Reader.{Clauses, wordStep, tokenStep, Progress, begin, withPart, handled, lineStep}
 use Rattle.dimacs_format.specs.Reader.{clause-line, isSkipped, fromProblem, atEnd, linesSay, withProblem}
-use Rattle.dimacs_format.specs.Reader.{withLines, reading}
+use Rattle.dimacs_format.specs.Reader.{withLines, withRoom, textSays, reading}
 use Rattle.dimacs_format.specs.Accepted.{Accepts}
 use Rattle.dimacs_format.specs.Laws.TextLaws.{begins-split, lines-some, lines-append, lines-last, blank-clean}
 use Rattle.dimacs_format.specs.Laws.StepLaws.{both-go}
 use Rattle.dimacs_format.specs.Laws.LineLaws.{kind-clauses, line-of-kind}
 use Rattle.dimacs_format.specs.Laws.ReaderLaws.{word-malformed, reading-accepts, accepts-reading}
 
--- ---- with fewer rules closed
+-- ---- with fewer clauses closed
 
--- Q01.3: "With fewer rules closed it gives 7 at the percent sign.": whether a clause is begun or not
+-- Q01.3: "With fewer rules closed it gives 7 at the percent sign.", whether a clause is begun or not: of the lines
+-- behind the problem line
 pub few-closed : (size : ℕ) (z : Sizes) (sheet : List Line) (s q : Progress) (l : Line) (ls : List Line)
     → ((k : Line) → k ∈ sheet → isPercentLine k ≡ false) → isPercentLine l ≡ true
     → walk (lineStep z) s sheet ≡ goes q → length (q .clauses .closed) < z .total
@@ -46,6 +47,24 @@ few-closed size z (k ∷ sheet) s q l ls unended e w few =
     (unended k (here k sheet))
     ∙ ap (λ m. andThen m (λ t. linesSay size z t (sheet ++ l ∷ ls))) (v .1)
     ∙ few-closed size z sheet (v .0) q l ls (λ j m. unended j (List·Memᴰ·tail m)) e (v .2) few
+
+-- and of a text
+pub few-read : (text : List ℕ) (room : ℕ) (z : Sizes) (problem : Line) (sheet : List Line) (q : Progress) (l : Line)
+    (ls : List Line) → length text ≤ maxText → fromProblem (lines 0 text) ≡ problem ∷ (sheet ++ l ∷ ls)
+    → problemIn problem ≡ some z → withinLimits z ≡ true → z .total ≤ room
+    → ((k : Line) → k ∈ sheet → isPercentLine k ≡ false) → isPercentLine l ≡ true
+    → walk (lineStep z) begin sheet ≡ goes q → length (q .clauses .closed) < z .total
+    → reading text room ≡ refuses 7 (l .start)
+unfolding reading
+few-read text room z problem sheet q l ls short from is limits enough unended e w few =
+    ap (λ b. cond b (withLines (length text) room (fromProblem (lines 0 text))) (refuses 1 maxText))
+    (le-leb (length text) maxText short)
+    ∙ ap (withLines (length text) room) from
+    ∙ ap (withProblem (length text) room problem (sheet ++ l ∷ ls)) is
+    ∙ ap (λ b. cond b (withRoom (length text) room problem (sheet ++ l ∷ ls) z) (refuses 3 (problem .start))) limits
+    ∙ ap (λ b. cond b (textSays (length text) z (sheet ++ l ∷ ls)) (refuses 4 (problem .start)))
+    (le-leb (z .total) room enough)
+    ∙ few-closed (length text) z sheet begin q l ls unended e w few
 
 -- ---- the sheet ends there
 
@@ -70,20 +89,30 @@ lines-cut size z (k ∷ front) s l ls e =
     (λ i t. lines-cut size z front t l ls e i)
 
 -- the bytes of a percent line
-sign-split : (l : Line) → isPercentLine l ≡ true → l .bytes ≡ 37 ∷ drop 1 (l .bytes)
+percent-split : (l : Line) → isPercentLine l ≡ true → l .bytes ≡ 37 ∷ drop 1 (l .bytes)
 unfolding isPercentLine
-sign-split l e = begins-split percentSign (l .bytes)
+percent-split l e = begins-split percentSign (l .bytes)
     (and-split (begins percentSign (l .bytes)) (allBlank (drop 1 (l .bytes))) e .0)
 
 -- before the problem line it is a malformed one
-sign-shown : (l : Line) → isPercentLine l ≡ true → isSkipped l ≡ false
+percent-shown : (l : Line) → isPercentLine l ≡ true → isSkipped l ≡ false
 unfolding isSkipped
-sign-shown l e = ap (λ bs. begins (99 ∷ []) bs || allBlank bs) (sign-split l e)
+percent-shown l e = ap (λ bs. begins (99 ∷ []) bs || allBlank bs) (percent-split l e)
 
-sign-malformed : (l : Line) → isPercentLine l ≡ true → problemIn l ≡ none
+percent-malformed : (l : Line) → isPercentLine l ≡ true → problemIn l ≡ none
 unfolding problemIn
-sign-malformed l e = ap (λ t. cond t (problemWords (spelled (wordsOf l))) none)
-    (ap (begins problemWord) (sign-split l e))
+percent-malformed l e = ap (λ t. cond t (problemWords (spelled (wordsOf l))) none)
+    (ap (begins problemWord) (percent-split l e))
+
+-- R2: so it gives 2 there
+pub percent-first : (text : List ℕ) (room : ℕ) (l : Line) (ls : List Line) → length text ≤ maxText
+    → fromProblem (lines 0 text) ≡ l ∷ ls → isPercentLine l ≡ true → reading text room ≡ refuses 2 (l .start)
+unfolding reading
+percent-first text room l ls short from e =
+    ap (λ b. cond b (withLines (length text) room (fromProblem (lines 0 text))) (refuses 1 maxText))
+    (le-leb (length text) maxText short)
+    ∙ ap (withLines (length text) room) from
+    ∙ ap (withProblem (length text) room l ls) (percent-malformed l e)
 
 module _ (size room : ℕ) (l : Line) (ls : List Line) (e : isPercentLine l ≡ true) where
   -- from the problem line on
@@ -91,8 +120,8 @@ module _ (size room : ℕ) (l : Line) (ls : List Line) (e : isPercentLine l ≡ 
       ≡ withLines (l .start) room (fromProblem (upTo l ks))
   unfolding fromProblem withLines
   text-cut [] =
-      ap (λ t. withLines size room (cond t (fromProblem ls) (l ∷ ls))) (sign-shown l e)
-      ∙ ap (withProblem size room l ls) (sign-malformed l e)
+      ap (λ t. withLines size room (cond t (fromProblem ls) (l ∷ ls))) (percent-shown l e)
+      ∙ ap (withProblem size room l ls) (percent-malformed l e)
   text-cut (k ∷ ks) = by (isSkipped k) (text-cut ks)
     where
       headed : (o : Option Sizes)
@@ -109,8 +138,9 @@ module _ (size room : ℕ) (l : Line) (ls : List Line) (e : isPercentLine l ≡ 
       by true ih = ih
       by false ih = headed (problemIn k)
 
--- Q01.2, Q01.3: a text is read as the same text cut before its percent line, whose end is the place of the sign: what
--- stands behind is not looked at, a sheet that was accepted is, and what is missing is missing at the sign
+-- Q01.2, Q01.3: where a percent line stands behind a byte 10, a text is read as its part before that line, which ends
+-- where the percent sign stands: what stands behind is not looked at, a sheet that is accepted without the line is
+-- accepted with it, and what is missing is missing at the percent sign
 pub percent-cuts : (front tail : List ℕ) (room : ℕ) {l : Line} {ls : List Line} → length (front ++ 10 ∷ tail) ≤ maxText
     → lines (suc (length front)) tail ≡ l ∷ ls → isPercentLine l ≡ true
     → reading (front ++ 10 ∷ tail) room ≡ reading (front ++ 10 ∷ []) room
@@ -140,45 +170,46 @@ percent-cuts front tail room {l} {ls} few first percent =
     start = let i = lines-some (suc (length front)) tail in cc
 
 -- a percent line in bytes
-sign-line : (at : ℕ) (blanks rest : List ℕ) → allBlank blanks ≡ true
+percent-bytes : (at : ℕ) (blanks rest : List ℕ) → allBlank blanks ≡ true
     → lines at (percentSign ++ blanks ++ 10 ∷ rest)
     ≡ piece at (percentSign ++ blanks) ∷ lines (suc (at + length (percentSign ++ blanks))) rest
 unfolding all endsLine
-sign-line at blanks rest e =
+percent-bytes at blanks rest e =
     lines-append at (percentSign ++ blanks) rest
     ∙ ap (λ ks. ks ++ lines (suc (at + length (percentSign ++ blanks))) rest)
     (lines-last at (percentSign ++ blanks) (blank-clean blanks e))
 
-is-sign : (at : ℕ) (blanks : List ℕ) → allBlank blanks ≡ true → isPercentLine (piece at (percentSign ++ blanks)) ≡ true
+is-percent : (at : ℕ) (blanks : List ℕ) → allBlank blanks ≡ true
+    → isPercentLine (piece at (percentSign ++ blanks)) ≡ true
 unfolding isPercentLine
-is-sign at blanks e = e
+is-percent at blanks e = e
 
--- a text with a percent line, and bytes behind it
-abbrev pub closedBySign : List ℕ → List ℕ → List ℕ → List ℕ
-closedBySign front blanks rest = front ++ 10 ∷ (percentSign ++ blanks ++ 10 ∷ rest)
+-- a text, a percent line, and bytes behind it
+abbrev pub endedByPercent : List ℕ → List ℕ → List ℕ → List ℕ
+endedByPercent front blanks rest = front ++ 10 ∷ (percentSign ++ blanks ++ 10 ∷ rest)
 
 module _ (front blanks : List ℕ) (room : ℕ) (blank : allBlank blanks ≡ true) where
-  cut : (rest : List ℕ) → length (closedBySign front blanks rest) ≤ maxText
-      → reading (closedBySign front blanks rest) room ≡ reading (front ++ 10 ∷ []) room
+  cut : (rest : List ℕ) → length (endedByPercent front blanks rest) ≤ maxText
+      → reading (endedByPercent front blanks rest) room ≡ reading (front ++ 10 ∷ []) room
   cut rest few = percent-cuts front (percentSign ++ blanks ++ 10 ∷ rest) room few
-      (sign-line (suc (length front)) blanks rest blank) (is-sign (suc (length front)) blanks blank)
+      (percent-bytes (suc (length front)) blanks rest blank) (is-percent (suc (length front)) blanks blank)
 
   -- Q01.1: "whose files close with a line holding only `%`, then a 0": a sheet that is accepted says the same with such
   -- an ending
-  pub ending-accepted : (rest : List ℕ) (d : Input) → length (closedBySign front blanks rest) ≤ maxText
-      → Accepts (front ++ 10 ∷ []) room d → Accepts (closedBySign front blanks rest) room d
-  ending-accepted rest d few a = reading-accepts (closedBySign front blanks rest) room d
+  pub ending-accepted : (rest : List ℕ) (d : Input) → length (endedByPercent front blanks rest) ≤ maxText
+      → Accepts (front ++ 10 ∷ []) room d → Accepts (endedByPercent front blanks rest) room d
+  ending-accepted rest d few a = reading-accepts (endedByPercent front blanks rest) room d
       (cut rest few ∙ accepts-reading (front ++ 10 ∷ []) room d a)
 
   -- Q01.2: "the bytes behind it are ignored": whatever they are, malformed lines too, the reader answers the same
-  pub behind-ignored : (rest more : List ℕ) → length (closedBySign front blanks rest) ≤ maxText
-      → length (closedBySign front blanks more) ≤ maxText
-      → reading (closedBySign front blanks rest) room ≡ reading (closedBySign front blanks more) room
+  pub behind-ignored : (rest more : List ℕ) → length (endedByPercent front blanks rest) ≤ maxText
+      → length (endedByPercent front blanks more) ≤ maxText
+      → reading (endedByPercent front blanks rest) room ≡ reading (endedByPercent front blanks more) room
   behind-ignored rest more few few₁ = cut rest few ∙ sym (cut more few₁)
 
 -- ---- what is no percent line
 
--- `%x`: a byte behind the sign that is no blank
+-- `%x`: a byte behind the percent sign that is no blank
 pub byte-behind : (at : ℕ) (bytes : List ℕ) {b : ℕ} → b ∈ bytes → isBlank b ≡ false
     → isPercentLine (piece at (percentSign ++ bytes)) ≡ false
 unfolding isPercentLine
@@ -189,7 +220,7 @@ pub byte-before : (at b : ℕ) (bytes : List ℕ) → (b ≡ 37 → ⊥) → isP
 unfolding isPercentLine
 byte-before at b bytes ne = rw (ne-eqb 37 b (λ e. ne (sym e)))
 
--- a word that begins with the sign: 5, or 7 once C clauses are closed
+-- a word that begins with a percent sign: 5, or 7 once C clauses are closed
 word-refused : (z : Sizes) (c : Clauses) (at : ℕ) (v : List ℕ) (ws : List Word)
     → walk (wordStep z) c (piece at (percentSign ++ v) ∷ ws)
     ≡ refuses (cond (ltb (length (c .closed)) (z .total)) 5 7) at
@@ -204,12 +235,13 @@ word-refused z c at v ws =
     by true = refl
     by false = refl
 
--- a line whose first word is such a one, and that is no percent line, is refused there
-pub sign-word : (size : ℕ) (z : Sizes) (s : Progress) (l : Line) (ls : List Line) (at : ℕ) (v : List ℕ) (ws : List Word)
+-- a line that is neither a comment nor a percent line, and whose first word is such a one, is refused there
+pub percent-word : (size : ℕ) (z : Sizes) (s : Progress) (l : Line) (ls : List Line) (at : ℕ) (v : List ℕ)
+    (ws : List Word)
     → isPercentLine l ≡ false → isComment l ≡ false → wordsOf l ≡ piece at (percentSign ++ v) ∷ ws
     → linesSay size z s (l ∷ ls) ≡ refuses (cond (ltb (length (s .clauses .closed)) (z .total)) 5 7) at
 unfolding linesSay
-sign-word size z s l ls at v ws p c e =
+percent-word size z s l ls at v ws p c e =
     ap (λ t. cond t (atEnd (l .start) z s) (andThen (lineStep z s l) (λ t. linesSay size z t ls))) p
     ∙ ap (λ m. andThen m (λ t. linesSay size z t ls)) (line-of-kind z s l clause-line (kind-clauses l c)
     ∙ ap (λ ks. andThen (walk (wordStep z) (s .clauses) ks) (λ a. goes (withPart clause-line s a))) e

@@ -141,9 +141,10 @@ pub second-problem : (w : List ℕ) → tokenIn (problemWord ++ w) ≡ malformed
 unfolding isDigit
 second-problem w = word-malformed 112 w refl refl
 
--- ---- the lines behind it, up to the end of the sheet
+-- ---- the lines behind the problem line, up to the end of the sheet
 
--- lines lead to an input: the walk over those before the percent line came to its end, and C clauses are closed
+-- lines lead to an input: the walk over those before the first percent line, or over all, came to its end, and C clauses
+-- are closed
 record Led (z : Sizes) (s : Progress) (ls : List Line) (d : Input) : Type 0 where
   sheet : List Line
   ignored : List Line

@@ -9,7 +9,7 @@ told-refused-requires : tie.Need-told-refused-requires
 told-refused-requires c κs = search needs
 
 returns : tie.Need-returns
-returns c = end-refused (c .before .before .before .before .before .before .before .before .before .args .end) (c .before .if1 .taken) (c .told-refused .ensures)
+returns c = end-refused (c .before .before .before .before .before .before .before .before .before .args .place) (c .before .if1 .taken) (c .told-refused .ensures)
 
 wanted-or-0-requires : tie.Need-wanted-or-0-requires
 wanted-or-0-requires c κs = search needs
@@ -22,7 +22,7 @@ copy-requires-2 c κs = search needs
 
 returns-2 : tie.Need-returns-2
 returns-2 c =
-    answers-accepted (c .before .before .before .before .before .before .before .before .before .before .before .before .before .before .before .before .before .before .before .args .end) (c .before .before .before .before .before .before .before .before .before .before .before .if1 .left) (c .before .before .before .before .before .before .before .before .before .wanted-or-0 .ensures) (c .before .before .before .before .before .before .copy .ensures .points) (c .before .before .copy2 .ensures .points) (c .before .before .before .before .before .before .copy .ensures .rest) (c .before .before .copy2 .ensures .rest)
+    answers-accepted (c .before .before .before .before .before .before .before .before .before .before .before .before .before .before .before .before .before .before .before .args .place) (c .before .before .before .before .before .before .before .before .before .before .before .if1 .left) (c .before .before .before .before .before .before .before .before .before .wanted-or-0 .ensures) (c .before .before .before .before .before .before .copy .ensures .points) (c .before .before .copy2 .ensures .points) (c .before .before .before .before .before .before .copy .ensures .rest) (c .before .before .copy2 .ensures .rest)
 
 pub accept-spec : {M : Type 1} → statement M
 accept-spec =

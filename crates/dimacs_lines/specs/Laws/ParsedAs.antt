@@ -107,5 +107,5 @@ pub record Collectable (z : Sizes) (clauses : ClauseSlices) (text : List ℕ) (e
 
 -- what the end of the sheet leads to, whatever images the lines left
 abbrev pub Accepting : ℕ → Sizes → State → ClauseSlices → ClauseSlices → Told → ClauseSlices → Type 0
-Accepting end z s clauses clauses₀ r clauses₁ = (images : List ℕ) → Standing z s clauses images
-    → ParsedAs (atEnd end z (progressFrom (z .variables) clauses images s)) clauses₀ (parsedWith z r images) clauses₁
+Accepting place z s clauses clauses₀ r clauses₁ = (images : List ℕ) → Standing z s clauses images
+    → ParsedAs (atEnd place z (progressFrom (z .variables) clauses images s)) clauses₀ (parsedWith z r images) clauses₁

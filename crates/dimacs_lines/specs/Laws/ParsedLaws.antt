@@ -125,10 +125,10 @@ closed-size : (z : Sizes) (s : State) (clauses : ClauseSlices) (images : List �
     → length (clausesFrom clauses (s .begun) .closed) ≡ s .begun .closed
 closed-size z s clauses images st = closed-length clauses (s .begun) (le-trans (st .ready .closed) (st .ready .room))
 
-module _ (end : ℕ) {z : Sizes} {s : State} {clauses : ClauseSlices} {clauses₀ : ClauseSlices} where
+module _ (place : ℕ) {z : Sizes} {s : State} {clauses : ClauseSlices} {clauses₀ : ClauseSlices} where
   -- R7: "or too few closed", 7 where the sheet ends
-  pub end-refused : {r : Told} → s .begun .closed < z .total → r ≡ toldRefused 7 end
-      → Accepting end z s clauses clauses₀ r clauses₀
+  pub end-refused : {r : Told} → s .begun .closed < z .total → r ≡ toldRefused 7 place
+      → Accepting place z s clauses clauses₀ r clauses₀
   unfolding atEnd
   end-refused {r} lt e images st =
       told-answers z r images (rw (ne-eqb (length (clausesFrom clauses (s .begun) .closed)) (z .total)
@@ -139,7 +139,7 @@ module _ (end : ℕ) {z : Sizes} {s : State} {clauses : ClauseSlices} {clauses�
       → clauses₁ .positive ≡ over (take (z .total) (clauses .positive)) (clauses₀ .positive)
       → clauses₁ .negative ≡ over (take (z .total) (clauses .negative)) (clauses₀ .negative)
       → clauses₁ .positiveRest ≡ clauses₀ .positiveRest → clauses₁ .negativeRest ≡ clauses₀ .negativeRest
-      → Accepting end z s clauses clauses₀
+      → Accepting place z s clauses clauses₀
       (record { answer = Accepted; target = x; permutations = s .permutations }) clauses₁
   unfolding atEnd replyTo formulaFrom slicesFrom formulaOf
   answers-accepted {x = x} enough ex ep en fp fn images st =
@@ -147,7 +147,7 @@ module _ (end : ℕ) {z : Sizes} {s : State} {clauses : ClauseSlices} {clauses�
       let full = closed-size z s clauses images st ∙ closed in
       let room : s .begun .closed ≤ clauseRoom clauses = le-trans (st .ready .closed) (st .ready .room) in
       answers-same
-      (ap (λ b. cond b (goes (inputOf (z .variables) (progressFrom (z .variables) clauses images s))) (refuses 7 end))
+      (ap (λ b. cond b (goes (inputOf (z .variables) (progressFrom (z .variables) clauses images s))) (refuses 7 place))
       (eq-eqb (length (clausesFrom clauses (s .begun) .closed)) (z .total) full))
       (record {
         reply = refl;
