@@ -9,7 +9,7 @@ use native.Mathlib.Nat.{zero-add}
 use native.Mathlib.Omega.{arith}
 use lib.Dec.{leb, ltb}
 use lib.ListN.{length, drop, length-append}
-use borrow.Author.Tests.{le-leb, ne-eqb}
+use borrow.Author.Tests.{ne-eqb}
 use Rattle.math.specs.Laws.ListLaws.{here, and-split, not-all}
 use Rattle.math.specs.Lists.{_∈_, all}
 use Rattle.dimacs_format.specs.Text.{maxText, isBlank, isDigit, endsLine, Line, Word, piece, lines, wordsOf}
@@ -19,12 +19,13 @@ use Rattle.dimacs_format.specs.Input.{Input}
 use Rattle.dimacs_format.specs.Reader.{andThen, walk, goes, refuses, Sizes, problemWords, problemIn, withinLimits}
 use Rattle.dimacs_format.specs.Reader.{Clauses, wordStep, tokenStep, Progress, begin, withPart, handled, lineStep}
 use Rattle.dimacs_format.specs.Reader.{clause-line, isSkipped, fromProblem, atEnd, linesSay, withProblem}
-use Rattle.dimacs_format.specs.Reader.{withLines, withRoom, textSays, reading}
+use Rattle.dimacs_format.specs.Reader.{withLines, reading}
 use Rattle.dimacs_format.specs.Accepted.{Accepts}
 use Rattle.dimacs_format.specs.Laws.TextLaws.{begins-split, lines-some, lines-append, lines-last, blank-clean}
 use Rattle.dimacs_format.specs.Laws.StepLaws.{both-go}
 use Rattle.dimacs_format.specs.Laws.LineLaws.{kind-clauses, line-of-kind}
-use Rattle.dimacs_format.specs.Laws.ReaderLaws.{word-malformed, reading-accepts, accepts-reading}
+use Rattle.dimacs_format.specs.Laws.ReaderLaws.{word-malformed, text-lines, text-passes, reading-accepts}
+use Rattle.dimacs_format.specs.Laws.ReaderLaws.{accepts-reading}
 
 -- ---- with fewer clauses closed
 
@@ -55,15 +56,8 @@ pub few-read : (text : List ℕ) (room : ℕ) (z : Sizes) (problem : Line) (shee
     → ((k : Line) → k ∈ sheet → isPercentLine k ≡ false) → isPercentLine l ≡ true
     → walk (lineStep z) begin sheet ≡ goes q → length (q .clauses .closed) < z .total
     → reading text room ≡ refuses 7 (l .start)
-unfolding reading
 few-read text room z problem sheet q l ls short from is limits enough unended e w few =
-    ap (λ b. cond b (withLines (length text) room (fromProblem (lines 0 text))) (refuses 1 maxText))
-    (le-leb (length text) maxText short)
-    ∙ ap (withLines (length text) room) from
-    ∙ ap (withProblem (length text) room problem (sheet ++ l ∷ ls)) is
-    ∙ ap (λ b. cond b (withRoom (length text) room problem (sheet ++ l ∷ ls) z) (refuses 3 (problem .start))) limits
-    ∙ ap (λ b. cond b (textSays (length text) z (sheet ++ l ∷ ls)) (refuses 4 (problem .start)))
-    (le-leb (z .total) room enough)
+    text-passes text room short from is limits enough
     ∙ few-closed (length text) z sheet begin q l ls unended e w few
 
 -- ---- the sheet ends there
@@ -107,10 +101,9 @@ percent-malformed l e = ap (λ t. cond t (problemWords (spelled (wordsOf l))) no
 -- R2: so it gives 2 there
 pub percent-first : (text : List ℕ) (room : ℕ) (l : Line) (ls : List Line) → length text ≤ maxText
     → fromProblem (lines 0 text) ≡ l ∷ ls → isPercentLine l ≡ true → reading text room ≡ refuses 2 (l .start)
-unfolding reading
+unfolding withLines
 percent-first text room l ls short from e =
-    ap (λ b. cond b (withLines (length text) room (fromProblem (lines 0 text))) (refuses 1 maxText))
-    (le-leb (length text) maxText short)
+    text-lines text room short
     ∙ ap (withLines (length text) room) from
     ∙ ap (withProblem (length text) room l ls) (percent-malformed l e)
 
@@ -158,8 +151,7 @@ percent-cuts front tail room {l} {ls} few first percent =
         ≡ withLines (length (front ++ 10 ∷ bytes)) room
         (fromProblem (lines 0 front ++ lines (suc (length front)) bytes))
     within bytes le =
-        ap (λ b. cond b (withLines (length (front ++ 10 ∷ bytes)) room (fromProblem (lines 0 (front ++ 10 ∷ bytes))))
-        (refuses 1 maxText)) (le-leb (length (front ++ 10 ∷ bytes)) maxText le)
+        text-lines (front ++ 10 ∷ bytes) room le
         ∙ ap (λ ks. withLines (length (front ++ 10 ∷ bytes)) room (fromProblem ks)) (lines-append 0 front bytes
         ∙ ap (λ k. lines 0 front ++ lines (suc k) bytes) (zero-add (length front)))
 

@@ -241,6 +241,26 @@ module _ (size : ℕ) (z : Sizes) where
       ∙ ap (λ m. andThen m (λ t. linesSay size z t (ls ++ ignored))) (v .1)
       ∙ led-says ls ignored (v .0) q (λ k m. unended k (List·Memᴰ·tail m)) ended (v .2) full
 
+-- ---- a text that passes refusals 1 to 4
+
+module _ (text : List ℕ) (room : ℕ) where
+  pub text-lines : length text ≤ maxText
+      → reading text room ≡ withLines (length text) room (fromProblem (lines 0 text))
+  unfolding reading
+  text-lines short = ap (λ b. cond b (withLines (length text) room (fromProblem (lines 0 text))) (refuses 1 maxText))
+      (le-leb (length text) maxText short)
+
+  pub text-passes : length text ≤ maxText → {l : Line} {after : List Line} → fromProblem (lines 0 text) ≡ l ∷ after
+      → {z : Sizes} → problemIn l ≡ some z → withinLimits z ≡ true → z .total ≤ room
+      → reading text room ≡ textSays (length text) z after
+  unfolding withLines
+  text-passes short {l} {after} from {z} is limits enough =
+      text-lines short
+      ∙ ap (withLines (length text) room) from
+      ∙ ap (withProblem (length text) room l after) is
+      ∙ ap (λ b. cond b (withRoom (length text) room l after z) (refuses 3 (l .start))) limits
+      ∙ ap (λ b. cond b (textSays (length text) z after) (refuses 4 (l .start))) (le-leb (z .total) room enough)
+
 -- ---- what the reader takes is accepted
 
 module _ (text : List ℕ) (room : ℕ) where
@@ -333,15 +353,8 @@ module _ (text : List ℕ) (room : ℕ) where
       each z s (clause-words z (begin .clauses) (a .after)
       ∙ grouped-walk z (wordsAmong (a .after)) (d .clauses) (a .grouped) refl) (t .1)
       (permuted-walk (d .variables) (a .permuted) [] (omega (arith, a .few-permutations))) in
-      ap (λ b. cond b (withLines (length text) room (fromProblem (lines 0 text))) (refuses 1 maxText))
-      (le-leb (length text) maxText (a .size))
-      ∙ ap (withLines (length text) room) from
-      ∙ ap (withProblem (length text) room (a .problem) (a .after ++ a .ignored))
-      (problem-in (a .problem) (d .variables) (length (d .clauses)) (a .sizes))
-      ∙ ap (λ b. cond b (withRoom (length text) room (a .problem) (a .after ++ a .ignored) z)
-      (refuses 3 (a .problem .start))) limits
-      ∙ ap (λ b. cond b (textSays (length text) z (a .after ++ a .ignored)) (refuses 4 (a .problem .start)))
-      (le-leb (length (d .clauses)) room (a .enough-room))
+      text-passes text room (a .size) from (problem-in (a .problem) (d .variables) (length (d .clauses)) (a .sizes))
+      limits (a .enough-room)
       ∙ led-says (length text) z (a .after) (a .ignored) begin s (a .unended) (a .ended)
       (parts-walk z (a .after) begin s parts) refl
       ∙ ap (λ x. goes (record {
