@@ -276,8 +276,9 @@ unfoldable pub atEnd : ℕ → Sizes → Progress → Step Input
 atEnd place z s = cond (eqb (length (s .clauses .closed)) (z .total)) (goes (inputOf (z .variables) s))
     (refuses 7 place)
 
--- N3: "then the first fault in text order"; R7: at the end of a text its "text length"; Q01.2: a percent line "now ends
--- the sheet; the bytes behind it are ignored"; Q01.3: "With fewer rules closed it gives 7 at the percent sign."
+-- what lines say, behind what was said before them. N3: "then the first fault in text order"; R7: at the end of a text
+-- its "text length"; Q01.2: a percent line "now ends the sheet; the bytes behind it are ignored"; Q01.3: "With fewer
+-- rules closed it gives 7 at the percent sign."
 unfoldable pub linesSay : ℕ → Sizes → Progress → List Line → Step Input
 unfolding andThen lineStep atEnd isPercentLine
 linesSay size z s [] = atEnd size z s

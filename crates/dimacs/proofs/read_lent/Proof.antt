@@ -5,7 +5,8 @@ use native.Mathlib.Omega.{arith}
 use borrow.Author.Needs.{needs}
 use Rattle.dimacs_lines.specs.Laws.ParsedAs.{parsedIn}
 use Rattle.dimacs_lines.specs.Laws.ParsedLaws.{answers-refused, answers-same}
-use Rattle.dimacs.specs.Laws.ReadLaws.{answers-read, text-long, text-absent, text-malformed, text-sized}
+use Rattle.dimacs.specs.Laws.ReadLaws.{answers-read, text-absent, text-malformed, text-sized}
+use Rattle.dimacs_format.specs.Laws.ReaderLaws.{too-long}
 use Rattle.dimacs.specs.Laws.ReadLaws.{problem-place}
 use Rattle.dimacs_words.specs.declared.Class.the-variants.{Line}
 use Rattle.dimacs_words.specs.Laws.Scans.{belongs, Stretch}
@@ -17,7 +18,7 @@ refused-requires : tie.Need-refused-requires
 refused-requires c κs = search needs
 
 returns : tie.Need-returns
-returns c = answers-read (answers-refused (text-long (c .before .before .before .before .before .before .args .text .now) _ (c .before .if1 .taken)) (ap (λ q. parsedIn q (c .before .before .before .before .before .before .args .images .now)) (c .refused .ensures)))
+returns c = answers-read (answers-refused (too-long (c .before .before .before .before .before .before .args .text .now) _ (c .before .if1 .taken)) (ap (λ q. parsedIn q (c .before .before .before .before .before .before .args .images .now)) (c .refused .ensures)))
 
 find-problem-requires : tie.Need-find-problem-requires
 find-problem-requires c κs = search needs

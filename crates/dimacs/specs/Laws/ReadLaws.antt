@@ -22,6 +22,7 @@ use Rattle.dimacs_problem.specs.Laws.ProblemScans.{ProblemFound}
 use Rattle.dimacs_words.specs.Laws.Scans.{belongs, Stretch, linesBehind}
 use Rattle.dimacs_format.specs.Text.{maxText, Line, piece, lines, begins, problemWord}
 use Rattle.dimacs_format.specs.Laws.TextLaws.{words-bytes}
+use Rattle.dimacs_format.specs.Laws.ReaderLaws.{text-lines}
 
 -- ---- sizes and room
 
@@ -71,19 +72,11 @@ pub read-as : {text : List ℕ} {clauses₀ clauses₁ : ClauseSlices} {r x : Pa
 read-as {text} {clauses₀} {clauses₁} e a = subst (λ y. Read text clauses₀ y clauses₁) (sym e) a
 
 module _ (text : List ℕ) (room : ℕ) where
-  pub text-long : maxText < length text → reading text room ≡ refuses 1 maxText
-  unfolding reading
-  text-long h = rw (lt-leb (length text) maxText h)
-
   module _ (h : length text ≤ maxText) where
-    by-lines : reading text room ≡ withLines (length text) room (fromProblem (lines 0 text))
-    unfolding reading
-    by-lines = rw (le-leb (length text) maxText h)
-
     pub text-absent : (r : Located) → ProblemFound text r → r ≡ Absent → reading text room ≡ refuses 2 (length text)
     unfolding withLines
     text-absent (FoundLine start stop) f e = absurd (let z : _≡_ {A = ℕ} 0 1 = cc in omega arith)
-    text-absent Absent f e = by-lines ∙ ap (withLines (length text) room) f
+    text-absent Absent f e = text-lines text room h ∙ ap (withLines (length text) room) f
 
     module _ (r : Located) (found : ProblemFound text r) (start stop : ℕ) (e : r ≡ FoundLine start stop) where
       pub problem-place : Stretch (belongs LineBytes) text start stop
@@ -94,7 +87,7 @@ module _ (text : List ℕ) (room : ℕ) where
           (linesBehind text stop) o
       unfolding withLines
       by-problem o f =
-          by-lines ∙ ap (withLines (length text) room) (subst (ProblemFound text) e found .1)
+          text-lines text room h ∙ ap (withLines (length text) room) (subst (ProblemFound text) e found .1)
           ∙ ap (withProblem (length text) room (piece start (take (stop - start) (drop start text)))
           (linesBehind text stop))
           (problem-anywhere start (take (stop - start) (drop start text)) ∙ sym f)

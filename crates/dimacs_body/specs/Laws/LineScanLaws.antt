@@ -30,6 +30,7 @@ use Rattle.dimacs_format.specs.Laws.AnswerLaws.{where-told, where-refused, then
 use Rattle.dimacs_format.specs.Laws.LineLaws.{kind-clauses, kind-target, kind-permutation, kind-remark, line-remark}
 use Rattle.dimacs_format.specs.Laws.LineLaws.{line-of-kind}
 use Rattle.dimacs_format.specs.Laws.TextLaws.{begins-split}
+use Rattle.dimacs_format.specs.Laws.ReaderLaws.{says-percent, says-line}
 use Rattle.dimacs_words.specs.Laws.Scans.{belongs, Stretch, linesBehind}
 use Rattle.dimacs_words.specs.Laws.ScanLaws.{here-on, part-end, behind-none, behind-some, lines-from}
 use Rattle.dimacs_words.specs.Laws.ScanLaws.{run-begins, run-exists, run-later}
@@ -199,21 +200,17 @@ module _ (z : Sizes) (text : List ℕ) {at : ℕ} where
   line-first : {stop : ℕ} → percentAt text at ≡ false → Stretch (belongs LineBytes) text at stop → (p : Progress)
       → linesFrom z text at p
       ≡ andThen (lineStep z p (piece at (take (stop - at) (drop at text)))) (linesAfter z text stop)
-  unfolding linesSay
   line-first {stop} no-percent line p =
-      let l : Line = piece at (take (stop - at) (drop at text)) in
       ap (linesSay (length text) z p) (lines-from text at stop line)
-      ∙ ap (λ b. cond b (atEnd at z p) (andThen (lineStep z p l) (linesAfter z text stop)))
+      ∙ says-line (length text) z p (piece at (take (stop - at) (drop at text))) (linesBehind text stop)
       (sym (percent-there text line) ∙ no-percent)
 
   -- Q01.2: a percent line ends the sheet
   percent-ends : at ≤ length text → percentAt text at ≡ true → (p : Progress) → linesFrom z text at p ≡ atEnd at z p
-  unfolding linesSay
   percent-ends within percent p =
       let l = line-there text within in
-      let line : Line = piece at (take (l .0 - at) (drop at text)) in
       ap (linesSay (length text) z p) (lines-from text at (l .0) (l .2))
-      ∙ ap (λ b. cond b (atEnd at z p) (andThen (lineStep z p line) (linesAfter z text (l .0))))
+      ∙ says-percent (length text) z p (piece at (take (l .0 - at) (drop at text))) (linesBehind text (l .0))
       (sym (percent-there text (l .2)) ∙ percent)
 
 -- ---- lines of words

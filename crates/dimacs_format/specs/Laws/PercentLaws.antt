@@ -24,8 +24,8 @@ use Rattle.dimacs_format.specs.Accepted.{Accepts}
 use Rattle.dimacs_format.specs.Laws.TextLaws.{begins-split, lines-some, lines-append, lines-last, blank-clean}
 use Rattle.dimacs_format.specs.Laws.StepLaws.{both-go}
 use Rattle.dimacs_format.specs.Laws.LineLaws.{kind-clauses, line-of-kind}
-use Rattle.dimacs_format.specs.Laws.ReaderLaws.{word-malformed, text-lines, text-passes, reading-accepts}
-use Rattle.dimacs_format.specs.Laws.ReaderLaws.{accepts-reading}
+use Rattle.dimacs_format.specs.Laws.ReaderLaws.{word-malformed, says-percent, says-line, says-walk}
+use Rattle.dimacs_format.specs.Laws.ReaderLaws.{text-lines, text-passes, reading-accepts, accepts-reading}
 
 -- ---- with fewer clauses closed
 
@@ -35,19 +35,11 @@ pub few-closed : (size : ℕ) (z : Sizes) (sheet : List Line) (s q : Progress) (
     → ((k : Line) → k ∈ sheet → isPercentLine k ≡ false) → isPercentLine l ≡ true
     → walk (lineStep z) s sheet ≡ goes q → length (q .clauses .closed) < z .total
     → linesSay size z s (sheet ++ l ∷ ls) ≡ refuses 7 (l .start)
-unfolding linesSay walk atEnd
-few-closed size z [] s q l ls unended e w few =
-    ap (λ p. cond p (atEnd (l .start) z s) (andThen (lineStep z s l) (λ t. linesSay size z t ls))) e
-    ∙ rw (ne-eqb (length (s .clauses .closed)) (z .total) (λ f. let x : ⊥ = omega (arith, same) in x))
-  where
-    same : length (s .clauses .closed) ≡ length (q .clauses .closed)
-    same = cc
-few-closed size z (k ∷ sheet) s q l ls unended e w few =
-    let v = both-go (lineStep z s k) (λ t. walk (lineStep z) t sheet) w in
-    ap (λ p. cond p (atEnd (k .start) z s) (andThen (lineStep z s k) (λ t. linesSay size z t (sheet ++ l ∷ ls))))
-    (unended k (here k sheet))
-    ∙ ap (λ m. andThen m (λ t. linesSay size z t (sheet ++ l ∷ ls))) (v .1)
-    ∙ few-closed size z sheet (v .0) q l ls (λ j m. unended j (List·Memᴰ·tail m)) e (v .2) few
+unfolding atEnd
+few-closed size z sheet s q l ls unended e w few =
+    says-walk size z sheet (l ∷ ls) s q unended w
+    ∙ says-percent size z q l ls e
+    ∙ rw (ne-eqb (length (q .clauses .closed)) (z .total) (λ f. let x : ⊥ = omega arith in x))
 
 -- and of a text
 pub few-read : (text : List ℕ) (room : ℕ) (z : Sizes) (problem : Line) (sheet : List Line) (q : Progress) (l : Line)
@@ -76,7 +68,7 @@ lines-cut : (size : ℕ) (z : Sizes) (front : List Line) (s : Progress) (l : Lin
     → isPercentLine l ≡ true → linesSay size z s (front ++ l ∷ ls) ≡ linesSay (l .start) z s (upTo l front)
 unfolding linesSay
 lines-cut size z [] s l ls e =
-    ap (λ p. cond p (atEnd (l .start) z s) (andThen (lineStep z s l) (λ t. linesSay size z t ls))) e
+    says-percent size z s l ls e
     ∙ sym (ap (λ m. andThen m (λ t. atEnd (l .start) z t)) (empty-line z s (l .start)))
 lines-cut size z (k ∷ front) s l ls e =
     ap (λ f. cond (isPercentLine k) (atEnd (k .start) z s) (andThen (lineStep z s k) f))
@@ -232,9 +224,9 @@ pub percent-word : (size : ℕ) (z : Sizes) (s : Progress) (l : Line) (ls : List
     (ws : List Word)
     → isPercentLine l ≡ false → isComment l ≡ false → wordsOf l ≡ piece at (percentSign ++ v) ∷ ws
     → linesSay size z s (l ∷ ls) ≡ refuses (cond (ltb (length (s .clauses .closed)) (z .total)) 5 7) at
-unfolding linesSay
+unfolding andThen
 percent-word size z s l ls at v ws p c e =
-    ap (λ t. cond t (atEnd (l .start) z s) (andThen (lineStep z s l) (λ t. linesSay size z t ls))) p
+    says-line size z s l ls p
     ∙ ap (λ m. andThen m (λ t. linesSay size z t ls)) (line-of-kind z s l clause-line (kind-clauses l c)
     ∙ ap (λ ks. andThen (walk (wordStep z) (s .clauses) ks) (λ a. goes (withPart clause-line s a))) e
     ∙ ap (λ m. andThen m (λ a. goes (withPart clause-line s a))) (word-refused z (s .clauses) at v ws))

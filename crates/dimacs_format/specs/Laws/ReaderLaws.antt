@@ -143,6 +143,32 @@ second-problem w = word-malformed 112 w refl refl
 
 -- ---- the lines behind the problem line, up to the end of the sheet
 
+module _ (size : ℕ) (z : Sizes) where
+  -- Q01.2: a percent line ends the sheet
+  pub says-percent : (s : Progress) (l : Line) (ls : List Line) → isPercentLine l ≡ true
+      → linesSay size z s (l ∷ ls) ≡ atEnd (l .start) z s
+  unfolding linesSay
+  says-percent s l ls e =
+      ap (λ p. cond p (atEnd (l .start) z s) (andThen (lineStep z s l) (λ t. linesSay size z t ls))) e
+
+  -- of another line the step comes first
+  pub says-line : (s : Progress) (l : Line) (ls : List Line) → isPercentLine l ≡ false
+      → linesSay size z s (l ∷ ls) ≡ andThen (lineStep z s l) (λ t. linesSay size z t ls)
+  unfolding linesSay
+  says-line s l ls e =
+      ap (λ p. cond p (atEnd (l .start) z s) (andThen (lineStep z s l) (λ t. linesSay size z t ls))) e
+
+  -- behind lines that are walked along, none of them a percent line
+  pub says-walk : (sheet rest : List Line) (s q : Progress) → ((l : Line) → l ∈ sheet → isPercentLine l ≡ false)
+      → walk (lineStep z) s sheet ≡ goes q → linesSay size z s (sheet ++ rest) ≡ linesSay size z q rest
+  unfolding walk andThen
+  says-walk [] rest s q unended w = ap (λ t. linesSay size z t rest) (goes-same w)
+  says-walk (l ∷ sheet) rest s q unended w =
+      let v = both-go (lineStep z s l) (λ t. walk (lineStep z) t sheet) w in
+      says-line s l (sheet ++ rest) (unended l (here l sheet))
+      ∙ ap (λ m. andThen m (λ t. linesSay size z t (sheet ++ rest))) (v .1)
+      ∙ says-walk sheet rest (v .0) q (λ k m. unended k (List·Memᴰ·tail m)) (v .2)
+
 -- lines lead to an input: the walk over those before the first percent line, or over all, came to its end, and C clauses
 -- are closed
 record Led (z : Sizes) (s : Progress) (ls : List Line) (d : Input) : Type 0 where
@@ -226,20 +252,12 @@ module _ (size : ℕ) (z : Sizes) where
   led-says : (sheet ignored : List Line) (s q : Progress) → ((l : Line) → l ∈ sheet → isPercentLine l ≡ false)
       → Ignored ignored → walk (lineStep z) s sheet ≡ goes q → length (q .clauses .closed) ≡ z .total
       → linesSay size z s (sheet ++ ignored) ≡ goes (inputOf (z .variables) q)
-  unfolding linesSay walk
-  led-says [] [] s q unended at-text-end w full =
-      full-end size s (ap (λ (t : Progress). length (t .clauses .closed)) (goes-same w) ∙ full)
-      ∙ ap (λ t. goes (inputOf (z .variables) t)) (goes-same w)
-  led-says [] (l ∷ ls) s q unended (at-percent-line e) w full =
-      ap (λ p. cond p (atEnd (l .start) z s) (andThen (lineStep z s l) (λ t. linesSay size z t ls))) e
-      ∙ full-end (l .start) s (ap (λ (t : Progress). length (t .clauses .closed)) (goes-same w) ∙ full)
-      ∙ ap (λ t. goes (inputOf (z .variables) t)) (goes-same w)
-  led-says (l ∷ ls) ignored s q unended ended w full =
-      let v = both-go (lineStep z s l) (λ t. walk (lineStep z) t ls) w in
-      ap (λ p. cond p (atEnd (l .start) z s) (andThen (lineStep z s l) (λ t. linesSay size z t (ls ++ ignored))))
-      (unended l (here l ls))
-      ∙ ap (λ m. andThen m (λ t. linesSay size z t (ls ++ ignored))) (v .1)
-      ∙ led-says ls ignored (v .0) q (λ k m. unended k (List·Memᴰ·tail m)) ended (v .2) full
+  unfolding linesSay
+  led-says sheet ignored s q unended ended w full = says-walk size z sheet ignored s q unended w ∙ ends ignored ended
+    where
+      ends : (ls : List Line) → Ignored ls → linesSay size z q ls ≡ goes (inputOf (z .variables) q)
+      ends [] at-text-end = full-end size q full
+      ends (l ∷ ls) (at-percent-line e) = says-percent size z q l ls e ∙ full-end (l .start) q full
 
 -- ---- a text that passes refusals 1 to 4
 
