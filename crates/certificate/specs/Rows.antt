@@ -1,4 +1,4 @@
--- Document 01, 'When the desk says no': the rows 14, 16, 17 and 19. The tests of one point are the writer's and the
+-- Document 01, 'When the desk says no': the rows 14, 16 and 17. The tests of one point are the writer's and the
 -- checker's alike. Assumes nothing.
 use mathlib.Core.Bool.{Bool, false, not, cond, _&&_}
 use mathlib.Core.List.{List, [], _∷_}
@@ -52,7 +52,3 @@ unfoldable pub numbersFault : List Numbered → ℕ → List ℕ → List ℕ �
 unfolding firstFailing range numberPasses faultAt
 numbersFault clauses count points falsified = faultAt 17 (firstFailing (numberPasses clauses points falsified)
     (below count))
-
--- R19: "output too short | 19 | length needed (bytes here)"
-unfoldable pub roomFault : ℕ → ℕ → Fault
-roomFault needed lent = cond (leb needed lent) no-fault (fault 19 needed)

@@ -7,11 +7,11 @@ use Rattle.point_slices.specs.Slices.{ClauseSlices, SlotSlices}
 use Rattle.formula.specs.declared.Formula.{Formula}
 use Rattle.formula.specs.Limits.{capacity}
 use Rattle.formula.specs.Problem.{Problem, problemOf}
-use Rattle.formula.specs.Refusals.{formulaFault, permutationFault, symmetryFault}
+use Rattle.formula.specs.Refusals.{formulaFault, permutationFault, symmetryFault, roomFault}
 use Rattle.formula.specs.Reply.{Reply, written, Fault, first, unless, unlessKept}
 use Rattle.certificate.specs.Certificate.{encode, certificateLength, contentsOf, WellFormed, filePermutations}
 use Rattle.certificate.specs.Certificate.{filePoints, fileNumbers}
-use Rattle.certificate.specs.Rows.{pointsFault, numbersFault, roomFault}
+use Rattle.certificate.specs.Rows.{pointsFault, numbersFault}
 
 -- the length of the certificate of a problem and that many slots
 unfoldable pub lengthNeeded : Problem → ℕ → ℕ

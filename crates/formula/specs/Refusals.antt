@@ -1,4 +1,4 @@
--- Document 01, 'When the desk says no': the rows 10, 11 and 12, which several entry points share. Assumes nothing.
+-- Document 01, 'When the desk says no': the rows 10, 11, 12 and 19, which several entry points share. Assumes nothing.
 use mathlib.Core.Bool.{Bool, cond, _&&_}
 use mathlib.Core.List.{List}
 use mathlib.Core.Path.{_≡_}
@@ -60,6 +60,10 @@ permutationFault n es = cond (leb (length es) maxPermutations) (faultAt 11 (firs
 unfoldable pub symmetryFault : List Numbered → List Permutation → Fault
 unfolding firstFailing keeps faultAt
 symmetryFault cs es = faultAt 12 (firstFailing (keeps cs) es)
+
+-- R19: "output too short | 19 | length needed (bytes here)"
+unfoldable pub roomFault : ℕ → ℕ → Fault
+roomFault needed lent = cond (leb needed lent) no-fault (fault 19 needed)
 
 -- F10: what the code's answer of a test means
 abbrev pub faultOf : Checked → Fault

@@ -1,4 +1,3 @@
 -- The text that the program prints, and what the functions that make it go by.
-pub mod Decimal
 pub mod Report
 pub mod Laws

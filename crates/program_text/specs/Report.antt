@@ -6,7 +6,7 @@ use Prim.Native.Nat.{ℕ, zero, suc, _+_, _*_}
 use Rattle.formula.specs.Limits.{maxVariables}
 use Rattle.math.specs.Bits.{bit}
 use Rattle.dimacs_format.specs.Text.{ascii}
-use Rattle.program_text.specs.Decimal.{lineEnd, numeral, field, line}
+use Rattle.text_output.specs.Decimal.{lineEnd, numeral, field, line}
 use Rattle.formula.specs.Reply.{Reply, refused, satisfiable, unsatisfiable, unknown, parsed, written, opened, accepted}
 
 -- ---- names

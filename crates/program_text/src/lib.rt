@@ -1,19 +1,19 @@
 // The text that the program prints for a reply, put into lent bytes. Callers see to the room.
-use certificate_output::put_bytes;
 use formula::Formula;
 use points::Point;
 use points::member;
 use search::Found;
 use search::Outcome;
-ghost use mathlib.Core.List.{[], _∷_};
+use text_output::put_field;
+use text_output::put_line;
+use text_output::put_text;
 ghost use Prim.Native.Nat.{_+_, _≤_, _<_, _*_};
 ghost use lib.ListN.{length};
 ghost use Rattle.formula.specs.Limits.{maxVariables};
-ghost use Rattle.program_text.specs.Decimal.{numeral, field, line};
-ghost use Rattle.program_text.specs.Laws.Putting.{Put};
 ghost use Rattle.search.specs.Contract.{replyOfFound};
 ghost use Rattle.program_text.specs.Report.{literal, literals, satisfiableText, unsatisfiableText, unknownText};
 ghost use Rattle.program_text.specs.Report.{refusedText, reportOf, longestLiteral, longestText};
+ghost use Rattle.text_output.specs.Laws.Putting.{placesEnd, Put};
 ghost use Rattle.program_text.specs.Laws.Putting.{Printed};
 
 // A bound for the text of a literal, in bytes.
@@ -22,61 +22,9 @@ const LITERAL: usize = 4;
 // A bound for the text of every reply, in bytes; the program's output and those who lend one have so many.
 pub const LONGEST: usize = 15 + LITERAL * Formula::MAX_VARIABLES as usize + 3 + 38;
 
-// Puts one digit, and answers the place behind it.
-fn put_digit(out: &mut [u8], at: usize, d: u64) -> usize
-    requires { ⌜ (d < 10) × (at < length (now out)) ⌝ }
-    ensures { λ r. ⌜ Put at ((48 + d) ∷ []) (now (out .entry)) r (now (out .exit)) ⌝ }
-{
-    let byte = 48 + d as u8;
-    out[at] = byte;
-    at + 1
-}
-
-// Puts the decimal digits of a number, and answers the place behind them. One call a digit, so at most 20 deep.
-fn put_decimal(out: &mut [u8], at: usize, x: u64) -> usize
-    requires { ⌜ at + length (numeral x) ≤ length (now out) ⌝ }
-    ensures { λ r. ⌜ Put at (numeral x) (now (out .entry)) r (now (out .exit)) ⌝ }
-{
-    if x < 10 {
-        return put_digit(out, at, x);
-    }
-    let place = put_decimal(out, at, x / 10);
-    put_digit(out, place, x % 10)
-}
-
-// Puts a text, and answers the place behind it.
-pub fn put_text(out: &mut [u8], at: usize, text: &[u8]) -> usize
-    requires { ⌜ at + length (now text) ≤ length (now out) ⌝ }
-    ensures { λ r. ⌜ Put at (now (text .entry)) (now (out .entry)) r (now (out .exit)) ⌝ }
-{
-    let count = text.len();
-    put_bytes(out, at, text, count);
-    at + count
-}
-
-// Puts a text with a number behind it.
-pub fn put_field(out: &mut [u8], at: usize, head: &[u8], x: u64) -> usize
-    requires { ⌜ at + length (field (now head) x) ≤ length (now out) ⌝ }
-    ensures { λ r. ⌜ Put at (field (now (head .entry)) x) (now (out .entry)) r (now (out .exit)) ⌝ }
-{
-    let place = put_text(out, at, head);
-    put_decimal(out, place, x)
-}
-
-// Puts a line with two numbers: a text in front of each, and a line end.
-pub fn put_line(out: &mut [u8], at: usize, head: &[u8], a: u64, between: &[u8], b: u64) -> usize
-    requires { ⌜ at + length (line (now head) a (now between) b) ≤ length (now out) ⌝ }
-    ensures { λ r. ⌜ Put at (line (now (head .entry)) a (now (between .entry)) b) (now (out .entry)) r (now (out .exit))
-        ⌝ }
-{
-    let first = put_field(out, at, head, a);
-    let second = put_field(out, first, between, b);
-    put_text(out, second, b"\n")
-}
-
 // P3: puts the name of bit i of a point, with a minus where the bit is 0. `put_literals` sees to the room.
 fn put_literal(out: &mut [u8], at: usize, x: Point, i: u32) -> usize
-    requires { ⌜ (i < maxVariables) × (at + longestLiteral ≤ length (now out)) ⌝ }
+    requires { ⌜ (i < maxVariables) × (at + longestLiteral ≤ placesEnd) ⌝ }
     ensures { λ r. ⌜ Put at (literal x i) (now (out .entry)) r (now (out .exit)) ⌝ }
 {
     let name = i as u64 + 1;
@@ -89,7 +37,7 @@ fn put_literal(out: &mut [u8], at: usize, x: Point, i: u32) -> usize
 
 // P3: puts the first n names of a point, ascending. One step a name. `put_satisfiable` sees to the room.
 fn put_literals(out: &mut [u8], at: usize, x: Point, n: u32) -> usize
-    requires { ⌜ (n ≤ maxVariables) × (at + longestLiteral * n ≤ length (now out)) ⌝ }
+    requires { ⌜ (n ≤ maxVariables) × (at + longestLiteral * n ≤ placesEnd) ⌝ }
     ensures { λ r. ⌜ Put at (literals x n) (now (out .entry)) r (now (out .exit)) ⌝ }
 {
     let mut place = at;

@@ -1,14 +1,13 @@
 -- Laws of the loops that copy numbers out of a body, and of permutations as entries. Assumes nothing.
-use mathlib.Core.List.{List, _++_, flatMap}
+use mathlib.Core.List.{List}
 use mathlib.Core.Path.{_≡_, sym, ap, _∙_}
-use Prim.Native.Nat.{ℕ, zero, suc, _+_, _*_, _≤_, _<_}
-use native.Mathlib.Nat.{zero-mul, suc-mul, add-comm, le-trans, le-of-eq, mul-le-mul-right}
+use Prim.Native.Nat.{ℕ, _+_, _*_, _≤_, _<_}
+use native.Mathlib.Nat.{suc-mul, le-trans, le-of-eq, mul-le-mul-right}
 use lib.ListN.{length, set, take, drop}
-use lib.Seq.{take-add, take-all}
+use lib.Seq.{take-all}
 use Rattle.math.specs.Laws.NumeralLaws.{length-entries, entry-of}
 use Rattle.math.specs.Laws.OverLaws.{Copying, copying-begins, copying-goes-on, copying-ends}
 use Rattle.math.specs.Lists.{over}
-use Rattle.permutation_theory.specs.Permutations.{permutationsIn, Permutation}
 use Rattle.certificate.specs.Bytes.{numberFrom, numbersIn}
 
 -- the loop that copies the first `count` numbers of a body, w bytes each, into a slice: the first i are there
@@ -39,12 +38,3 @@ module _ {w count : ℕ} {body old : List ℕ} where
   decoding-ends s all = copying-ends (s .copying) all
       ∙ ap (λ l. over l old) (take-all count (numbersIn w count body)
       (le-of-eq (length-entries numberFrom w count body)))
-
--- permutations that stand without gaps, put out one by one, are the bytes in which they stood
-pub flatMap-permutations : (n k : ℕ) (bytes : List ℕ)
-    → flatMap (λ (e : Permutation). e .images) (permutationsIn n k bytes) ≡ take (k * n) bytes
-unfolding flatMap permutationsIn
-flatMap-permutations n zero bytes = ap (λ (j : ℕ). take j bytes) (sym (zero-mul n))
-flatMap-permutations n (suc k) bytes =
-    ap (λ l. take n bytes ++ l) (flatMap-permutations n k (drop n bytes)) ∙ sym (take-add n (k * n) bytes)
-    ∙ ap (λ (j : ℕ). take j bytes) (add-comm n (k * n) ∙ sym (suc-mul k n))

@@ -13,9 +13,9 @@ use Rattle.formula.specs.Laws.Alike.{Alike}
 use Rattle.formula.specs.Laws.AlikeLaws.{same-problem}
 use Rattle.formula.specs.Limits.{capacity}
 use Rattle.formula.specs.Problem.{Problem, problemOf}
-use Rattle.formula.specs.Refusals.{fits, permutationFault, symmetryFault}
+use Rattle.formula.specs.Refusals.{fits, permutationFault, symmetryFault, roomFault}
 use Rattle.formula.specs.Reply.{written, no-fault, fault, first, unless, unlessKept}
-use Rattle.certificate.specs.Rows.{pointsFault, numbersFault, roomFault}
+use Rattle.certificate.specs.Rows.{pointsFault, numbersFault}
 use Rattle.certificate.specs.Writer.{lengthNeeded, certificateOf, writeFault, writeReply, writeOutput}
 
 module _ (f g : Formula) (a : Alike f g) (clauses : ClauseSlices) (slots : SlotSlices) (filled : ℕ)

@@ -1,4 +1,4 @@
--- Laws of the rows 16, 17 and 19: what their tests say, and which clause a number names. Assumes nothing.
+-- Laws of the rows 16 and 17: what their tests say, and which clause a number names. Assumes nothing.
 use mathlib.Core.Bool.{Bool, true, false, not, cond, _&&_, true≢false, false≢true}
 use mathlib.Core.List.{List, [], _∷_, List·Memᴰ·head, List·Memᴰ·tail, List·Memᴰ·not-nil}
 use mathlib.Core.Option.{Option, some, none}
@@ -16,7 +16,7 @@ use Rattle.math.specs.Laws.PartLaws.{distinct-by-index, distinct-earlier, same-
 use Rattle.points.specs.Points.{Clause, Numbered, satisfies, numberedFrom}
 use Rattle.formula.specs.Reply.{Fault, fault, faultAt, no-fault}
 use Rattle.certificate.specs.Rows.{pointPasses, pointsFault, clauseNumbered, falsifies, numberPasses}
-use Rattle.certificate.specs.Rows.{numbersFault, roomFault}
+use Rattle.certificate.specs.Rows.{numbersFault}
 use Rattle.formula.specs.Laws.ReplyLaws.{tested}
 
 not-of-false : (b : Bool) → b ≡ false → not b ≡ true
@@ -196,13 +196,3 @@ module _ (cs : List Numbered) (points falsified : List ℕ) where
       (numberPasses cs points falsified) count (λ i lt.
       ap₂ (λ (k x : ℕ). falsifies (clauseNumbered cs k) x) (getD-take count falsified i 0 lt)
       (getD-take count points i 0 lt)))
-
--- ---- row 19
-
-pub too-short : (needed lent : ℕ) → lent < needed → roomFault needed lent ≡ fault 19 needed
-unfolding roomFault
-too-short needed lent h = rw (lt-leb needed lent h)
-
-pub long-enough : (needed lent : ℕ) → needed ≤ lent → roomFault needed lent ≡ no-fault
-unfolding roomFault
-long-enough needed lent h = rw (le-leb needed lent h)

@@ -18,8 +18,8 @@ use Rattle.permutation_theory.specs.Permutations.{Permutation, isPermutation}
 use Rattle.formula.specs.declared.Formula.{Formula}
 use Rattle.formula.specs.Limits.{maxVariables, maxClauses, maxPermutations, maxSlots, capacity}
 use Rattle.formula.specs.Problem.{Problem, problemOf}
-use Rattle.formula.specs.Refusals.{Fits, formulaFault, permutationFault, symmetryFault}
-use Rattle.formula.specs.Laws.RefusalLaws.{fits-count, formula-passes}
+use Rattle.formula.specs.Refusals.{Fits, formulaFault, permutationFault, symmetryFault, roomFault}
+use Rattle.formula.specs.Laws.RefusalLaws.{fits-count, formula-passes, room-passes}
 use Rattle.formula.specs.Reply.{unlessKept, no-fault, first, written}
 use Rattle.certificate.specs.Certificate.{FileContents, layout, certificateLength, Encodable}
 use Rattle.certificate.specs.Laws.CertificateLaws.{length-encode, contents-encode, encode-wellFormed}
@@ -28,7 +28,7 @@ use Rattle.formula.specs.Laws.ReplyLaws.{first-none, first-join, first-split, t
 use Rattle.formula.specs.Laws.ReplyLaws.{not-refused, written-not-refused, unless-none}
 use Rattle.certificate.specs.Laws.RowLaws.{points-counted, points-passed, point-passes-take, clause-found}
 use Rattle.certificate.specs.Laws.RowLaws.{numbered-range, number-passed}
-use Rattle.certificate.specs.Rows.{pointPasses, pointsFault, numberPasses, numbersFault, roomFault}
+use Rattle.certificate.specs.Rows.{pointPasses, pointsFault, numberPasses, numbersFault}
 use Rattle.certificate.specs.Writer.{lengthNeeded, writeFault, writeReply, certificateOf, writeOutput, ReadsAs}
 
 -- ---- the writer's rows
@@ -168,9 +168,7 @@ module _ (f : Formula) (clauses : ClauseSlices) (slots : SlotSlices) (filled : �
         }
 
     room : lengthNeeded pb filled ≤ length out
-    unfolding roomFault
-    room = leb-true (lengthNeeded pb filled) (length out)
-        (tested (leb (lengthNeeded pb filled) (length out)) no-fault 19 (lengthNeeded pb filled) (passed .row19) .0)
+    room = room-passes (lengthNeeded pb filled) (length out) (passed .row19)
 
     pub certificate-length : length (certificateOf pb slots filled) ≡ lengthNeeded pb filled
     unfolding certificateOf lengthNeeded

@@ -9,13 +9,12 @@ use Rattle.math.specs.Lists.{over, spliced}
 use Rattle.math.specs.Laws.SpliceLaws.{spliced-front}
 use Rattle.points.specs.Points.{Numbered}
 use Rattle.permutation_theory.specs.Permutations.{Permutation, permutationsIn}
-use Rattle.permutation_images.specs.Laws.LoopLaws.{length-permutations}
+use Rattle.permutation_images.specs.Laws.LoopLaws.{length-permutations, flatMap-permutations}
 use Rattle.formula.specs.Reply.{Fault, no-fault}
 use Rattle.formula.specs.Laws.ReplyLaws.{IsFault, answers-first, answers-rest, first-last}
 use Rattle.math.specs.Laws.SplitLaws.{length-flatMap}
 use Rattle.certificate.specs.Bytes.{bytesOf, fieldWidth, pointWidth, numberWidth}
 use Rattle.math.specs.Laws.NumeralLaws.{length-digits}
-use Rattle.certificate.specs.Laws.BytesLaws.{flatMap-permutations}
 use Rattle.certificate.specs.Certificate.{FileContents, contentsLength, fieldsOf, layout, encode}
 use Rattle.certificate.specs.Laws.CertificateLaws.{length-contents}
 use Rattle.certificate.specs.Rows.{pointsFault, numbersFault}

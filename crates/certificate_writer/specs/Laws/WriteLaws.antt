@@ -17,14 +17,13 @@ use Rattle.formula.specs.declared.Checked.the-variants.{Passed, Refused as Faul
 use Rattle.formula.specs.declared.Formula.{Formula}
 use Rattle.formula.specs.Limits.{maxVariables, maxPermutations, maxSlots, capacity, maxImages}
 use Rattle.formula.specs.Problem.{problemOf}
-use Rattle.formula.specs.Laws.RefusalLaws.{formula-passes, passes-few, images-room}
-use Rattle.formula.specs.Refusals.{formulaFault, permutationFault, symmetryFault, faultOf}
+use Rattle.formula.specs.Laws.RefusalLaws.{formula-passes, passes-few, images-room, too-short, long-enough}
+use Rattle.formula.specs.Refusals.{formulaFault, permutationFault, symmetryFault, faultOf, roomFault}
 use Rattle.formula.specs.Reply.{Fault, no-fault, fault, first, written}
 use Rattle.formula.specs.Laws.ReplyLaws.{first-split, first-last, first-after, first-before, first-nested}
 use Rattle.certificate_writer.specs.declared.Written.the-variants.{Bytes, Refused}
 use Rattle.certificate.specs.Certificate.{certificateLength}
-use Rattle.certificate.specs.Laws.RowLaws.{too-short, long-enough}
-use Rattle.certificate.specs.Rows.{pointsFault, numbersFault, roomFault}
+use Rattle.certificate.specs.Rows.{pointsFault, numbersFault}
 use Rattle.certificate.specs.Writer.{lengthNeeded, writeFault, writeReply, certificateOf, writeOutput}
 use Rattle.certificate_writer.specs.Contract.{replyOfWritten, Wrote}
 use Rattle.certificate.specs.Laws.WriterLaws.{WriterPassed, write-rows, passed-writer, few-slots, certificate-length}

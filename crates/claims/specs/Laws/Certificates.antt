@@ -22,7 +22,7 @@ use Rattle.formula.specs.declared.Formula.{Formula}
 use Rattle.formula.specs.Limits.{maxSlots, capacity}
 use Rattle.formula.specs.Problem.{Problem, problemOf}
 use Rattle.formula.specs.Laws.RefusalLaws.{formula-passes, permutation-passes, symmetry-passes, fits-complete}
-use Rattle.formula.specs.Refusals.{clausesFault, formulaFault, permutationFault, symmetryFault}
+use Rattle.formula.specs.Refusals.{clausesFault, formulaFault, permutationFault, symmetryFault, roomFault}
 use Rattle.formula.specs.Reply.{Reply, refused, unsatisfiable, written, accepted, no-fault, fault, first, faultAt}
 use Rattle.formula.specs.Reply.{unless, unlessKept, Fault}
 use Rattle.formula.specs.Laws.ReplyLaws.{first-skips, first-stops, test-passed, passes-below, not-refused}
@@ -37,7 +37,7 @@ use Rattle.search_theory.specs.Walk.{Slot, slot, walked}
 use Rattle.certificate.specs.Certificate.{filePoints, fileNumbers}
 use Rattle.certificate.specs.Laws.RowLaws.{points-pass, point-passes-take, clause-of, numbered-own, number-passes}
 use Rattle.certificate.specs.Laws.RowLaws.{OwnNumbers}
-use Rattle.certificate.specs.Rows.{pointPasses, pointsFault, clauseNumbered, numberPasses, numbersFault, roomFault}
+use Rattle.certificate.specs.Rows.{pointPasses, pointsFault, clauseNumbered, numberPasses, numbersFault}
 use Rattle.certificate.specs.Writer.{lengthNeeded, certificateOf, writeFault, writeReply, writeOutput}
 use Rattle.certificate.specs.Laws.WriterLaws.{write-rows, passed-writer, reply-written, reads-back, past-unchanged}
 use Rattle.checker.specs.Checker.{checkReply}

@@ -8,9 +8,9 @@ use native.Mathlib.Nat.{zero-mul, suc-mul, add-comm, zero-add, suc-add}
 use native.Mathlib.Numerals.{add-one}
 use native.Mathlib.Omega.{arith}
 use lib.ListN.{length, take, drop, replicate}
-use lib.Seq.{drop-drop, take-take, take-nil, take-add}
+use lib.Seq.{drop-drop, take-take, take-nil}
 use borrow.Author.Tests.{lt-ltb, le-ltb}
-use Rattle.permutation_images.specs.Laws.LoopLaws.{length-permutations, part-ends}
+use Rattle.permutation_images.specs.Laws.LoopLaws.{length-permutations, part-ends, flatMap-permutations}
 use Rattle.permutation_theory.specs.Permutations.{Permutation, permutationsIn}
 use Rattle.formula.specs.Limits.{maxVariables, maxPermutations, maxImages}
 use Rattle.formula.specs.declared.Checked.the-variants.{Passed, Refused}
@@ -101,11 +101,8 @@ permutations-front n (suc k) a b e =
 
 -- the images of k permutations are those bytes
 pub images-take : (n k : ℕ) (bytes : List ℕ) → imagesOf (permutationsIn n k bytes) ≡ take (k * n) bytes
-unfolding permutationsIn imagesOf
-images-take n zero bytes = ap (λ j. take j bytes) (sym (zero-mul n))
-images-take n (suc k) bytes =
-    ap (λ l. take n bytes ++ l) (images-take n k (drop n bytes)) ∙ sym (take-add n (k * n) bytes)
-    ∙ ap (λ j. take j bytes) (add-comm n (k * n) ∙ sym (suc-mul k n))
+unfolding imagesOf
+images-take n k bytes = flatMap-permutations n k bytes
 
 -- ---- a permutation line
 

@@ -1,4 +1,4 @@
--- Laws of the refusals 10, 11 and 12: what is known once each has passed, and what passes. Assumes nothing.
+-- Laws of the refusals 10, 11, 12 and 19: what is known once each has passed, and what passes. Assumes nothing.
 use mathlib.Core.Bool.{Bool, true, false, cond, _&&_, and-true, and-assoc}
 use mathlib.Core.List.{List, [], _∷_}
 use mathlib.Core.Path.{_≡_, refl, sym, ap, ap₂, _∙_, subst}
@@ -27,10 +27,10 @@ use Rattle.permutation_theory.specs.Permutations.{Permutation, IsPermutation, i
 use Rattle.permutation_theory.specs.Permutations.{permutationsIn}
 use Rattle.formula.specs.declared.Formula.{Formula}
 use Rattle.formula.specs.Limits.{maxVariables, maxClauses, maxPermutations, maxImages}
-use Rattle.formula.specs.Refusals.{allBelow, Fits, fits, formulaFault, permutationFault, symmetryFault}
+use Rattle.formula.specs.Refusals.{allBelow, Fits, fits, formulaFault, permutationFault, symmetryFault, roomFault}
 use Rattle.formula.specs.Reply.{Fault, no-fault, fault, faultAt}
 use Rattle.formula.specs.Laws.ReplyLaws.{IsFault, fault-not-none, faultAt-none, answers-first, answers-rest}
-use Rattle.formula.specs.Laws.ReplyLaws.{first-last}
+use Rattle.formula.specs.Laws.ReplyLaws.{first-last, tested}
 
 -- ---- the union of numbers, and whether it has a bit at n or above
 
@@ -254,3 +254,17 @@ module _ (f : Formula) (clauses : ClauseSlices) where
       let few = formula-passes ten .0 .few-variables in
       passes-listed (f .variables) (f .permutations) (f .images) few
       (images-room few size (passes-few (f .variables) (f .permutations) (f .images) el)) el
+
+-- ---- row 19
+
+pub too-short : (needed lent : ℕ) → lent < needed → roomFault needed lent ≡ fault 19 needed
+unfolding roomFault
+too-short needed lent h = rw (lt-leb needed lent h)
+
+pub long-enough : (needed lent : ℕ) → needed ≤ lent → roomFault needed lent ≡ no-fault
+unfolding roomFault
+long-enough needed lent h = rw (le-leb needed lent h)
+
+pub room-passes : (needed lent : ℕ) → roomFault needed lent ≡ no-fault → needed ≤ lent
+unfolding roomFault
+room-passes needed lent h = leb-true needed lent (tested (leb needed lent) no-fault 19 needed h .0)

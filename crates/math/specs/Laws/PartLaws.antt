@@ -1,7 +1,9 @@
 -- Laws of lists by index and by parts: the first element that fails a test, repetition, what holds of each element, and
 -- a part of joined lists. Assumes nothing.
 use mathlib.Core.Bool.{Bool, true, false, cond}
-use mathlib.Core.List.{List, [], _∷_, _++_, append-assoc, append-nil, List·Memᴰ·head, List·Memᴰ·tail, List·Memᴰ·not-nil}
+use mathlib.Core.List.{List, [], _∷_, _++_, map, append-assoc, append-nil, List·Memᴰ·head, List·Memᴰ·tail}
+use mathlib.Core.List.{List·Memᴰ·not-nil, List·Memᴰ·append-cases}
+use mathlib.Core.Logic.{⊎-elim}
 use mathlib.Core.Option.{some, none}
 use mathlib.Core.Path.{_≡_, refl, sym, ap, ap₂, _∙_, subst}
 use Prim.Native.Nat.{ℕ, zero, suc, _+_, _≤_, _<_, suc-le-suc, zero-le}
@@ -12,7 +14,7 @@ use lib.Dec.{eqb}
 use lib.ListN.{length, getD, getElem?, take, drop, replicate, length-append, length-drop}
 use lib.Seq.{take-at, drop-at}
 use borrow.Author.Tests.{eq-eqb, ne-eqb}
-use Rattle.math.specs.Laws.ListLaws.{here, getD-in, in-getD, count-pos, count-none, range-out, range-in}
+use Rattle.math.specs.Laws.ListLaws.{here, getD-in, in-getD, count-pos, count-none, range-out, range-in, map-out}
 use Rattle.math.specs.Lists.{_∈_, count, failingAt, firstFailing, Distinct, distinct-nil, distinct-cons, range}
 use Rattle.math.specs.Lists.{below, over}
 
@@ -83,6 +85,14 @@ module _ {A : Type 0} where
   pub each-cons : (P : A → Type 0) {y : A} {ys : List A} → P y → ((x : A) → x ∈ ys → P x) → (x : A) → x ∈ (y ∷ ys) → P x
   each-cons P p f x (List·Memᴰ·head e) = subst P (sym e) p
   each-cons P p f x (List·Memᴰ·tail m) = f x m
+
+  pub each-append : (P : A → Type 0) (xs : List A) {ys : List A} → ((x : A) → x ∈ xs → P x)
+      → ((x : A) → x ∈ ys → P x) → (x : A) → x ∈ (xs ++ ys) → P x
+  each-append P xs f g x m = ⊎-elim (f x) (g x) (List·Memᴰ·append-cases xs m)
+
+  pub each-map : (P : A → Type 0) {B : Type 0} (f : B → A) (ys : List B) → ((y : B) → y ∈ ys → P (f y)) → (x : A)
+      → x ∈ map f ys → P x
+  each-map P f ys h x m = let w = map-out f ys m in subst P (sym (w .2)) (h (w .0) (w .1))
 
   -- ---- the first that fails a test
 

@@ -1,7 +1,7 @@
 -- Laws of the loops over a permutation and over several: the permutation test with a set of what was seen, the image
 -- from the last variable down, where the i-th permutation lies, and a test of each in order. Assumes nothing.
 use mathlib.Core.Bool.{Bool, true, false, not, _&&_, xor, true≢false}
-use mathlib.Core.List.{List, [], _∷_, List·Memᴰ·head, List·Memᴰ·tail, List·Memᴰ·not-nil}
+use mathlib.Core.List.{List, [], _∷_, _++_, flatMap, List·Memᴰ·head, List·Memᴰ·tail, List·Memᴰ·not-nil}
 use mathlib.Core.Path.{_≡_, refl, sym, ap, ap₂, _∙_, subst}
 use Prim.Native.Nat.{ℕ, zero, suc, _+_, _-_, _*_, _/_, _%_, _^_, _≤_, _<_}
 use native.Mathlib.Nat.{div-div-eq-div-mul, pow-suc, zero-mul, suc-mul, add-comm, mul-le-mul-right, le-trans, le-of-eq}
@@ -11,7 +11,7 @@ use native.Mathlib.Omega.{arith}
 use lib.Bits.{bitOr}
 use lib.Dec.{leb}
 use lib.ListN.{length, getD, take, drop}
-use lib.Seq.{drop-cons, drop-drop}
+use lib.Seq.{drop-cons, drop-drop, take-add}
 use borrow.Author.Tests.{eq-eqb, leb-true, le-leb, not-true, not-false}
 use Rattle.math.specs.Laws.BitLaws.{bit-of-zero, bit-flip}
 use Rattle.math.specs.Bits.{bit, flip}
@@ -166,6 +166,15 @@ permutation-at n (suc k) (suc i) bytes d h =
     permutation-at n k i (drop n bytes) d (le-of-suc-le-suc h)
     ∙ ap (λ l. let e : Permutation = record { images = take n l } in e)
     (drop-drop (i * n) n bytes ∙ ap (λ j. drop j bytes) (add-comm n (i * n) ∙ sym (suc-mul i n)))
+
+-- permutations that stand without gaps, put out one by one, are the bytes in which they stood
+pub flatMap-permutations : (n k : ℕ) (bytes : List ℕ)
+    → flatMap (λ (e : Permutation). e .images) (permutationsIn n k bytes) ≡ take (k * n) bytes
+unfolding flatMap permutationsIn
+flatMap-permutations n zero bytes = ap (λ (j : ℕ). take j bytes) (sym (zero-mul n))
+flatMap-permutations n (suc k) bytes =
+    ap (λ l. take n bytes ++ l) (flatMap-permutations n k (drop n bytes)) ∙ sym (take-add n (k * n) bytes)
+    ∙ ap (λ (j : ℕ). take j bytes) (add-comm n (k * n) ∙ sym (suc-mul k n))
 
 -- the i-th of k parts of n ends within k * n
 pub part-ends : (i k n : ℕ) → i < k → i * n + n ≤ k * n

@@ -1,13 +1,12 @@
 -- `program_text::put_literals` meets its contract: with `left` names to come, the others are put. Assumes nothing.
-use mathlib.Core.List.{_++_}
-use mathlib.Core.Path.{_≡_, refl, sym, ap, _∙_, subst}
-use Prim.Native.Nat.{ℕ, _-_, _≤_}
+use mathlib.Core.Path.{_≡_, refl, sym, ap, _∙_}
+use Prim.Native.Nat.{_-_, _≤_}
 use native.Mathlib.Omega.{arith}
 use lib.ListN.{length}
 use borrow.Author.Needs.{needs}
-use Rattle.program_text.specs.Laws.Putting.{Put, put-none, put-both}
-use Rattle.program_text.specs.Report.{literal, literals}
-use Rattle.program_text.specs.Laws.ReportLaws.{literals-next, literals-length, literal-room}
+use Rattle.text_output.specs.Laws.Putting.{Put, put-none, put-both, put-as}
+use Rattle.program_text.specs.Report.{literals}
+use Rattle.program_text.specs.Laws.ReportLaws.{literals-next, literals-length}
 use Rattle.program_text.proofs.put_literals.Statement.{statement}
 use Rattle.program_text.proofs.put_literals.Tie as tie
 
@@ -20,31 +19,30 @@ abbrev μ-loop : tie.MeasureT-loop
 loop-holds : tie.Need-loop-holds Inv-loop μ-loop
 unfolding literals
 loop-holds c =
-    let a = c .before .args in
-    (omega arith, refl, subst (λ (k : ℕ). Put (a .at) (literals (a .x) k) (a .out .now) (a .at) (a .out .now)) (let z : 0 ≡ a .n - a .n = omega arith in z) (put-none (a .at) (a .out .now)))
+    let a = (c .before .args) in
+    (omega arith, refl, put-as (ap (literals (a .x)) (let z : 0 ≡ a .n - a .n = omega arith in z)) (put-none (a .at) (a .out .now)))
 
 put-literal-requires : tie.Need-put-literal-requires Inv-loop μ-loop
 put-literal-requires c κs =
-    let l = c .before .before .loop in
+    let l = (c .before .before .loop) in
     let s = c .before .before .before .before in
-    (omega (arith, s .pre .0), omega (arith, literals-length (s .args .x) (s .args .n - l .left) (omega (arith, s .pre .0)), l .inv .2 .behind, s .pre .1))
+    (omega (arith, c .before .before .before .before .pre .0), omega (arith, literals-length (s .args .x) (s .args .n - l .left) (omega (arith, c .before .before .before .before .pre .0)), l .inv .2 .behind, c .before .before .before .before .pre .1))
 
 loop-again : tie.Need-loop-again Inv-loop μ-loop
 loop-again c =
-    let put = c .before .before in
-    let l = put .before .before .before .loop in
-    let s = put .before .before .before .before .before in
-    let i = s .args .n - l .left in
-    let both = put-both (s .args .at) (literals (s .args .x) i) (literal (s .args .x) i) (s .args .out .now) (literal-room _ (s .args .x) i (s .args .n) (s .args .out .now) (s .pre .0) (s .pre .1) (omega arith)) _ _ (l .inv .2) _ _ (put .put-literal .ensures) in
-    let next : literals (s .args .x) i ++ literal (s .args .x) i ≡ literals (s .args .x) (s .args .n - (l .left - 1)) =
-    sym (literals-next (s .args .x) i) ∙ ap (literals (s .args .x)) (omega arith) in
-    (omega arith, put .put-literal .kept .0 ∙ l .inv .1, subst (λ t. Put (s .args .at) t (s .args .out .now) (put .put-literal .result) (put .put-literal .last .0)) next both)
+    let l = (c .before .before .before .before .before .loop) in
+    let s = c .before .before .before .before .before .before .before in
+    let i = s .args .n - l .left in (
+      omega arith,
+      c .before .before .put-literal .kept .0 ∙ l .inv .1,
+      put-as (sym (literals-next (s .args .x) i) ∙ ap (literals (s .args .x)) (omega arith)) (put-both (l .inv .2) (c .before .before .put-literal .ensures)),
+    )
 
 returns : tie.Need-returns Inv-loop μ-loop
 returns c =
-    let a = c .before .before .before .args in
-    let l = c .before .loop in
-    subst (λ (k : ℕ). Put (a .at) (literals (a .x) k) (a .out .now) (l .place) (l .out)) (let z : a .n - l .left ≡ a .n = omega arith in z) (l .inv .2)
+    let a = (c .before .before .before .args) in
+    let l = (c .before .loop) in
+    put-as (ap (literals (a .x)) (let z : a .n - l .left ≡ a .n = omega arith in z)) (l .inv .2)
 
 pub put-literals-spec : {M : Type 1} → statement M
 put-literals-spec =

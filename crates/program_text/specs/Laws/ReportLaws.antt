@@ -10,22 +10,12 @@ use lib.Seq.{take-append-seam}
 use Rattle.formula.specs.Limits.{maxVariables}
 use Rattle.math.specs.Bits.{bit}
 use Rattle.math.specs.Lists.{over}
-use Rattle.math.specs.Laws.SpliceLaws.{spliced-front}
-use Rattle.program_text.specs.Decimal.{numeral, lineEnd, field, line}
-use Rattle.program_text.specs.Laws.DecimalLaws.{numeral-length, line-length}
-use Rattle.program_text.specs.Laws.Putting.{Put}
+use Rattle.text_output.specs.Decimal.{numeral, lineEnd, field, line}
+use Rattle.text_output.specs.Laws.DecimalLaws.{numeral-length, line-length}
 use Rattle.program_text.specs.Report.{sign, literal, literals, satisfiableHead, valuesEnd, changesHead}
 use Rattle.program_text.specs.Report.{slotsBetween, unsatisfiableHead, space, satisfiableText, unsatisfiableText}
 use Rattle.program_text.specs.Report.{longestLiteral, longestText}
 use Rattle.program_text.specs.Laws.Putting.{Printed}
-
--- put at the front of the output
-pub put-front : (text out₀ : List ℕ) (r : ℕ) (out₁ : List ℕ) → Put 0 text out₀ r out₁ → Printed text out₀ r out₁
-put-front text out₀ r out₁ p = record {
-  counted = omega (arith, p .behind);
-  output = p .stored
-      ∙ spliced-front text out₀;
-}
 
 -- what was put lies within the output
 pub put-within : (text out₀ : List ℕ) (r : ℕ) (out₁ : List ℕ) → Printed text out₀ r out₁ → r ≤ length out₁
@@ -70,16 +60,6 @@ literals-length x (suc n) le =
       numeral-length 1 (n + 1) (omega arith),
     )
 
--- there is room for the next one
-pub literal-room : (at x i n : ℕ) (out : List ℕ) → n ≤ maxVariables → at + longestLiteral * n ≤ length out → i < n
-    → at + length (literals x i ++ literal x i) ≤ length out
-literal-room at x i n out few room more = omega (
-  arith,
-  literals-length x (i + 1) (omega arith),
-  ap length
-      (literals-next x i),
-)
-
 -- ---- no text is longer than the bound
 
 -- 15 in front of the names, four a name, 3 behind them, 38 in the last line
@@ -106,7 +86,7 @@ unsatisfiable-length k p =
       numeral-length 9 k p,
     )
 
--- there is room for a line with two numbers and a short head
-pub line-room : (head out : List ℕ) (a b : ℕ) → length head ≤ 100 → a < 10 ^ 10 → b < 10 ^ 20 → longestText ≤ length out
-    → 0 + length (line head a space b) ≤ length out
-line-room head out a b short p q room = omega (arith, line-length head space 9 19 a b p q)
+-- a line with two numbers and a short head
+pub line-short : (head : List ℕ) (a b : ℕ) → length head ≤ 100 → a < 10 ^ 10 → b < 10 ^ 20
+    → length (line head a space b) ≤ longestText
+line-short head a b short p q = omega (arith, line-length head space 9 19 a b p q)

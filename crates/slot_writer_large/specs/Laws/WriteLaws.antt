@@ -15,13 +15,13 @@ use Rattle.point_slices.specs.Slices.{ClauseSlices, SlotSlices, slotSlices, who
 use Rattle.formula.specs.declared.Formula.{Formula}
 use Rattle.formula.specs.Limits.{maxSlots, capacity}
 use Rattle.formula.specs.Problem.{problemOf}
-use Rattle.formula.specs.Refusals.{formulaFault, permutationFault, symmetryFault}
+use Rattle.formula.specs.Refusals.{formulaFault, permutationFault, symmetryFault, roomFault}
 use Rattle.formula.specs.Reply.{Fault, no-fault, fault, first, unless, unlessKept, written, faultAt}
 use Rattle.formula.specs.Laws.ReplyLaws.{IsFault, first-stops, first-split, first-last, tested, written-not-refused}
 use Rattle.certificate_writer.specs.declared.Written.{Written}
 use Rattle.certificate_writer.specs.declared.Written.the-variants.{Bytes, Refused}
 use Rattle.certificate.specs.Certificate.{encode}
-use Rattle.certificate.specs.Rows.{pointPasses, pointsFault, numbersFault, roomFault}
+use Rattle.certificate.specs.Rows.{pointPasses, pointsFault, numbersFault}
 use Rattle.certificate.specs.Laws.RowLaws.{points-fault-take, numbers-fault-take}
 use Rattle.certificate.specs.Writer.{writeFault, writeReply, writeOutput, certificateOf, lengthNeeded}
 use Rattle.certificate_writer.specs.Contract.{replyOfWritten, Wrote}

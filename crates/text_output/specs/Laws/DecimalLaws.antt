@@ -10,8 +10,7 @@ use lib.Dec.{ltb}
 use lib.ListN.{length, length-append}
 use borrow.Author.Tests.{ltb-true, ltb-false}
 use Rattle.dimacs_format.specs.Text.{decimal}
-use Rattle.program_text.specs.Laws.Putting.{Put, front-room, back-room, put-both}
-use Rattle.program_text.specs.Decimal.{digits, numeral, lineEnd, field, line}
+use Rattle.text_output.specs.Decimal.{digits, numeral, lineEnd, field, line}
 
 -- 0 has no digits
 digits-none : (f : ℕ) → digits f 0 ≡ []
@@ -80,27 +79,6 @@ digits-value (suc f) (suc q) le =
 pub numeral-value : (x : ℕ) → decimal 0 (numeral x) ≡ x
 unfolding numeral
 numeral-value x = omega (arith, value-snoc 0 (x % 10) (digits x (x / 10)), digits-value x (x / 10) (omega arith))
-
--- putting them: one digit, or the tenth's and one more behind them
-module _ (at x : ℕ) (out : List ℕ) (room : at + length (numeral x) ≤ length out) where
-  pub small-room : x < 10 → at < length out
-  small-room lt = omega (arith, ap length (numeral-small x lt))
-
-  module _ (ge : 10 ≤ x) where
-    split-room : at + length (numeral (x / 10) ++ (48 + x % 10) ∷ []) ≤ length out
-    split-room = subst (λ l. at + length l ≤ length out) (numeral-large x ge) room
-
-    pub tenth-room : at + length (numeral (x / 10)) ≤ length out
-    tenth-room = front-room at (numeral (x / 10)) ((48 + x % 10) ∷ []) out split-room
-
-    module _ (r : ℕ) (out₁ : List ℕ) (p : Put at (numeral (x / 10)) out r out₁) where
-      pub last-room : length out₁ ≡ length out → r < length out₁
-      last-room same = omega (arith, back-room at (numeral (x / 10)) ((48 + x % 10) ∷ []) out split-room r out₁ p same)
-
-      pub put-last : (r′ : ℕ) (out₂ : List ℕ) → Put r ((48 + x % 10) ∷ []) out₁ r′ out₂ → Put at (numeral x) out r′ out₂
-      put-last r′ out₂ q =
-          subst (λ l. Put at l out r′ out₂) (sym (numeral-large x ge))
-          (put-both at (numeral (x / 10)) ((48 + x % 10) ∷ []) out split-room r out₁ p r′ out₂ q)
 
 -- how long a line is at most
 pub line-length : (head between : List ℕ) (i j a b : ℕ) → a < 10 ^ suc i → b < 10 ^ suc j

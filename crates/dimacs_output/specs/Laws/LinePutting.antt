@@ -1,0 +1,67 @@
+-- The loops that put the lines of clauses and permutations: what they require, and the room for each line. Assumes
+-- nothing.
+use mathlib.Core.List.{List, [], _∷_, flatMap, Memᴰ·append-left}
+use mathlib.Core.Path.{_≡_, sym, ap, subst}
+use Prim.Native.Nat.{ℕ, _+_, _*_, _^_, _≤_, _<_}
+use native.Mathlib.Nat.{le-refl, suc-mul, mul-le-mul}
+use native.Mathlib.Omega.{arith}
+use lib.ListN.{length, getD, take, drop, length-append, length-drop, take-append-drop}
+use lib.Seq.{length-take-le}
+use Rattle.math.specs.Lists.{_∈_}
+use Rattle.math.specs.Laws.ListLaws.{in-getD}
+use Rattle.math.specs.Laws.SplitLaws.{length-flatMap-le}
+use Rattle.points.specs.Points.{Clause, listed}
+use Rattle.permutation_theory.specs.Permutations.{Permutation, IsPermutation}
+use Rattle.formula.specs.Limits.{maxVariables}
+use Rattle.dimacs_format.specs.Text.{ascii}
+use Rattle.text_output.specs.Decimal.{numeral, lineEnd}
+use Rattle.text_output.specs.Laws.DecimalLaws.{numeral-length}
+use Rattle.text_output.specs.Laws.Putting.{Put, PutFirst, put-both, put-as}
+use Rattle.dimacs_text.specs.Laws.TextParts.{imagePart, permutation-parts, permutationPart}
+
+-- bytes for the line of a permutation, whatever bytes its images are: a blank and three digits each
+abbrev pub longestImages : ℕ
+longestImages = maxVariables * 4 + 7
+
+-- no clause lists a variable above n
+abbrev pub ListedWithin : ℕ → List Clause → Type 0
+ListedWithin n cs = (c : Clause) → c ∈ cs → listed c < 2 ^ n
+
+-- all listed are permutations
+abbrev pub AllPermutations : ℕ → List Permutation → Type 0
+AllPermutations n es = (e : Permutation) → e ∈ es → IsPermutation n e
+
+-- where each text has at most k bytes, the first i have at most i · k, so that there is room for one more
+module _ {A : Type 0} (f : A → List ℕ) (k : ℕ) (xs : List A) (short : (x : A) → x ∈ xs → length (f x) ≤ k) where
+  pub room-left : (at : ℕ) (out₀ : List ℕ) {i place : ℕ} {out : List ℕ} → PutFirst f xs at out₀ i place out
+      → i < length xs → (end : ℕ) → at + length xs * k ≤ end → place + k ≤ end
+  room-left at out₀ {i} {place} p more end room =
+      omega (
+        arith,
+        p .texts .behind,
+        length-flatMap-le f k (take i xs) (λ x m. short x
+            (subst (λ l. x ∈ l) (take-append-drop i xs) (Memᴰ·append-left (drop i xs) m))),
+        ap (λ (j : ℕ). j * k) (length-take-le i xs (p .within)),
+        suc-mul i k,
+        mul-le-mul more (le-refl k),
+      )
+
+-- ---- the line of a permutation
+
+-- a blank and the digits of a byte
+pub image-length : (e : List ℕ) → ((i : ℕ) → getD e i 0 < 256) → (v : ℕ) → v ∈ e → length (imagePart v) ≤ 4
+image-length e bytes v m =
+    let w = in-getD 0 m in
+    let lt : v < 256 = subst (λ (k : ℕ). k < 256) (w .2) (bytes (w .0)) in
+    omega (arith, numeral-length 2 v (omega arith), length-append (ascii " ") (numeral v))
+
+-- its head, its images and the line end
+pub permutation-put : (e : List ℕ) → 1 ≤ length e → {at r r′ r″ : ℕ} {out out₁ out₂ out₃ : List ℕ}
+    → Put at (ascii "c exch") out r out₁ → Put r (flatMap imagePart e) out₁ r′ out₂ → Put r′ lineEnd out₂ r″ out₃
+    → Put at (permutationPart (record { images = e })) out r″ out₃
+permutation-put [] some p q l = absurd (let z : ⊥ = omega arith in z)
+permutation-put (v ∷ vs) some p q l = put-as (sym (permutation-parts v vs)) (put-both (put-both p q) l)
+
+-- a part of n bytes
+pub part-length : (n i : ℕ) (bytes : List ℕ) → i * n + n ≤ length bytes → length (take n (drop (i * n) bytes)) ≡ n
+part-length n i bytes room = length-take-le n (drop (i * n) bytes) (omega (arith, length-drop (i * n) bytes))
