@@ -1,12 +1,13 @@
--- `export_words::put_parse` meets its contract: of each answer the words that it carries, and which of them is a text
--- read. Assumes nothing.
+-- `export_formulas::put_parse` meets its contract: of each answer the words that it carries, and which of them is a
+-- text read. Assumes nothing.
 use mathlib.Core.Path.{sym, ap}
 use borrow.Author.Needs.{needs}
 use Rattle.dimacs_lines.specs.Reply.{replyOfParse}
-use Rattle.export_words.specs.Words.{wordsOf, isParsed}
+use Rattle.export_words.specs.Words.{wordsOf}
 use Rattle.export_words.specs.Laws.WordLaws.{case-words}
-use Rattle.export_words.proofs.put_parse.Statement.{statement}
-use Rattle.export_words.proofs.put_parse.Tie as tie
+use Rattle.export_formulas.specs.Formulas.{isParsed}
+use Rattle.export_formulas.proofs.put_parse.Statement.{statement}
+use Rattle.export_formulas.proofs.put_parse.Tie as tie
 
 put-words-requires : tie.Need-put-words-requires
 put-words-requires c κs = search needs

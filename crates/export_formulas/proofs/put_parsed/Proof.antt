@@ -1,9 +1,9 @@
--- `export_words::put_parsed` meets its contract: the formula is put where the text is read. Assumes nothing.
+-- `export_formulas::put_parsed` meets its contract: the formula is put where the text is read. Assumes nothing.
 use mathlib.Core.Path.{sym, _∙_}
 use borrow.Author.Needs.{needs}
 use Rattle.export_words.specs.Laws.RoomLaws.{with-room, without-room}
-use Rattle.export_words.proofs.put_parsed.Statement.{statement}
-use Rattle.export_words.proofs.put_parsed.Tie as tie
+use Rattle.export_formulas.proofs.put_parsed.Statement.{statement}
+use Rattle.export_formulas.proofs.put_parsed.Tie as tie
 
 put-parse-requires : tie.Need-put-parse-requires
 put-parse-requires c κs = search needs

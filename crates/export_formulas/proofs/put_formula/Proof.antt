@@ -1,7 +1,7 @@
--- `export_words::put_formula` meets its contract. Assumes nothing.
+-- `export_formulas::put_formula` meets its contract. Assumes nothing.
 use borrow.Author.Needs.{needs}
-use Rattle.export_words.proofs.put_formula.Statement.{statement}
-use Rattle.export_words.proofs.put_formula.Tie as tie
+use Rattle.export_formulas.proofs.put_formula.Statement.{statement}
+use Rattle.export_formulas.proofs.put_formula.Tie as tie
 
 put-words-requires : tie.Need-put-words-requires
 put-words-requires c κs = search needs

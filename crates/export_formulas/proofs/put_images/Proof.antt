@@ -1,4 +1,4 @@
--- `export_words::put_images` meets its contract: the first 1,024 bytes are all that can be copied. Assumes nothing.
+-- `export_formulas::put_images` meets its contract: the first 1,024 bytes are all that can be copied. Assumes nothing.
 use mathlib.Core.List.{List}
 use mathlib.Core.Path.{_≡_, sym, ap, _∙_}
 use Prim.Native.Nat.{ℕ, _<_, min}
@@ -9,8 +9,8 @@ use lib.Seq.{take-all}
 use borrow.Author.Needs.{needs}
 use Rattle.formula.specs.Limits.{maxImages}
 use Rattle.math.specs.Lists.{over}
-use Rattle.export_words.proofs.put_images.Statement.{statement}
-use Rattle.export_words.proofs.put_images.Tie as tie
+use Rattle.export_formulas.proofs.put_images.Statement.{statement}
+use Rattle.export_formulas.proofs.put_images.Tie as tie
 
 whole : (bytes : List ℕ) (i : ℕ) → i ≡ min (length bytes) maxImages → take i bytes ≡ take maxImages bytes
 whole bytes i e = by (decLt maxImages (length bytes))

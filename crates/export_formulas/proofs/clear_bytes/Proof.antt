@@ -1,4 +1,4 @@
--- `export_words::clear_bytes` meets its contract: it copies zeros. Assumes nothing.
+-- `export_formulas::clear_bytes` meets its contract: it copies zeros. Assumes nothing.
 use mathlib.Core.Path.{refl, sym, ap, _∙_}
 use Prim.Native.Nat.{ℕ, _-_}
 use native.Mathlib.Nat.{le-of-eq}
@@ -8,8 +8,8 @@ use lib.Seq.{take-all}
 use borrow.Author.Needs.{needs}
 use Rattle.math.specs.Lists.{over}
 use Rattle.math.specs.Laws.OverLaws.{Copying, copying-begins, copying-goes-on, copying-ends}
-use Rattle.export_words.proofs.clear_bytes.Statement.{statement}
-use Rattle.export_words.proofs.clear_bytes.Tie as tie
+use Rattle.export_formulas.proofs.clear_bytes.Statement.{statement}
+use Rattle.export_formulas.proofs.clear_bytes.Tie as tie
 
 abbrev Inv-loop : tie.InvT-loop
 Inv-loop to₀ count i₀ to i = Copying count (replicate count 0) to₀ i to

@@ -1,12 +1,12 @@
--- `export_words::put_held` meets its contract: without permutations the images are zeros. Assumes nothing.
+-- `export_formulas::put_held` meets its contract: without permutations the images are zeros. Assumes nothing.
 use mathlib.Core.Path.{sym, ap, _∙_}
 use native.Mathlib.Omega.{arith}
 use lib.Seq.{take-all}
 use borrow.Author.Needs.{needs}
 use Rattle.formula.specs.Limits.{maxImages}
 use Rattle.math.specs.Lists.{over}
-use Rattle.export_words.proofs.put_held.Statement.{statement}
-use Rattle.export_words.proofs.put_held.Tie as tie
+use Rattle.export_formulas.proofs.put_held.Statement.{statement}
+use Rattle.export_formulas.proofs.put_held.Tie as tie
 
 clear-bytes-requires : tie.Need-clear-bytes-requires
 clear-bytes-requires c κs = c .before .before .before .before .pre .0

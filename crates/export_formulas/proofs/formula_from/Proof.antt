@@ -1,10 +1,10 @@
--- `export_words::formula_from` meets its contract. Assumes nothing.
+-- `export_formulas::formula_from` meets its contract. Assumes nothing.
 use mathlib.Core.Path.{refl, sym}
 use borrow.Author.Needs.{needs}
 use Rattle.math.specs.Lists.{over}
-use Rattle.export_words.specs.Words.{imagesFrom, formulaFrom}
-use Rattle.export_words.proofs.formula_from.Statement.{statement}
-use Rattle.export_words.proofs.formula_from.Tie as tie
+use Rattle.export_formulas.specs.Formulas.{imagesFrom, formulaFrom}
+use Rattle.export_formulas.proofs.formula_from.Statement.{statement}
+use Rattle.export_formulas.proofs.formula_from.Tie as tie
 
 put-images-requires : tie.Need-put-images-requires
 put-images-requires c κs = search needs
