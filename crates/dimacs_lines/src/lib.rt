@@ -1,8 +1,8 @@
 // The reader's answer to the lines behind the problem line: clauses are collected apart until the text is accepted.
 use dimacs_body::State;
 use dimacs_body::read_lines;
-use dimacs_comments::Wanted;
 use dimacs_format::Sizes;
+use dimacs_targets::Wanted;
 use formula::Checked;
 use formula::Formula;
 use formula::Numbers;
@@ -19,7 +19,7 @@ ghost use Rattle.point_slices.specs.Slices.{pointsOf, clauseSlices};
 ghost use Rattle.dimacs_format.specs.Reader.{textSays};
 ghost use Rattle.dimacs_words.specs.Laws.Scans.{linesBehind};
 ghost use Rattle.dimacs_clauses.specs.Laws.ClauseScans.{Ready};
-ghost use Rattle.dimacs_comments.specs.Laws.CommentScans.{wantedOf};
+ghost use Rattle.dimacs_targets.specs.Laws.TargetScans.{wantedOf};
 ghost use Rattle.dimacs_lines.specs.Laws.ParsedAs.{Copied, refusedNumbers, toldRefused, parsedWith, parsedIn};
 ghost use Rattle.dimacs_lines.specs.Laws.ParsedAs.{HasRoom};
 ghost use Rattle.dimacs_lines.specs.Laws.ParsedAs.{Collectable, ParsedAs, Accepting};

@@ -1,5 +1,4 @@
--- Formulas and answers as numbers, bytes and words, and what the exported search and writer return, whatever holds the
--- slots.
+-- Answers as words, and what the exported search and writer return, whatever holds the slots.
 pub mod Words
 pub mod Replies
 pub mod Searching

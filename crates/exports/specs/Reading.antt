@@ -9,7 +9,8 @@ use Rattle.formula.specs.Limits.{maxImages}
 use Rattle.point_slices.specs.Slices.{ClauseSlices}
 use Rattle.math.specs.Lists.{over}
 use Rattle.dimacs_format.specs.Reader.{readReply, readFormula, readClauses}
-use Rattle.export_words.specs.Words.{wordsOf, hasRoom, numbersOf, putIfParsed}
+use Rattle.export_words.specs.Words.{wordsOf, hasRoom}
+use Rattle.export_formulas.specs.Formulas.{numbersOf, putIfParsed}
 
 -- whether there is room for an answer's words and for a formula's numbers and images
 abbrev pub hasFormulaRoom : List ℕ → List ℕ → List ℕ → Bool

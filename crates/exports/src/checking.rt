@@ -13,7 +13,7 @@ use formula::Numbers;
 ghost use Rattle.point_slices.specs.Slices.{clauseSlices};
 ghost use Rattle.certificate.specs.Bytes.{pointWidth, numberWidth};
 ghost use Rattle.certificate.specs.Certificate.{numberAt, imageAt};
-ghost use Rattle.export_words.specs.Words.{formulaFrom};
+ghost use Rattle.export_formulas.specs.Formulas.{formulaFrom};
 ghost use Rattle.exports.specs.Checking.{CheckReturns, OpenReturns, EntryReturns};
 
 // The checker, its answer put into the first four words of `reply`. It returns 1; where `reply` has no room it returns

@@ -1,7 +1,7 @@
 // The reader as an exported function.
 use dimacs::read_lent;
+use export_formulas::put_parsed;
 use export_words::WORDS;
-use export_words::put_parsed;
 use formula::Formula;
 ghost use Rattle.point_slices.specs.Slices.{clauseSlices};
 ghost use Rattle.exports.specs.Reading.{ReadReturns};

@@ -1,6 +1,6 @@
 // The search as an exported function.
+use export_formulas::formula_from;
 use export_words::WORDS;
-use export_words::formula_from;
 use export_words::put_found;
 use formula::Formula;
 use formula::Numbers;
@@ -9,7 +9,7 @@ use search::Found;
 use search::search;
 use search::search_lent;
 ghost use Rattle.point_slices.specs.Slices.{clauseSlices, slotSlices};
-ghost use Rattle.export_words.specs.Words.{formulaFrom};
+ghost use Rattle.export_formulas.specs.Formulas.{formulaFrom};
 ghost use Rattle.search.specs.Contract.{Searched};
 ghost use Rattle.export_words.specs.Searching.{SearchReturns};
 

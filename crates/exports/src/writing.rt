@@ -2,14 +2,14 @@
 use certificate_writer::Written;
 use certificate_writer::write;
 use certificate_writer::write_lent;
+use export_formulas::formula_from;
 use export_words::WORDS;
-use export_words::formula_from;
 use export_words::put_written;
 use formula::Formula;
 use formula::Numbers;
 use points::Depth;
 ghost use Rattle.point_slices.specs.Slices.{clauseSlices, slotSlices};
-ghost use Rattle.export_words.specs.Words.{formulaFrom};
+ghost use Rattle.export_formulas.specs.Formulas.{formulaFrom};
 ghost use Rattle.certificate_writer.specs.Contract.{Wrote};
 ghost use Rattle.export_words.specs.Writing.{WriteReturns};
 

@@ -26,8 +26,8 @@ use denote.Triple.Statement.{Contract}
 use Rattle.formula.specs.declared.Formula.{Formula}
 use Rattle.formula.proofs.Formula as F
 use Rattle.formula.proofs.Formula.Laws as F′
-use Rattle.export_words.specs.Words.{formulaFrom}
-use Rattle.export_words.proofs.formula_from as formula-from
+use Rattle.export_formulas.specs.Formulas.{formulaFrom}
+use Rattle.export_formulas.proofs.formula_from as formula-from
 use Rattle.slot_proofs.proofs.Lent.{at-list}
 use Rattle.slot_proofs.proofs.Called.{Does, asked, answered}
 

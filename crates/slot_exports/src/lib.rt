@@ -1,6 +1,6 @@
 // The search and the writer over a slice of slots for programs in other languages.
+use export_formulas::formula_from;
 use export_words::WORDS;
-use export_words::formula_from;
 use export_words::put_found;
 use export_words::put_written;
 use slot_columns::Slot;
@@ -10,7 +10,7 @@ ghost use Rattle.point_slices.specs.Slices.{clauseSlices};
 ghost use Rattle.slot_columns.specs.Slots.{slotsIn};
 ghost use Rattle.export_words.specs.Searching.{SearchReturns};
 ghost use Rattle.export_words.specs.Writing.{WriteReturns};
-ghost use Rattle.export_words.specs.Words.{formulaFrom};
+ghost use Rattle.export_formulas.specs.Formulas.{formulaFrom};
 
 // The search over a slice of slots, its answer put into the first four words of `reply`. It returns 1; where `reply`
 // has no room it returns 0 and changes nothing.

@@ -2,7 +2,7 @@
 use mathlib.Core.Path.{ap₂}
 use borrow.Author.Needs.{needs}
 use Rattle.dimacs_clauses.specs.declared.Begun.{Begun}
-use Rattle.dimacs_comments.specs.declared.Wanted.{Wanted}
+use Rattle.dimacs_targets.specs.declared.Wanted.{Wanted}
 use Rattle.dimacs_body.specs.declared.State.{State}
 use Rattle.dimacs_body.proofs.begin.Statement.{statement}
 use Rattle.dimacs_body.proofs.begin.Tie as tie

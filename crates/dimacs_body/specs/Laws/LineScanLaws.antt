@@ -15,8 +15,8 @@ use Rattle.formula.specs.declared.Checked.the-variants.{Passed, Refused}
 use Rattle.dimacs_words.specs.declared.Class.the-variants.{Line as LineBytes}
 use Rattle.dimacs_clauses.specs.declared.Begun.{Begun}
 use Rattle.dimacs_clauses.specs.declared.Stepped.{Stepped}
-use Rattle.dimacs_comments.specs.declared.TargetTaken.{TargetTaken}
-use Rattle.dimacs_comments.specs.declared.PermutationTaken.{PermutationTaken}
+use Rattle.dimacs_targets.specs.declared.TargetTaken.{TargetTaken}
+use Rattle.dimacs_permutations.specs.declared.PermutationTaken.{PermutationTaken}
 use Rattle.dimacs_body.specs.declared.State.{State}
 use Rattle.dimacs_body.specs.declared.Advanced.{Advanced}
 use Rattle.dimacs_body.specs.declared.Lined.{Lined}
@@ -35,8 +35,8 @@ use Rattle.dimacs_words.specs.Laws.Scans.{belongs, Stretch, linesBehind}
 use Rattle.dimacs_words.specs.Laws.ScanLaws.{here-on, part-end, behind-none, behind-some, lines-from}
 use Rattle.dimacs_words.specs.Laws.ScanLaws.{run-begins, run-exists, run-later}
 use Rattle.dimacs_clauses.specs.Laws.ClauseScans.{clausesFrom, Ready, Scanning}
-use Rattle.dimacs_comments.specs.Laws.CommentScans.{wantedOf}
-use Rattle.dimacs_comments.specs.Laws.HandlerScans.{TargetRead, PermutationRead}
+use Rattle.dimacs_targets.specs.Laws.TargetScans.{wantedOf, TargetRead}
+use Rattle.dimacs_permutations.specs.Laws.HandlerScans.{PermutationRead}
 use Rattle.dimacs_body.specs.Laws.LineScans.{nothingSaid, withBegun, withWanted, withPermutations, progressWith}
 use Rattle.dimacs_body.specs.Laws.LineScans.{progressFrom, Kept, Standing}
 use Rattle.dimacs_body.specs.Laws.LineScans.{CommentRead}

@@ -12,7 +12,7 @@ use Rattle.formula.specs.Limits.{maxVariables}
 use Rattle.formula.specs.declared.Checked.the-variants.{Passed}
 use Rattle.dimacs_clauses.specs.declared.Begun.{Begun}
 use Rattle.dimacs_clauses.specs.declared.Stepped.{Stepped}
-use Rattle.dimacs_comments.specs.declared.Wanted.{Wanted}
+use Rattle.dimacs_targets.specs.declared.Wanted.{Wanted}
 use Rattle.dimacs_body.specs.declared.State.{State}
 use Rattle.dimacs_body.specs.declared.Advanced.{Advanced}
 use Rattle.dimacs_body.specs.declared.Lined.{Lined}
@@ -23,8 +23,8 @@ use Rattle.dimacs_format.specs.Reader.{atEnd, linesSay, textSays}
 use Rattle.dimacs_format.specs.Laws.AnswerLaws.{stepTo, WherePassed}
 use Rattle.dimacs_words.specs.Laws.Scans.{linesBehind}
 use Rattle.dimacs_clauses.specs.Laws.ClauseScans.{noneBegun, clausesFrom, Ready}
-use Rattle.dimacs_comments.specs.Laws.CommentScans.{wantedOf, noTarget}
-use Rattle.dimacs_comments.specs.Laws.HandlerScans.{KeptImages}
+use Rattle.dimacs_targets.specs.Laws.TargetScans.{wantedOf, noTarget}
+use Rattle.dimacs_permutations.specs.Laws.HandlerScans.{KeptImages}
 
 -- nothing said yet
 abbrev pub nothingSaid : State

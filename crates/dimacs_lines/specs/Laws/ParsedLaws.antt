@@ -33,9 +33,9 @@ use Rattle.dimacs_format.specs.Laws.AnswerLaws.{stepTo, where-told}
 use Rattle.dimacs_words.specs.Laws.Scans.{linesBehind}
 use Rattle.dimacs_clauses.specs.Laws.ClauseScans.{clausesFrom, Ready}
 use Rattle.dimacs_clauses.specs.Laws.ClauseScanLaws.{closed-length}
-use Rattle.dimacs_comments.specs.Laws.CommentScans.{wantedOf}
-use Rattle.dimacs_comments.specs.Laws.HandlerScans.{KeptImages}
-use Rattle.dimacs_comments.specs.Laws.HandlerLaws.{images-take}
+use Rattle.dimacs_targets.specs.Laws.TargetScans.{wantedOf}
+use Rattle.dimacs_permutations.specs.Laws.HandlerScans.{KeptImages}
+use Rattle.dimacs_permutations.specs.Laws.HandlerLaws.{images-take}
 use Rattle.dimacs_body.specs.Laws.LineScans.{nothingSaid, progressFrom, Standing, LinesRead}
 use Rattle.dimacs_lines.specs.Laws.ParsedAs.{refusedWith, toldRefused, parsedWith, parsedIn, noImages}
 use Rattle.dimacs_lines.specs.Laws.ParsedAs.{Limited, HasRoom}

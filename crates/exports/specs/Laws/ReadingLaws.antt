@@ -24,8 +24,9 @@ use Rattle.dimacs_lines.specs.Reply.{replyOfParse}
 use Rattle.dimacs.specs.Contract.{Read}
 use Rattle.exports.specs.Reading.{hasFormulaRoom, ReadReturns}
 use Rattle.export_words.specs.Laws.RoomLaws.{with-room, without-room}
-use Rattle.export_words.specs.Laws.WordLaws.{Unused}
-use Rattle.export_words.specs.Words.{wordsOf, hasRoom, numbersOf, isParsed, putIfParsed}
+use Rattle.export_words.specs.Words.{wordsOf, hasRoom}
+use Rattle.export_formulas.specs.Laws.FormulaLaws.{Unused}
+use Rattle.export_formulas.specs.Formulas.{numbersOf, isParsed, putIfParsed}
 
 module _ (text : List ℕ) (clauses : ClauseSlices) (numbers images reply : List ℕ) where
   rooms : {a b c : Bool} → hasRoom reply ≡ a → hasRoom numbers ≡ b → leb maxImages (length images) ≡ c

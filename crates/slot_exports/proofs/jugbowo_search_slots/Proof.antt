@@ -40,10 +40,11 @@ use denote.Triple.Walked.{walked, walk-meets}
 use denote.Exit.{yes}
 use Rattle.search.proofs.Found as O
 use Rattle.search.specs.Contract.{replyOfFound}
-use Rattle.export_words.specs.Words.{wordsOf, formulaFrom}
-use Rattle.export_words.proofs.formula_from.Symbol as formula-from-def
-use Rattle.export_words.proofs.formula_from.Symbol.{name as #export-words·formula-from}
-use Rattle.export_words.proofs.formula_from.Met as formula-from-thm
+use Rattle.export_words.specs.Words.{wordsOf}
+use Rattle.export_formulas.specs.Formulas.{formulaFrom}
+use Rattle.export_formulas.proofs.formula_from.Symbol as formula-from-def
+use Rattle.export_formulas.proofs.formula_from.Symbol.{name as #export-formulas·formula-from}
+use Rattle.export_formulas.proofs.formula_from.Met as formula-from-thm
 use Rattle.export_words.proofs.put_found.Symbol as put-found-def
 use Rattle.export_words.proofs.put_found.Symbol.{name as #export-words·put-found}
 use Rattle.export_words.proofs.put_found.Met as put-found-thm
@@ -127,7 +128,7 @@ module _ {M : Type 1} (𝓤 : URA M) (H : Heap 𝓤) (A : Atoms 𝓤) (W : Given
       owned ! u32 (Is u32) (uint-makes 𝓤 H A W w32) n (vint w32 n ∷ []) (refl, gn) $ done !
 
   module _ (gv : v < 2 ^ 32) (gc : c < 2 ^ 32) (gg : g < 2 ^ 64) (gp : p < 2 ^ 32) (room₀ : Room u8 (length is)) (room₁ : Room u64 (length us)) (room₂ : Room u64 (length vs)) (room : Room R (length ys)) (room₄ : Room u64 (length ws)) where
-    module _ (C : Calls 𝓤 H) (Λ : Loops 𝓤 H) (fm : FmC 𝓤 H (W .laws) C) (known₀ : Triple 𝓤 (C #export-words·formula-from) (FormulaFrom 𝓤 H A mem run)) (known₁ : Triple 𝓤 (C #slot-search·search-slots) (SearchSlots 𝓤 H A mem run))
+    module _ (C : Calls 𝓤 H) (Λ : Loops 𝓤 H) (fm : FmC 𝓤 H (W .laws) C) (known₀ : Triple 𝓤 (C #export-formulas·formula-from) (FormulaFrom 𝓤 H A mem run)) (known₁ : Triple 𝓤 (C #slot-search·search-slots) (SearchSlots 𝓤 H A mem run))
         (known₂ : Triple 𝓤 (C #export-words·put-found) (PutWords O.the-row words 𝓤 H A)) where
       walk : ent 𝓤 (onEntry 𝓤 H A this.signature (bound .0 .0) (bound .0 .1) (bound .0 .3) (bound .0 .4)) (WpFn 𝓤 H C Λ code.function args Post)
       walk =
@@ -178,7 +179,7 @@ module _ {M : Type 1} (𝓤 : URA M) (H : Heap 𝓤) (A : Atoms 𝓤) (W : Given
           keep ! (6 ∷ 3 ∷ 4 ∷ 5 ∷ 1 ∷ 2 ∷ 0 ∷ []) $
           by ! (exits 1 (lit< tt) zs ws′ e₁ e₂ (tells-search (formulaFrom v c g p is) (clauseSlices us vs) (slotsIn ys) ws f r (slotsIn zs) ws′ (nltb→le (length ws) 4 large) same returned put)))))))))))))))))))))))))))))
 
-module _ {M : Type 1} (𝓤 : URA M) (H : Heap 𝓤) (A : Atoms 𝓤) (W : Given 𝓤 H A) (mem : Memory → SProp 𝓤) (run : Routine → Fun 𝓤) (𝓣 : Tables 𝓤 H) (known₀ : Triple 𝓤 (𝓣 .C #export-words·formula-from) (FormulaFrom 𝓤 H A mem run))
+module _ {M : Type 1} (𝓤 : URA M) (H : Heap 𝓤) (A : Atoms 𝓤) (W : Given 𝓤 H A) (mem : Memory → SProp 𝓤) (run : Routine → Fun 𝓤) (𝓣 : Tables 𝓤 H) (known₀ : Triple 𝓤 (𝓣 .C #export-formulas·formula-from) (FormulaFrom 𝓤 H A mem run))
     (known₁ : Triple 𝓤 (𝓣 .C #slot-search·search-slots) (SearchSlots 𝓤 H A mem run)) (known₂ : Triple 𝓤 (𝓣 .C #export-words·put-found) (PutWords O.the-row words 𝓤 H A)) where
   walks : Walks 𝓤 H A this.ended stayed (WpFn 𝓤 H (𝓣 .C) (𝓣 .Λ) code.function) (this.clauses 𝓤 H A mem run)
   walks = walked 𝓤 H A this.ended stayed (this.clauses 𝓤 H A mem run) (WpFn 𝓤 H (𝓣 .C) (𝓣 .Λ) code.function) (λ κs. (uint-vals w32, (uint-vals w32, (uint-vals w64, (uint-vals w32, (slice-vals, (slice-vals, (slice-vals, (slice-vals, (slice-vals, tt))))))))))
@@ -223,6 +224,6 @@ jugbowo-search-slots-spec 𝓤 H 𝓜 𝓖 𝓡 =
     entered 𝓤 H (tripleOf 𝓤 H (𝓖 .A) this.signature (this.spec 𝓤 H (𝓖 .A) (𝓜 .mem) (𝓡 .run)))
     (tables 𝓤 H 𝓜 𝓡 code.env .C) (tables 𝓤 H 𝓜 𝓡 code.env .Λ) #slot-exports·jugbowo-search-slots code.function (code.unfolded 𝓤 H 𝓜 𝓡)
     (meets 𝓤 H (𝓖 .A) (givenOf 𝓤 H 𝓜 𝓖) (𝓜 .mem) (𝓡 .run) (tablesOf 𝓤 H 𝓜 (tables 𝓤 H 𝓜 𝓡 code.env))
-    (cited 𝓤 H (FormulaFrom 𝓤 H (𝓖 .A) (𝓜 .mem) (𝓡 .run)) 𝓜 𝓡 code.env #export-words·formula-from formula-from-def.routine code.calls-export-words·formula-from (formula-from-thm.met 𝓤 H 𝓜 𝓖 𝓡))
+    (cited 𝓤 H (FormulaFrom 𝓤 H (𝓖 .A) (𝓜 .mem) (𝓡 .run)) 𝓜 𝓡 code.env #export-formulas·formula-from formula-from-def.routine code.calls-export-formulas·formula-from (formula-from-thm.met 𝓤 H 𝓜 𝓖 𝓡))
     (cited 𝓤 H (SearchSlots 𝓤 H (𝓖 .A) (𝓜 .mem) (𝓡 .run)) 𝓜 𝓡 code.env #slot-search·search-slots search-slots-def.routine code.calls-slot-search·search-slots (search-slots-thm.met 𝓤 H 𝓜 𝓖 𝓡))
     (cited 𝓤 H (PutWords O.the-row words 𝓤 H (𝓖 .A)) 𝓜 𝓡 code.env #export-words·put-found put-found-def.routine code.calls-export-words·put-found (put-found-thm.met 𝓤 H 𝓜 𝓖 𝓡)))

@@ -2,7 +2,7 @@
 -- Assumes nothing.
 use mathlib.Core.Path.{refl}
 use Rattle.point_slices.specs.Slices.{clauseSlices}
-use Rattle.export_words.specs.Words.{imagesFrom, formulaFrom}
+use Rattle.export_formulas.specs.Formulas.{imagesFrom, formulaFrom}
 use Rattle.exports.specs.Laws.CheckingLaws.{tells-no-verdict, tells-verdict}
 use Rattle.exports.proofs.checking.jugbowo_check.Statement.{statement}
 use Rattle.exports.proofs.checking.jugbowo_check.Tie as tie

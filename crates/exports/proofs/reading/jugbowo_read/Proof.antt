@@ -5,8 +5,9 @@ use Rattle.math.specs.Lists.{over}
 use Rattle.point_slices.specs.Slices.{clauseSlices}
 use Rattle.dimacs_lines.specs.Laws.ParsedAs.{parsedIn}
 use Rattle.dimacs_lines.specs.Reply.{replyOfParse}
-use Rattle.export_words.specs.Laws.WordLaws.{put-in, answer-in}
-use Rattle.export_words.specs.Words.{wordsOf, numbersOf}
+use Rattle.export_formulas.specs.Laws.FormulaLaws.{put-in, answer-in}
+use Rattle.export_words.specs.Words.{wordsOf}
+use Rattle.export_formulas.specs.Formulas.{numbersOf}
 use Rattle.exports.specs.Laws.ReadingLaws.{without-reply, without-numbers, without-images, none-read}
 use Rattle.exports.specs.Laws.ReadingLaws.{tells-reading}
 use Rattle.exports.proofs.reading.jugbowo_read.Statement.{statement}

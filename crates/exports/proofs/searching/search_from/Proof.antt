@@ -4,7 +4,7 @@ use mathlib.Core.Path.{_≡_, sym}
 use lib.Seq.{length-take-le}
 use Rattle.formula.specs.Limits.{maxImages}
 use Rattle.export_words.specs.Laws.SearchingLaws.{searched-as}
-use Rattle.export_words.specs.Laws.WordLaws.{lent-images}
+use Rattle.export_formulas.specs.Laws.FormulaLaws.{lent-images}
 use Rattle.exports.proofs.searching.search_from.Statement.{statement}
 use Rattle.exports.proofs.searching.search_from.Tie as tie
 

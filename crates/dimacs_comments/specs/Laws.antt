@@ -1,5 +1,0 @@
--- Laws, and what functions inside the library promise each other: no contract of an entry point cites any of it.
-pub mod CommentScans
-pub mod CommentScanLaws
-pub mod HandlerScans
-pub mod HandlerLaws

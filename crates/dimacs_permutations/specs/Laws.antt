@@ -1,0 +1,5 @@
+-- Laws, and what functions inside the library promise each other: no contract of an entry point cites any of it.
+pub mod PermutationScans
+pub mod PermutationScanLaws
+pub mod HandlerScans
+pub mod HandlerLaws
