@@ -143,6 +143,7 @@ static void sheets(void) {
                    wrong[] = {JUGBOWO_REFUSED, 10, 0, 0};
     uint64_t reply[4];
     uint8_t out[64], before[64];
+    memset(room, 9, sizeof room);
     memset(out, 9, sizeof out);
     memset(before, 9, sizeof before);
     expect("a sheet, one byte short",
@@ -159,7 +160,8 @@ static void sheets(void) {
                           memcmp(out + size, before, sizeof out - size) == 0);
     expect("a sheet, with room",
            jugbowo_write_sheet(2, 4, 2, 1, images, 2, positive, 4, negative, 4, room, sizeof room, reply, 4) == 1 &&
-               memcmp(reply, written, sizeof reply) == 0 && memcmp(room, wanted, size) == 0 && room[size] == 0);
+               memcmp(reply, written, sizeof reply) == 0 && memcmp(room, wanted, size) == 0 && room[size] == 9 &&
+               memcmp(room + size, room + size + 1, sizeof room - size - 1) == 0);
 }
 
 /* What the program prints for case B: with no room, one byte short, and exactly fitting. */
