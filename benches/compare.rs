@@ -46,7 +46,8 @@ struct Measuring {
 }
 
 impl Measuring {
-    // A row, of which `bytes` are read or written where a speed is told. Both answer the same words before they are timed.
+    // A row, of which `bytes` are read or written where a speed is told. Both answer the same words before they are
+    // timed.
     fn row(
         &mut self,
         (sheet, step, detail): (&str, &'static str, String),

@@ -1,6 +1,6 @@
-// Writing sheets as texts beside the baseline's writer and beside reading what was written, in one run by turns: for each
-// sheet handed over, and for the one whose rules are longest, which is too long to be read. Both writers give the same
-// text, and reading it gives the sheet, or the program stops.
+// Writing sheets as texts beside the baseline's writer and beside reading what was written, in one run by turns: for
+// each sheet handed over, and for the one whose rules are longest, which is too long to be read. Both writers give the
+// same text, and reading it gives the sheet, or the program stops.
 //
 // Usage: writing SECONDS FILE .. (SECONDS: how long a measurement goes on). Prints a table of speeds in MB of text a
 // second: writing with the output that always suffices, and with one as long as the text, which is measured first; the
@@ -16,7 +16,7 @@ mod sheets;
 use library::{Sheet, PARSED, SHEET_ROOM, WRITTEN};
 use std::hint::black_box;
 
-// MB a second: writing with room, writing without a byte to spare, the baseline, and reading if the text is not too long.
+// MB a second: writing with room and without a byte to spare, the baseline, and reading if the text is not too long.
 struct Speeds {
     writing: [f64; 2],
     baseline: f64,

@@ -397,7 +397,8 @@ impl Case {
         }
     }
 
-    // Reading a written text gives the same sheet, unused bytes 0, and the same rules, of which the same text is written.
+    // Reading a written text gives the same sheet, unused bytes 0, and the same rules; written again they give the same
+    // text.
     fn read_back(&mut self, s: &reference::Sheet, text: &[u8]) {
         let (rules, used) = (s.rules as usize, (s.names * s.exchanges) as usize);
         let room = rules + self.random.below(3) as usize;

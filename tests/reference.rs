@@ -240,8 +240,8 @@ fn rule_line((yes, no): (u64, u64), n: u32) -> String {
     line + "0"
 }
 
-// 2026-02: "problem line, wish line, exchange lines, then a line a rule .. one byte 32 between words, byte 10 after each
-// line".
+// 2026-02: "problem line, wish line, exchange lines, then a line a rule .. no leading zeros, one byte 32 between words,
+// byte 10 after each line".
 fn sheet_text(sheet: &Sheet) -> String {
     let digit = |i: u32| if sheet.wish >> i & 1 == 1 { '1' } else { '0' };
     let numbers = |e: &[u8]| e.iter().map(u8::to_string).collect::<Vec<_>>().join(" ");

@@ -1,6 +1,6 @@
 /* Document 01's worked cases through the C header: texts solved in one call, the certificate of case A with its
- * exchange byte for byte, texts read and written, and what the program prints. Prints a line for each that is not answered as
- * expected and a count; exit status 1 if there is one. */
+ * exchange byte for byte, texts read and written, and what the program prints. Prints a line for each that is not
+ * answered as expected and a count; exit status 1 if there is one. */
 #include "../include/jugbowo.h"
 #include <stdio.h>
 #include <string.h>

@@ -215,8 +215,8 @@ fn long(count: &mut Count) {
     }
 }
 
-// A sheet whose text has a mebibyte and so many bytes: rules of 432 bytes, one with as many literals as are missing, and
-// empty rules, of two bytes.
+// A sheet whose text has a mebibyte and so many bytes: rules of 432 bytes, one with as many literals as are missing,
+// and empty rules, of two bytes.
 fn about_a_mebibyte(extra: usize) -> Sheet {
     let missing = MIB + extra - (14 + 72) - 2 * 4096;
     let (full, mut left) = (missing / 430, missing % 430);
