@@ -1,7 +1,8 @@
 // An implementation of document 01, with the requests of document 02 that are in, in plain Rust for the library to be
 // timed beside, written for speed: one pass over a text, points in the standard library's hash set as it comes, clauses
-// tried eight at a time, permutations as rotations of masks, images made only where a flip itself is not found.
-// compare.rs stops where its answers are not the library's.
+// tried eight at a time, permutations as rotations of masks, images made only where a flip itself is not found, texts
+// measured by counting bits and written by words spelled beforehand. compare.rs and writing.rs stop where its answers
+// are not the library's.
 #![allow(dead_code)] // a program uses some of them
 use std::collections::HashSet;
 use std::hash::{BuildHasherDefault, Hasher};
@@ -315,6 +316,130 @@ impl Clauses<'_> {
         }
         (at..count).find(one)
     }
+}
+
+// ---- the writer of sheets
+
+// Literals as they stand in a text: four bytes, the last a blank, of which the first so many count.
+type Literals = [([u8; 4], usize); VARIABLES as usize];
+
+const POSITIVE: Literals = literals(b"");
+const NEGATIVE: Literals = literals(b"-");
+
+const fn literals(sign: &[u8]) -> Literals {
+    let mut all = [([b' '; 4], 0); VARIABLES as usize];
+    let mut i = 0;
+    while i < all.len() {
+        let (tens, units) = ((i + 1) / 10, (i + 1) % 10);
+        let (word, length) = &mut all[i];
+        if !sign.is_empty() {
+            word[0] = sign[0];
+            *length = 1;
+        }
+        if tens > 0 {
+            word[*length] = b'0' + tens as u8;
+            *length += 1;
+        }
+        word[*length] = b'0' + units as u8;
+        *length += 2;
+        i += 1;
+    }
+    all
+}
+
+// How many bytes the numbers of a set take, a blank behind each: those from 10 on have one more.
+fn listed(set: u64) -> usize {
+    2 * set.count_ones() as usize + (set >> 9).count_ones() as usize
+}
+
+// What is written so far of a text that is known to fit.
+struct Pen<'a> {
+    text: &'a mut [u8],
+    at: usize,
+}
+
+impl Pen<'_> {
+    fn put(&mut self, bytes: &[u8]) {
+        self.text[self.at..self.at + bytes.len()].copy_from_slice(bytes);
+        self.at += bytes.len();
+    }
+
+    // A number of up to four digits, with a byte behind it.
+    fn number(&mut self, value: u32, behind: u8) {
+        let mut digits = [b'0', b'0', b'0', b'0', behind];
+        let mut left = value;
+        for digit in digits[..4].iter_mut().rev() {
+            *digit += (left % 10) as u8;
+            left /= 10;
+        }
+        let zeros = usize::from(value < 10) + usize::from(value < 100) + usize::from(value < 1000);
+        self.put(&digits[zeros..]);
+    }
+
+    // A literal with another word behind it. Four bytes are stored whatever it has: the others are stored later.
+    fn literal(&mut self, (word, length): ([u8; 4], usize)) {
+        self.text[self.at..self.at + 4].copy_from_slice(&word);
+        self.at += length;
+    }
+
+    // The digits of a target, and byte 10.
+    fn target(&mut self, point: u64, n: usize) {
+        let digits = &mut self.text[self.at..self.at + n];
+        digits.iter_mut().enumerate().for_each(|(i, digit)| *digit = b'0' + (point >> i & 1) as u8);
+        self.at += n;
+        self.put(b"\n");
+    }
+
+    fn clause(&mut self, positive: u64, negative: u64) {
+        let both = positive & negative;
+        for variable in each(positive | negative) {
+            let word = if positive >> variable & 1 == 1 { POSITIVE[variable] } else { NEGATIVE[variable] };
+            self.literal(word);
+            if both >> variable & 1 == 1 {
+                self.literal(NEGATIVE[variable]);
+            }
+        }
+        self.put(b"0\n");
+    }
+}
+
+// Whether images are those of a permutation: as many as there are, each once.
+fn permutes(images: &[u8]) -> bool {
+    let bit = |image: u8| 1u64.checked_shl(u32::from(image).wrapping_sub(1)).unwrap_or(0);
+    images.iter().fold(0, |found, &image| found | bit(image)) == u64::MAX >> (64 - images.len())
+}
+
+// Writes a formula and its clauses as a text; answers its length.
+pub fn write_sheet(formula: &Formula, clauses: Clauses, out: &mut [u8]) -> Result<usize, Refusal> {
+    clauses.fit(formula, formula.target)?;
+    let (n, count) = (formula.variables as usize, formula.permutations as usize);
+    if count > PERMUTATIONS {
+        return Err((11, 17));
+    }
+    let permutations = || formula.images.chunks_exact(n).take(count);
+    if let Some(k) = permutations().position(|images| !permutes(images)) {
+        return Err((11, k as u64 + 1));
+    }
+    let digits = |value: u32| value.checked_ilog10().unwrap_or(0) as usize + 1;
+    let head = 8 + digits(formula.variables) + digits(formula.clauses) + 8 + n;
+    let exchanges = count * (7 + listed(u64::MAX >> (64 - n)));
+    let lines: usize = clauses.pairs().map(|(p, q)| listed(p) + listed(q) + q.count_ones() as usize + 2).sum();
+    let length = head + exchanges + lines;
+    let text = out.get_mut(..length).ok_or((19, length as u64))?;
+    let mut pen = Pen { text, at: 0 };
+    pen.put(b"p cnf ");
+    pen.number(formula.variables, b' ');
+    pen.number(formula.clauses, b'\n');
+    pen.put(b"c wish ");
+    pen.target(formula.target, n);
+    for images in permutations() {
+        pen.put(b"c exch ");
+        let (last, others) = images.split_last().expect("a variable");
+        others.iter().for_each(|&image| pen.literal(POSITIVE[usize::from(image) - 1]));
+        pen.number(u32::from(*last), b'\n');
+    }
+    clauses.pairs().for_each(|(positive, negative)| pen.clause(positive, negative));
+    Ok(pen.at)
 }
 
 // ---- the search

@@ -1,7 +1,8 @@
 // The library beside baseline.rs, an implementation of document 01 in plain Rust that was written for speed: same
-// inputs, same run, and the same answers, or the program stops. For each sheet handed over: reading it, searching with
-// 4,096 and with 65,536 slots, where no point satisfies it writing and checking the certificate, and the whole in one
-// call, from the text to the answer, with 4,096 slots. Both take turns, and the least time counts.
+// inputs, same run, and the same answers, or the program stops. For each sheet handed over: reading it, writing it as a
+// text, with the output that always suffices and with one as long as the text, searching with 4,096 and with 65,536
+// slots, where no point satisfies it writing and checking the certificate, and the whole in one call, from the text to
+// the answer, with 4,096 slots. Both take turns, and the least time counts.
 //
 // The ratio is the baseline's time to the library's: above 1 the library is faster. Rows stand with the worst ratio
 // last; below them is for each step the geometric mean, the worst ratio and how many rows are below 1.
@@ -16,7 +17,7 @@ mod library;
 use baseline::{Answer, Refusal, Slots};
 use beside::{clauses, formula, told, words};
 use clock::least;
-use library::{Sheet, ACCEPTED, CERTIFIED, PARSED, UNSATISFIABLE, WRITTEN};
+use library::{Sheet, ACCEPTED, CERTIFIED, PARSED, SHEET_ROOM, UNSATISFIABLE, WRITTEN};
 use std::hint::black_box;
 
 const FEW: usize = 4096;
@@ -45,7 +46,8 @@ struct Measuring {
 }
 
 impl Measuring {
-    // A row, of which `bytes` are read where a speed is told. Both answer the same words before they are timed.
+    // A row, of which `bytes` are read or written where a speed is told. Both answer the same words before they are
+    // timed.
     fn row(
         &mut self,
         (sheet, step, detail): (&str, &'static str, String),
@@ -71,6 +73,7 @@ impl Measuring {
 
     fn sheet(&mut self, name: &str, text: &[u8]) {
         if let Some(s) = self.reading(name, text) {
+            self.writing(name, &s);
             let few = self.searching(name, &s, "search, 4096 slots lent", FEW);
             let many = self.searching(name, &s, "search, 65536 slots lent", MANY);
             if let Some((slots, filled)) = few.or(many) {
@@ -109,6 +112,25 @@ impl Measuring {
             positive,
             negative,
         })
+    }
+
+    fn writing(&mut self, name: &str, s: &Sheet) {
+        let (f, c, mut reply) = (&formula(s), clauses(s), [9; 4]);
+        let length = baseline::write_sheet(f, c, &mut vec![0; SHEET_ROOM]).expect("a sheet that was read");
+        for (step, room) in [("write_sheet, 1846470 bytes lent", SHEET_ROOM), ("write_sheet, no byte to spare", length)]
+        {
+            let (mut ours, mut theirs) = (vec![0; room], vec![0; room]);
+            self.row(
+                (name, step, format!(", {length} bytes")),
+                Some(length),
+                || {
+                    assert_eq!(library::write_sheet(black_box(s), &mut ours, &mut reply), 1);
+                    reply
+                },
+                || words(&baseline::write_sheet(f, black_box(c), &mut theirs), |&size| [WRITTEN, size as u64, 0, 0]),
+            );
+            assert_eq!(ours, theirs);
+        }
     }
 
     // Answers the slots and how many are filled where no point satisfies the clauses.

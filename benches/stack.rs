@@ -8,7 +8,7 @@ mod library;
 #[path = "../tests/sheets.rs"]
 mod sheets;
 use depth::used;
-use library::{Slot, ACCEPTED, CERTIFIED, OPENED, PARSED, UNSATISFIABLE, WRITTEN};
+use library::{Slot, ACCEPTED, CERTIFIED, OPENED, PARSED, SHEET_ROOM, UNSATISFIABLE, WRITTEN};
 
 // The functions in the order in which they were called, with the bytes that each took.
 type Taken = Vec<(&'static str, usize)>;
@@ -28,6 +28,8 @@ fn taken(variables: u32, clauses: &[(u64, u64)], permutations: &[Vec<u8>], room:
     let mut t = Vec::new();
     let (mut p, mut q, mut four, mut kilo) = (vec![0; 4096], vec![0; 4096], [0; 4], [0; 1024]);
     call(&mut t, "read", PARSED, &mut |reply| library::read(text, &mut p, &mut q, &mut four, &mut kilo, reply));
+    let mut written = vec![0; SHEET_ROOM];
+    call(&mut t, "write_sheet", WRITTEN, &mut |reply| library::write_sheet(s, &mut written, reply));
     let (mut points, mut numbers, mut depths) = (vec![0; room], vec![0; room], vec![0; room]);
     let mut slots = vec![Slot { point: 0, falsified: 0, depth: 0 }; room];
     let mut out = vec![0; 32 + 1024 + 12 * room];

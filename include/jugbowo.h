@@ -20,7 +20,7 @@
  *   JUGBOWO_UNKNOWN        bound, filled      no room; every satisfying point differs from the target in at least
  *                                             `bound` variables
  *   JUGBOWO_PARSED                            the text is read
- *   JUGBOWO_WRITTEN        bytes              the certificate takes the first so many bytes of the output
+ *   JUGBOWO_WRITTEN        bytes              the certificate, or the text, takes the first so many bytes of the output
  *   JUGBOWO_OPENED                            the file's contents are in order
  *   JUGBOWO_ACCEPTED                          the certificate is accepted: no point satisfies the clauses
  *   JUGBOWO_CERTIFIED      filled, bytes      unsatisfiable, with its certificate in the first so many bytes of the
@@ -59,6 +59,9 @@ enum {
     JUGBOWO_UNCERTIFIED = 9
 };
 
+/* Bytes of output that always suffice for jugbowo_write_sheet: no text that it writes is longer. */
+enum { JUGBOWO_SHEET_ROOM = 1846470 };
+
 /* Reads a DIMACS text, up to its end or to a line behind the problem line that begins with a percent sign and otherwise
  * holds blanks; the bytes behind it count for refusal 1 alone. Takes the text; leaves the clauses in the first places
  * of `positive` and `negative`, the formula's four numbers (variables, clauses, target, permutations) in the first
@@ -71,6 +74,26 @@ uint32_t jugbowo_read(const uint8_t *text, size_t text_len,
                       uint64_t *numbers, size_t numbers_len,
                       uint8_t *images, size_t images_len,
                       uint64_t *reply, size_t reply_len);
+
+/* Writes a formula and its clauses as a DIMACS text, which jugbowo_read reads back: the problem line, the wish line
+ * (where the target is 0 too), an exchange line for each permutation, then a line for each clause: its variables
+ * ascending, one that is listed both ways yes before no, and a closing 0. Numbers have no leading zeros, one blank
+ * (byte 32) stands between words, and byte 10 behind each line. Takes a formula with exactly `clauses` places in both
+ * clause slices; leaves the text at the front of `out` and the bytes behind it alone, and changes nothing else but
+ * `reply`. Answers: refusals 10, 11, 19 (with the bytes needed) in this order, or written.
+ *
+ * Read back with clause slices of `clauses` places or more, a text of at most 1,048,576 bytes gives the same four
+ * numbers and clauses and the same images, 0 behind those of the permutations; a longer one is written all the same,
+ * and refused by 1 when it is read. Whether the permutations keep the clauses is not tested: there is no refusal 12.
+ *
+ * JUGBOWO_SHEET_ROOM bytes of output always suffice, and with so many or more the text is made in one pass; with fewer
+ * it is measured first, which is a second. Stack: always 8 KiB. */
+uint32_t jugbowo_write_sheet(uint32_t variables, uint32_t clauses, uint64_t target, uint32_t permutations,
+                             const uint8_t *images, size_t images_len,
+                             const uint64_t *positive, size_t positive_len,
+                             const uint64_t *negative, size_t negative_len,
+                             uint8_t *out, size_t out_len,
+                             uint64_t *reply, size_t reply_len);
 
 /* Searches from the target for the nearest satisfying point. Takes a formula with exactly `clauses` places in both
  * clause slices; fills slots from the front of the three slot slices, of which the shortest counts, at most 65,536.

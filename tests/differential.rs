@@ -55,6 +55,12 @@ impl Random {
         let first = self.next();
         (0..len as u64).map(|i| first.wrapping_add(i)).collect()
     }
+
+    // The same for bytes.
+    fn bytes(&mut self, len: usize) -> Vec<u8> {
+        let first = self.next() as u8;
+        (0..len).map(|i| first.wrapping_add(i as u8)).collect()
+    }
 }
 
 fn narrow(xs: &[u64]) -> Vec<u32> {
@@ -120,6 +126,36 @@ fn sheet(r: &mut Random) -> reference::Sheet {
         yes: rules.iter().map(|x| x.0).collect(),
         no: rules.iter().map(|x| x.1).collect(),
     }
+}
+
+// A set of names below a bound: none, all, or more or less many.
+fn names_below(r: &mut Random, below: u64) -> u64 {
+    below
+        & match r.below(6) {
+            0 => 0,
+            1 => u64::MAX,
+            2 => r.next(),
+            3 => r.next() | r.next() | r.next(),
+            _ => r.next() & r.next() & r.next(),
+        }
+}
+
+// A sheet of any size, to be written: any number of names and of exchanges, which need not keep the rules; rules that
+// list none to all of the names, also both ways; behind the exchanges any bytes.
+fn any_sheet(r: &mut Random) -> reference::Sheet {
+    let names = 1 + r.below(64) as u32;
+    let below = u64::MAX >> (64 - names);
+    let most = *r.pick(&[1, 4, 12, 40, 200]);
+    let rules = if r.chance(100) { 4096 - r.below(2) } else { r.below(most) };
+    let full = r.chance(6);
+    let mut sets = || (0..rules).map(|_| if full { below } else { names_below(r, below) }).collect::<Vec<u64>>();
+    let (yes, no) = (sets(), sets());
+    let some = [0, 1, 2, 16, r.below(17)];
+    let mut bytes: Vec<u8> = (0..*r.pick(&some)).flat_map(|_| r.permutation(names)).collect();
+    let exchanges = bytes.len() as u32 / names;
+    bytes.extend(r.bytes(1024 - bytes.len()));
+    let wish = names_below(r, below);
+    reference::Sheet { names, rules: rules as u32, wish, exchanges, bytes, yes, no }
 }
 
 // Two names exchanged, or none.
@@ -312,6 +348,81 @@ impl Case {
         }
     }
 
+    // A sheet as it is lent, with fewer images than 1,024, which then count as 0, or with more, which do not count.
+    fn lent_in_part(&mut self, s: &mut reference::Sheet) -> library::Sheet {
+        let used = (s.names.min(64) * s.exchanges.min(16)) as u64;
+        let count = *self.random.pick(&[1024, 1024, 1030, used, used.saturating_sub(1)]) as usize;
+        s.bytes.iter_mut().skip(count).for_each(|image| *image = 0);
+        let mut all = lent(s);
+        all.images.resize(count, 9);
+        all
+    }
+
+    // A length of output: short of the bytes needed, as many, more, or about as many as always suffice.
+    fn room_for(&mut self, needed: usize) -> usize {
+        let short = self.random.below(needed as u64) as usize;
+        let more = needed + self.random.below(300) as usize;
+        let always = library::SHEET_ROOM - 1 + self.random.below(3) as usize;
+        let lengths = [0, short, needed - 1, needed, needed, needed + 1, more];
+        if self.random.chance(12) {
+            always
+        } else {
+            *self.random.pick(&lengths)
+        }
+    }
+
+    // A sheet written as a text, and what reading it gives.
+    fn sheet_writer(&mut self) {
+        let mut s = any_sheet(&mut self.random);
+        if self.random.chance(4) {
+            bend(&mut self.random, &mut s);
+        }
+        let lent = self.lent_in_part(&mut s);
+        let room = self.room_for(reference::write_sheet(&s, usize::MAX).map_or(40, |text| text.len()));
+        let (before, held) = (self.random.bytes(room), lent.clone());
+        let (mut out, mut reply) = (before.clone(), [3; 5]);
+        self.same("returned", library::write_sheet(&lent, &mut out, &mut reply), 1);
+        self.saw("write_sheet", &reply);
+        self.holds("the sheet lent is as it was", lent == held);
+        match reference::write_sheet(&s, room) {
+            Ok(text) => {
+                self.same("written", reply.to_vec(), vec![5, text.len() as u64, 0, 0, 3]);
+                self.same("output", out, [&text[..], &before[text.len()..]].concat());
+                self.read_back(&s, &text);
+            }
+            Err(r) => {
+                self.same("refused by the writer of sheets", reply.to_vec(), [&refused(r)[..], &[3]].concat());
+                self.same("output after a refusal", out, before);
+            }
+        }
+    }
+
+    // Reading a written text gives the same sheet, unused bytes 0, and the same rules; written again they give the same
+    // text.
+    fn read_back(&mut self, s: &reference::Sheet, text: &[u8]) {
+        let (rules, used) = (s.rules as usize, (s.names * s.exchanges) as usize);
+        let room = rules + self.random.below(3) as usize;
+        let (mut positive, mut negative) = (vec![5; room], vec![5; room]);
+        let (mut numbers, mut images, mut reply) = ([3; 4], vec![3; 1024], [3; 4]);
+        let returned = library::read(text, &mut positive, &mut negative, &mut numbers, &mut images, &mut reply);
+        self.same("returned", returned, 1);
+        if text.len() > 1 << 20 {
+            return self.same("a text too long to be read", reply, [0, 1, 1 << 20, 0]);
+        }
+        self.same("read back", reply, [4, 0, 0, 0]);
+        self.same("numbers read back", numbers, [s.names.into(), s.rules.into(), s.wish, s.exchanges.into()]);
+        self.same("exchanges read back", &images, &[&s.bytes[..used], &vec![0; 1024 - used]].concat());
+        self.same("yes read back", &positive[..rules], &s.yes[..]);
+        self.same("no read back", &negative[..rules], &s.no[..]);
+        positive.truncate(rules);
+        negative.truncate(rules);
+        let [variables, clauses, permutations] = [numbers[0], numbers[1], numbers[3]].map(|x| x as u32);
+        let again = library::Sheet { variables, clauses, target: numbers[2], permutations, images, positive, negative };
+        let (mut out, mut answer) = (vec![3; text.len()], [3; 4]);
+        self.same("returned", library::write_sheet(&again, &mut out, &mut answer), 1);
+        self.same("written again", (answer, &out[..]), ([5, text.len() as u64, 0, 0], text));
+    }
+
     // A search over three slices, compared; the sheet, the reply and the slots.
     fn builder(&mut self) -> (reference::Sheet, Reply, Vec<Slot>) {
         let mut s = sheet(&mut self.random);
@@ -393,7 +504,7 @@ impl Case {
         let wanted = reference::write(&s, &points, &numbers, depths.len(), count, usize::MAX);
         let needed = wanted.as_ref().map_or(40, Vec::len);
         let room = needed + *self.random.pick(&[0, 0, 1, 9]) - usize::from(self.random.chance(4));
-        let before: Vec<u8> = self.random.filled(room).iter().map(|&x| x as u8).collect();
+        let before = self.random.bytes(room);
         let (mut out, mut answer) = (before.clone(), [3; 5]);
         self.same("returned", library::write(&lent(&s), &points, &numbers, &depths, count, &mut out, &mut answer), 1);
         self.saw("write", &answer);
@@ -478,8 +589,9 @@ impl Case {
             library::open(&bytes, &mut [0; 8], &mut words),
             library::open(&bytes, &mut words, &mut four),
             library::solve(&bytes, &mut points, &mut numbers, &mut depths, &mut out, &mut words),
+            library::write_sheet(&s, &mut out, &mut words),
         ];
-        self.same("returned without room", returned, [0; 9]);
+        self.same("returned without room", returned, [0; 10]);
         self.holds(
             "slots and output unchanged",
             points == [5; 9] && numbers == [5; 9] && depths == [5; 9] && out == [5; 99],
@@ -521,13 +633,8 @@ impl Case {
             damage(&mut self.random, &mut bytes);
         }
         let slots = *self.random.pick(&[0, 1, 4, 16, 300]);
-        let before: Vec<u8> = {
-            let room = *self.random.pick(&[0, 60, 4000]);
-            self.random.filled(room)
-        }
-        .iter()
-        .map(|&x| x as u8)
-        .collect();
+        let room = *self.random.pick(&[0, 60, 4000]);
+        let before = self.random.bytes(room);
         let (mut points, mut numbers, mut depths) = (vec![5; slots], vec![5; slots], vec![5; slots]);
         let (mut out, mut reply) = (before.clone(), [3; 5]);
         self.same("returned", library::solve(&bytes, &mut points, &mut numbers, &mut depths, &mut out, &mut reply), 1);
@@ -563,7 +670,7 @@ impl Case {
         let wanted = reference::printed(bytes).into_bytes();
         let size = wanted.len();
         let room = *self.random.pick(&[0, size - 1, size, size + 9]);
-        let before: Vec<u8> = self.random.filled(room).iter().map(|&x| x as u8).collect();
+        let before = self.random.bytes(room);
         let mut out = before.clone();
         self.same("bytes printed", library::nearest(bytes, &mut out), size);
         let left = if size <= room { [&wanted[..], &before[size..]].concat() } else { before };
@@ -574,12 +681,16 @@ impl Case {
 fn main() {
     let mut words = std::env::args().skip(1).map(|w| w.parse::<u64>().expect("a number"));
     let (seed, count) = (words.next().expect("a seed"), words.next().expect("a count"));
-    let kinds: [(&str, fn(&mut Case)); 3] =
-        [("reader", Case::reader), ("search, writer and checker", Case::certificates), ("solver", Case::solver)];
+    let kinds: [(&str, fn(&mut Case)); 4] = [
+        ("reader", Case::reader),
+        ("search, writer and checker", Case::certificates),
+        ("solver", Case::solver),
+        ("writer of sheets", Case::sheet_writer),
+    ];
     let mut failed = 0;
     let mut seen: BTreeMap<Answer, u64> = BTreeMap::new();
     for own in seed..seed + count {
-        let kind = kinds[(own % 3) as usize];
+        let kind = kinds[(own % 4) as usize];
         let mut case = Case { random: Random::new(own), wrong: Vec::new(), seen: Vec::new() };
         (kind.1)(&mut case);
         case.entries();

@@ -7,10 +7,11 @@ use std::fmt::Debug;
 mod sys;
 pub use sys::{image_at, nearest, number_at, open, point_at, read, solve, Slot};
 pub use sys::{
-    ACCEPTED, CERTIFIED, OPENED, PARSED, REFUSED, SATISFIABLE, UNCERTIFIED, UNKNOWN, UNSATISFIABLE, WRITTEN,
+    ACCEPTED, CERTIFIED, OPENED, PARSED, REFUSED, SATISFIABLE, SHEET_ROOM, UNCERTIFIED, UNKNOWN, UNSATISFIABLE, WRITTEN,
 };
 
 // A formula with its clauses.
+#[derive(Clone, PartialEq, Debug)]
 pub struct Sheet {
     pub variables: u32,
     pub clauses: u32,
@@ -33,6 +34,10 @@ impl Sheet {
             negative: &self.negative,
         }
     }
+}
+
+pub fn write_sheet(s: &Sheet, out: &mut [u8], reply: &mut [u64]) -> u32 {
+    sys::write_sheet(&s.lent(), out, reply)
 }
 
 pub fn search(s: &Sheet, points: &mut [u64], falsified: &mut [u32], depths: &mut [u32], reply: &mut [u64]) -> u32 {

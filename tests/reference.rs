@@ -226,6 +226,42 @@ pub fn read(text: &[u8], yes_room: usize, no_room: usize) -> Result<Sheet, Refus
     })
 }
 
+// 2026-02: "names ascending, a name listed both ways yes before no, closing 0".
+fn rule_line((yes, no): (u64, u64), n: u32) -> String {
+    let mut line = String::new();
+    for i in 0..n {
+        if yes >> i & 1 == 1 {
+            line += &format!("{} ", i + 1);
+        }
+        if no >> i & 1 == 1 {
+            line += &format!("-{} ", i + 1);
+        }
+    }
+    line + "0"
+}
+
+// 2026-02: "problem line, wish line, exchange lines, then a line a rule .. no leading zeros, one byte 32 between words,
+// byte 10 after each line".
+fn sheet_text(sheet: &Sheet) -> String {
+    let digit = |i: u32| if sheet.wish >> i & 1 == 1 { '1' } else { '0' };
+    let numbers = |e: &[u8]| e.iter().map(u8::to_string).collect::<Vec<_>>().join(" ");
+    let mut lines = vec![format!("p cnf {} {}", sheet.names, sheet.rules)];
+    lines.push(format!("c wish {}", (0..sheet.names).map(digit).collect::<String>()));
+    lines.extend(sheet.listed().iter().map(|e| format!("c exch {}", numbers(e))));
+    lines.extend(sheet.both().iter().map(|&rule| rule_line(rule, sheet.names)));
+    lines.join("\n") + "\n"
+}
+
+// 2026-02: "It gives 10, 11, then 19 for short output".
+pub fn write_sheet(sheet: &Sheet, room: usize) -> Result<Vec<u8>, Refusal> {
+    sheet.well_formed()?;
+    let text = sheet_text(sheet);
+    if room < text.len() {
+        return Err((19, text.len() as u128));
+    }
+    Ok(text.into_bytes())
+}
+
 // "The image of a choice has at e(i) the value that the choice has at i".
 fn image(e: &[u8], set: u64) -> u64 {
     (0..e.len()).filter(|&i| set >> i & 1 == 1).map(|i| 1 << (e[i] - 1)).sum()
@@ -264,13 +300,18 @@ impl Sheet {
         Ok(())
     }
 
-    // Rows 10, 11 and 12.
-    fn tested(&self) -> Result<(), Refusal> {
+    // Rows 10 and 11.
+    fn well_formed(&self) -> Result<(), Refusal> {
         self.ten(true)?;
         if self.exchanges > MOST_EXCHANGES {
             return Err((11, 17));
         }
-        permutations(&self.listed(), self.names)?;
+        permutations(&self.listed(), self.names)
+    }
+
+    // Rows 10, 11 and 12.
+    fn tested(&self) -> Result<(), Refusal> {
+        self.well_formed()?;
         keep(&self.listed(), &self.both())
     }
 

@@ -163,6 +163,39 @@ fn writer(v: &Vector, d: &mut Differences) {
     d.compare("output", out, over(v.bytes("after-bytes"), &before));
 }
 
+fn sheet_writer(v: &Vector, d: &mut Differences) {
+    let before: Vec<u8> = v.filled(v.numbers("lent")[0] as usize).into_iter().map(|x| x as u8).collect();
+    let (mut out, mut reply) = (before.clone(), vec![7u64; 5]);
+    let returned = library::write_sheet(&v.sheet(), &mut out, &mut reply);
+    d.compare("returned", returned, 1);
+    d.compare("reply", reply, over(reply_words(v.words("answer")), &[7; 5]));
+    d.compare("output", out, over(v.bytes("after-bytes"), &before));
+}
+
+// The same sheet written with the room that always suffices: nothing is refused by 19, whose place is the length.
+fn sheet_writer_with_room(v: &Vector, d: &mut Differences) {
+    let before = vec![7u8; library::SHEET_ROOM];
+    let (mut out, mut reply) = (before.clone(), vec![7u64; 5]);
+    let returned = library::write_sheet(&v.sheet(), &mut out, &mut reply);
+    let mut words = reply_words(v.words("answer"));
+    let short = words[..2] == [library::REFUSED, 19];
+    if short {
+        words = vec![library::WRITTEN, words[2], 0, 0];
+    }
+    d.compare("returned", returned, 1);
+    d.compare("reply", reply, over(words.clone(), &[7; 5]));
+    if short {
+        let length = words[1] as usize;
+        d.compare(
+            "last byte of the text, and those behind it",
+            &out[length - 1..],
+            &over(vec![10], &before[length - 1..]),
+        );
+    } else {
+        d.compare("output", out, over(v.bytes("after-bytes"), &before));
+    }
+}
+
 // The same sheet searched over one slice of slots, as many as the shortest of the three slices has: the reply and the
 // slots are the parallel form's.
 fn builder_slots(v: &Vector, d: &mut Differences) {
@@ -301,7 +334,7 @@ fn vectors(text: &str) -> Vec<Vector<'_>> {
 fn main() {
     let path = std::env::args().nth(1).expect("a file of vectors");
     let text = std::fs::read_to_string(path).expect("the vectors");
-    let kinds: [(&str, &str, fn(&Vector, &mut Differences)); 7] = [
+    let kinds: [(&str, &str, fn(&Vector, &mut Differences)); 9] = [
         ("reader", "", reader),
         ("builder", "", builder),
         ("builder", " over slots", builder_slots),
@@ -309,8 +342,14 @@ fn main() {
         ("writer", "", writer),
         ("writer", " from slots", writer_slots),
         ("nearest", "", nearest),
+        ("write_sheet", "", sheet_writer),
+        ("write_sheet", " with room", sheet_writer_with_room),
     ];
     let all = vectors(&text);
+    if let Some(v) = all.iter().find(|v| kinds.iter().all(|kind| kind.0 != v.kind)) {
+        println!("{}: no vector of the kind {} is run: add a function for it to tests/vectors.rs", v.id, v.kind);
+        std::process::exit(1);
+    }
     let (mut passed, mut failed) = (0, 0);
     for (kind, form, test) in kinds {
         let (mut run, mut wrong) = (0, 0);

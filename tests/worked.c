@@ -1,6 +1,6 @@
 /* Document 01's worked cases through the C header: texts solved in one call, the certificate of case A with its
- * exchange byte for byte, texts read, and what the program prints. Prints a line for each that is not answered as
- * expected and a count; exit status 1 if there is one. */
+ * exchange byte for byte, texts read and written, and what the program prints. Prints a line for each that is not
+ * answered as expected and a count; exit status 1 if there is one. */
 #include "../include/jugbowo.h"
 #include <stdio.h>
 #include <string.h>
@@ -131,6 +131,39 @@ static void texts(void) {
            memcmp(numbers, b, sizeof b) == 0 && images[0] == 0 && memcmp(images, images + 1, sizeof images - 1) == 0);
 }
 
+/* Case A with exchange 2 1 and another wish, written as a text: exactly fitting, one byte short, with the room that
+ * always suffices, and with a wish that has a bit above n. */
+static void sheets(void) {
+    static uint8_t room[JUGBOWO_SHEET_ROOM];
+    const char *wanted = "p cnf 2 4\nc wish 01\nc exch 2 1\n" CLAUSES_A;
+    const size_t size = strlen(wanted);
+    const uint8_t images[] = {2, 1};
+    const uint64_t positive[] = {3, 2, 1, 0}, negative[] = {0, 1, 2, 3};
+    const uint64_t written[] = {JUGBOWO_WRITTEN, size, 0, 0}, small[] = {JUGBOWO_REFUSED, 19, size, 0},
+                   wrong[] = {JUGBOWO_REFUSED, 10, 0, 0};
+    uint64_t reply[4];
+    uint8_t out[64], before[64];
+    memset(room, 9, sizeof room);
+    memset(out, 9, sizeof out);
+    memset(before, 9, sizeof before);
+    expect("a sheet, one byte short",
+           jugbowo_write_sheet(2, 4, 2, 1, images, 2, positive, 4, negative, 4, out, size - 1, reply, 4) == 1 &&
+               memcmp(reply, small, sizeof reply) == 0 && memcmp(out, before, sizeof out) == 0);
+    expect("a sheet refused by 10",
+           jugbowo_write_sheet(2, 4, 4, 1, images, 2, positive, 4, negative, 4, out, sizeof out, reply, 4) == 1 &&
+               memcmp(reply, wrong, sizeof reply) == 0 && memcmp(out, before, sizeof out) == 0);
+    expect("a sheet, no place to reply",
+           jugbowo_write_sheet(2, 4, 2, 1, images, 2, positive, 4, negative, 4, out, sizeof out, reply, 3) == 0 &&
+               memcmp(out, before, sizeof out) == 0);
+    expect("a sheet", jugbowo_write_sheet(2, 4, 2, 1, images, 2, positive, 4, negative, 4, out, size, reply, 4) == 1 &&
+                          memcmp(reply, written, sizeof reply) == 0 && memcmp(out, wanted, size) == 0 &&
+                          memcmp(out + size, before, sizeof out - size) == 0);
+    expect("a sheet, with room",
+           jugbowo_write_sheet(2, 4, 2, 1, images, 2, positive, 4, negative, 4, room, sizeof room, reply, 4) == 1 &&
+               memcmp(reply, written, sizeof reply) == 0 && memcmp(room, wanted, size) == 0 && room[size] == 9 &&
+               memcmp(room + size, room + size + 1, sizeof room - size - 1) == 0);
+}
+
 /* What the program prints for case B: with no room, one byte short, and exactly fitting. */
 static void printed(void) {
     const char *wanted = "s SATISFIABLE\nv -1 2 -3 0\nc changes 1 slots 4\n";
@@ -151,6 +184,7 @@ int main(void) {
     steps();
     structs();
     texts();
+    sheets();
     printed();
     printf("worked cases in C: %d passed, %d failed\n", passed, failed);
     return failed > 0;

@@ -68,6 +68,8 @@ def block(v):
         yield "points", v["points"]
         yield "numbers", v["rules"]
         yield "lent", [v["depths_len"], v["count"], v["out_len"]]
+    if v["kind"] == "write_sheet":
+        yield "lent", [v["out_len"]]
     if v["kind"] == "nearest":
         yield "bytes", runs(v, "stdin")
     yield "answer", answer(e)
@@ -76,7 +78,7 @@ def block(v):
         if name in e:
             yield key, e[name]
     for name in ("out", "stdout"):
-        if name in e:
+        if name in e or name + "_parts" in e:
             yield "after-bytes", runs(e, name)
 
 

@@ -176,6 +176,52 @@ pub fn read(text: &[u8]) -> Result<Formula, Refusal> {
     })
 }
 
+/// Room that always suffices for the text of a formula, in bytes: [`write_sheet_to`] makes the text in one pass where
+/// as many or more are lent, and otherwise measures it first.
+pub const SHEET_ROOM: usize = sys::SHEET_ROOM;
+
+/// The text of a formula, which [`read`] reads back: the problem line, the wish line, a line for each permutation, then
+/// a line for each clause, variables ascending. Refused by 10 or 11 alone: whether the permutations keep the clauses is
+/// not tested. A text of more than 1,048,576 bytes is written all the same, but refused by 1 when it is read.
+///
+/// ```
+/// use jugbowo::{read, write_sheet};
+/// let mut f = read(b"p cnf 3 2\nc a remark\n 2 1 0 -1\n3 0\n").unwrap();
+/// f.target = 0b110;
+/// f.permutations.push(vec![1, 3, 2]);
+/// let text = write_sheet(&f).unwrap();
+/// assert_eq!(text, b"p cnf 3 2\nc wish 011\nc exch 1 3 2\n1 2 0\n-1 3 0\n");
+/// assert_eq!(read(&text), Ok(f));
+/// ```
+pub fn write_sheet(f: &Formula) -> Result<Vec<u8>, Refusal> {
+    let mut out = vec![0; SHEET_ROOM];
+    let length = write_sheet_to(f, &mut out)?;
+    Ok(out[..length].to_vec())
+}
+
+/// The same text, put to the front of lent bytes; its length. Where it does not fit it is refused by 19, with the
+/// length needed as the place, and nothing has changed.
+///
+/// ```
+/// use jugbowo::{read, write_sheet_to};
+/// let f = read(b"p cnf 1 1\n-1 0").unwrap();
+/// let mut out = [b'.'; 26];
+/// assert_eq!(write_sheet_to(&f, &mut out), Ok(24));
+/// assert_eq!(&out, b"p cnf 1 1\nc wish 0\n-1 0\n..");
+/// let refusal = write_sheet_to(&f, &mut out[..23]).unwrap_err();
+/// assert_eq!((refusal.number, refusal.place), (19, 24));
+/// ```
+pub fn write_sheet_to(f: &Formula, out: &mut [u8]) -> Result<usize, Refusal> {
+    let mut reply = [0; WORDS];
+    let lent = f.lent();
+    sys::write_sheet(&by_value(f, &lent), out, &mut reply);
+    if reply[0] == sys::WRITTEN {
+        Ok(reply[1] as usize)
+    } else {
+        Err(refusal(&reply))
+    }
+}
+
 /// Searches from the target, with the slots lent.
 ///
 /// ```

@@ -14,6 +14,9 @@ pub const ACCEPTED: u64 = 7;
 pub const CERTIFIED: u64 = 8;
 pub const UNCERTIFIED: u64 = 9;
 
+// Bytes of output that always suffice for the text of a formula.
+pub const SHEET_ROOM: usize = 1_846_470;
+
 // A formula with its clauses, as it is lent.
 #[derive(Clone, Copy)]
 pub struct Formula<'a> {
@@ -78,6 +81,10 @@ macro_rules! exported {
 // `images` take the formula.
 exported!(read = jugbowo_read(text: &[u8], positive: &mut [u64], negative: &mut [u64], numbers: &mut [u64],
     images: &mut [u8], reply: &mut [u64],) -> u32);
+
+// Writes a formula and its clauses as a text, at the front of `out`. With `SHEET_ROOM` bytes or more it is made in one
+// pass, with fewer it is measured first.
+exported!(write_sheet = jugbowo_write_sheet(formula, out: &mut [u8], reply: &mut [u64],) -> u32);
 
 // Searches over three lent slices.
 exported!(search = jugbowo_search(formula, points: &mut [u64], falsified: &mut [u32], depths: &mut [u32],
