@@ -20,6 +20,8 @@ BESIDE = {
     ("claims", "StableSets"): "which files the checker accepts, in the sense of document 002; CheckerExact shows it",
     ("claims", "Cases"): "document 01's worked cases, which CasesHold shows",
     ("dimacs_format", "Accepted"): "which texts are accepted, without a fold; just these are (ReaderLaws)",
+    ("dimacs_text", "ReadBack"): "what reading a written text gives; RoundTrip shows it",
+    ("dimacs_writer", "SentBack"): "the same of two calls, writing and reading; Calls shows it",
     ("check_theory", "Published"): "stable sets as published, which StableSets speaks of",
 }
 

@@ -23,7 +23,7 @@ ghost use Rattle.text_output.specs.Decimal.{lineEnd};
 ghost use Rattle.text_output.specs.Laws.Putting.{placesEnd, Put};
 ghost use Rattle.dimacs_text.specs.SheetText.{targetLine};
 ghost use Rattle.dimacs_text.specs.Laws.TextParts.{literalPart, namePart, digitPart, permutationPart, clausePart};
-ghost use Rattle.dimacs_text.specs.Laws.LengthLaws.{longestName, longestClause};
+ghost use Rattle.dimacs_text.specs.Laws.LengthLaws.{longestClause};
 ghost use Rattle.dimacs_output.specs.Laws.NameLaws.{signed, longestLiteral};
 ghost use Rattle.dimacs_output.specs.Laws.LinePutting.{longestImages, ListedWithin, AllPermutations};
 
@@ -45,7 +45,8 @@ fn binary_digit(is_one: bool) -> u8
 // byte behind stands on them where there are none: no branch depends on the literal, which no processor could foresee.
 fn put_literal(out: &mut [u8], at: usize, unwanted: bool, v: u32) -> usize
     requires { ⌜ (v < maxVariables) × (at + longestLiteral ≤ placesEnd) ⌝ }
-    ensures { λ r. ⌜ Put at (literalPart (signed unwanted (v + 1))) (now (out .entry)) r (now (out .exit)) ⌝ }
+    ensures { λ r. ⌜ Put at (literalPart (signed unwanted (v + 1))) (now (out .entry)) r (now (out .exit))
+        × (r ≤ at + longestLiteral) ⌝ }
 {
     let name = v + 1;
     let tens = 48 + (name / 10) as u8;
@@ -63,7 +64,7 @@ fn put_literal(out: &mut [u8], at: usize, unwanted: bool, v: u32) -> usize
 // that the clause lists it.
 fn put_name(out: &mut [u8], at: usize, c: Clause, v: u32) -> usize
     requires { ⌜ (v < maxVariables) × (bit (c .positive) v || bit (c .negative) v ≡ true)
-        × (at + longestName ≤ placesEnd) ⌝ }
+        × (at + 2 * longestLiteral ≤ placesEnd) ⌝ }
     ensures { λ r. ⌜ Put at (namePart (clauseOf c) v) (now (out .entry)) r (now (out .exit)) ⌝ }
 {
     let wanted = points::member(c.positive, v);

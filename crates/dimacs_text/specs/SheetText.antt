@@ -1,4 +1,5 @@
--- Document 02, 2026-02: the text of a sheet, line by line. Definitions alone. Assumes nothing.
+-- Document 02, 2026-02: the text of a sheet, line by line. Definitions alone; RoundTrip has that it reads back.
+-- Q02.1: "Reading had no inverse, so a sheet adjusted in the editor could not be sent out." Assumes nothing.
 use mathlib.Core.Bool.{cond}
 use mathlib.Core.List.{List, [], _∷_, _++_, map, flatMap}
 use Prim.Native.Nat.{ℕ, suc}

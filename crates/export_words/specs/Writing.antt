@@ -1,4 +1,4 @@
--- What the exported writer returns, and what it leaves in the slices lent to it. Assumes nothing.
+-- What an exported writer returns, and what it leaves in the slices lent to it. Assumes nothing.
 use mathlib.Core.Bool.{cond}
 use mathlib.Core.List.{List}
 use mathlib.Core.Path.{_≡_}
@@ -6,14 +6,19 @@ use Prim.Native.Nat.{ℕ}
 use Rattle.point_slices.specs.Slices.{ClauseSlices, SlotSlices}
 use Rattle.math.specs.Lists.{over}
 use Rattle.formula.specs.declared.Formula.{Formula}
+use Rattle.formula.specs.Reply.{Reply}
 use Rattle.certificate.specs.Writer.{writeReply, writeOutput}
 use Rattle.export_words.specs.Words.{wordsOf, hasRoom}
 
--- D2.4 for a caller in another language: with room for the answer, it and the output are the writer's; without, nothing
--- changes
-pub record WriteReturns (f : Formula) (clauses : ClauseSlices) (slots : SlotSlices) (filled : ℕ) (out₀ reply₀ : List ℕ)
-    (r : ℕ) (out₁ reply₁ : List ℕ) : Type 0 where
+-- what a writer tells a caller in another language: with room for the answer's words, these and its output; without,
+-- nothing changes
+pub record OutputReturns (answer : Reply) (text out₀ reply₀ : List ℕ) (r : ℕ) (out₁ reply₁ : List ℕ) : Type 0 where
   pub returned : r ≡ cond (hasRoom reply₀) 1 0
-  pub reply : reply₁ ≡ cond (hasRoom reply₀) (over (wordsOf
-      (writeReply f clauses slots filled out₀)) reply₀) reply₀
-  pub output : out₁ ≡ cond (hasRoom reply₀) (writeOutput f clauses slots filled out₀) out₀
+  pub reply : reply₁ ≡ cond (hasRoom reply₀) (over (wordsOf answer) reply₀) reply₀
+  pub output : out₁ ≡ cond (hasRoom reply₀) text out₀
+
+-- D2.4 for a caller in another language
+abbrev pub WriteReturns : Formula → ClauseSlices → SlotSlices → ℕ → List ℕ → List ℕ → ℕ → List ℕ → List ℕ → Type 0
+WriteReturns f clauses slots filled out₀ reply₀ r out₁ reply₁ =
+    OutputReturns (writeReply f clauses slots filled out₀) (writeOutput f clauses slots filled out₀) out₀ reply₀ r out₁
+    reply₁

@@ -4,5 +4,6 @@ mod checking;
 mod printing;
 mod reading;
 mod searching;
+mod sheets;
 mod solving;
 mod writing;

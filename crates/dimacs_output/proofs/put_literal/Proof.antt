@@ -1,11 +1,11 @@
 -- `dimacs_output::put_literal` meets its contract: four bytes, of which the next may stand on the first two. Assumes
 -- nothing.
 use mathlib.Core.Path.{refl}
-use Prim.Native.Nat.{_+_}
+use Prim.Native.Nat.{_+_, _<_}
 use native.Mathlib.Omega.{arith}
 use lib.Dec.{leb}
 use borrow.Author.Needs.{needs}
-use Rattle.dimacs_output.specs.Laws.NameLaws.{literal-put, one-most}
+use Rattle.dimacs_output.specs.Laws.NameLaws.{literal-put, literal-most, one-most}
 use Rattle.dimacs_output.proofs.put_literal.Statement.{statement}
 use Rattle.dimacs_output.proofs.put_literal.Tie as tie
 
@@ -28,7 +28,9 @@ put-byte-requires-4 c κs =
 returns : tie.Need-returns
 returns c =
     let a = (c .before .before .before .before .before .before .before .before .before .before .before .before .before .before .before .before .before .before .before .args) in
-    literal-put (a .unwanted) _ (a .v + 1) (omega (arith, c .before .before .before .before .before .before .before .before .before .before .before .before .before .before .before .before .before .before .before .pre .0)) refl (c .before .before .before .before .before .before .before .before .before .before .before .before .before .before .before .before .put-byte .ensures) (c .before .before .before .before .before .before .before .before .before .before .before .before .before .one-if .ensures) (c .before .before .before .before .before .before .before .before .before .before .before .put-byte2 .ensures) (c .before .before .before .before .before .before .before .before .one-if2 .ensures) (c .before .before .before .before .before .before .put-byte3 .ensures) (c .before .before .put-byte4 .ensures)
+    let lt : a .v + 1 < 100 = omega (arith, c .before .before .before .before .before .before .before .before .before .before .before .before .before .before .before .before .before .before .before .pre .0) in
+    let put = literal-put (a .unwanted) _ (a .v + 1) lt refl (c .before .before .before .before .before .before .before .before .before .before .before .before .before .before .before .before .put-byte .ensures) (c .before .before .before .before .before .before .before .before .before .before .before .before .before .one-if .ensures) (c .before .before .before .before .before .before .before .before .before .before .before .put-byte2 .ensures) (c .before .before .before .before .before .before .before .before .one-if2 .ensures) (c .before .before .before .before .before .before .put-byte3 .ensures) (c .before .before .put-byte4 .ensures) in
+    (put, literal-most (a .unwanted) (a .v + 1) lt put)
 
 pub put-literal-spec : {M : Type 1} → statement M
 put-literal-spec =

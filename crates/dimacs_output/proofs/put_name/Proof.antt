@@ -7,7 +7,7 @@ use borrow.Author.Needs.{needs}
 use Rattle.points.specs.Laws.Contracts.{clauseOf}
 use Rattle.text_output.specs.Laws.Putting.{put-both, put-as}
 use Rattle.dimacs_text.specs.Laws.TextParts.{literalPart}
-use Rattle.dimacs_output.specs.Laws.NameLaws.{signed, wanted-length, both-ways, one-way}
+use Rattle.dimacs_output.specs.Laws.NameLaws.{signed, both-ways, one-way}
 use Rattle.dimacs_output.proofs.put_name.Statement.{statement}
 use Rattle.dimacs_output.proofs.put_name.Tie as tie
 
@@ -15,15 +15,13 @@ put-literal-requires : tie.Need-put-literal-requires
 put-literal-requires c κs = (c .before .before .before .before .before .pre .0, omega (arith, c .before .before .before .before .before .pre .2))
 
 put-literal-requires-2 : tie.Need-put-literal-requires-2
-put-literal-requires-2 c κs =
-    let short = wanted-length (c .before .before .before .before .before .before .before .before .before .args .v + 1) (omega (arith, c .before .before .before .before .before .before .before .before .before .pre .0)) in
-    (c .before .before .before .before .before .before .before .before .before .pre .0, omega (arith, c .before .before .before .put-literal .ensures .behind, short, c .before .before .before .before .before .before .before .before .before .pre .2))
+put-literal-requires-2 c κs = (c .before .before .before .before .before .before .before .before .before .pre .0, omega (arith, c .before .before .before .put-literal .ensures .1, c .before .before .before .before .before .before .before .before .before .pre .2))
 
 returns : tie.Need-returns
 returns c =
     let a = (c .before .before .before .before .before .before .before .before .before .before .before .before .args) in
     put-as (both-ways (clauseOf (a .c)) (a .v) (sym (ap₂ _&&_ (c .before .before .before .before .before .before .before .before .before .before .member .ensures) (c .before .before .before .before .before .before .before .before .before .member2 .ensures)) ∙ c .before .before .before .before .before .before .before .before .if1 .taken))
-    (put-both (c .before .before .before .before .before .before .put-literal .ensures) (c .before .before .put-literal2 .ensures))
+    (put-both (c .before .before .before .before .before .before .put-literal .ensures .0) (c .before .before .put-literal2 .ensures .0))
 
 put-literal-requires-3 : tie.Need-put-literal-requires-3
 put-literal-requires-3 c κs = (c .before .before .before .before .before .pre .0, omega (arith, c .before .before .before .before .before .pre .2))
@@ -32,7 +30,7 @@ returns-2 : tie.Need-returns-2
 returns-2 c =
     let a = (c .before .before .before .before .before .before .before .before .args) in
     put-as (ap (λ b. literalPart (signed b (a .v + 1))) (c .before .before .before .before .before .member2 .ensures) ∙ one-way (clauseOf (a .c)) (a .v) (sym (ap₂ _&&_ (c .before .before .before .before .before .before .member .ensures) (c .before .before .before .before .before .member2 .ensures)) ∙ c .before .before .before .before .if1 .left) (c .before .before .before .before .before .before .before .before .pre .1))
-    (c .before .before .put-literal3 .ensures)
+    (c .before .before .put-literal3 .ensures .0)
 
 pub put-name-spec : {M : Type 1} → statement M
 put-name-spec =

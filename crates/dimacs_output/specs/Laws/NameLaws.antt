@@ -104,10 +104,23 @@ one-most false = omega arith
 abbrev pub longestLiteral : ℕ
 longestLiteral = 4
 
--- one less without a minus
-pub wanted-length : (x : ℕ) → x < 100 → length (literalPart (signed false x)) + 1 ≤ longestLiteral
-wanted-length x lt =
-    omega (arith, ap length (literal-word false x), length-append (numeral x) (32 ∷ []), numeral-length 1 x lt)
+-- whichever sign it has
+pub literal-most : (unwanted : Bool) (x : ℕ) → x < 100 → {at r : ℕ} {out out₁ : List ℕ}
+    → Put at (literalPart (signed unwanted x)) out r out₁ → r ≤ at + longestLiteral
+literal-most unwanted x lt p =
+    omega (
+      arith,
+      p .behind,
+      ap length (literal-word unwanted x),
+      length-append (byteIf unwanted 45) (numeral x ++ 32 ∷ []),
+      length-append (numeral x) (32 ∷ []),
+      numeral-length 1 x lt,
+      minus-length unwanted,
+    )
+  where
+    minus-length : (b : Bool) → length (byteIf b 45) ≤ 1
+    minus-length true = omega arith
+    minus-length false = omega arith
 
 -- ---- the literals of a variable
 

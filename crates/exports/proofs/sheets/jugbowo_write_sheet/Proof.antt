@@ -1,0 +1,30 @@
+-- `exports::sheets::jugbowo_write_sheet` meets its contract: with room for the answer it tells what the writer answers.
+-- Assumes nothing.
+use borrow.Author.Needs.{needs}
+use Rattle.point_slices.specs.Slices.{clauseSlices}
+use Rattle.export_words.specs.Laws.WritingLaws.{tells-none}
+use Rattle.export_sheets.specs.Laws.SheetLaws.{tells-sheet}
+use Rattle.exports.proofs.sheets.jugbowo_write_sheet.Statement.{statement}
+use Rattle.exports.proofs.sheets.jugbowo_write_sheet.Tie as tie
+
+returns : tie.Need-returns
+returns c = tells-none _ _ (@@args .out .now) (@@args .reply .now) (@@if1 .taken)
+
+put-written-requires : tie.Need-put-written-requires
+put-written-requires c κs = @@if1 .left
+
+returns-2 : tie.Need-returns-2
+returns-2 c =
+    let a = (@@args) in
+    tells-sheet _ (clauseSlices (a .positive .now) (a .negative .now)) (a .out .now) (a .reply .now) (@@sheet-from .result) _ _ (@@if1 .left) (@@sheet-from .ensures) (@@put-written .ensures)
+
+pub jugbowo-write-sheet-spec : {M : Type 1} → statement M
+jugbowo-write-sheet-spec =
+    tie.close
+    (tie.spec
+    returns
+    (λ c κs. search needs)
+    put-written-requires
+    (λ c. search needs)
+    (λ c. search needs)
+    returns-2)
