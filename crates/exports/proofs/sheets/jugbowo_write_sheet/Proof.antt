@@ -8,15 +8,15 @@ use Rattle.exports.proofs.sheets.jugbowo_write_sheet.Statement.{stateme
 use Rattle.exports.proofs.sheets.jugbowo_write_sheet.Tie as tie
 
 returns : tie.Need-returns
-returns c = tells-none _ _ (@@args .out .now) (@@args .reply .now) (@@if1 .taken)
+returns c = tells-none _ _ (c .before .before .before .before .before .before .args .out .now) (c .before .before .before .before .before .before .args .reply .now) (c .if1 .taken)
 
 put-written-requires : tie.Need-put-written-requires
-put-written-requires c κs = @@if1 .left
+put-written-requires c κs = c .before .before .before .before .before .if1 .left
 
 returns-2 : tie.Need-returns-2
 returns-2 c =
-    let a = (@@args) in
-    tells-sheet _ (clauseSlices (a .positive .now) (a .negative .now)) (a .out .now) (a .reply .now) (@@sheet-from .result) _ _ (@@if1 .left) (@@sheet-from .ensures) (@@put-written .ensures)
+    let a = (c .before .before .before .before .before .before .before .before .before .before .before .before .before .before .args) in
+    tells-sheet _ (clauseSlices (a .positive .now) (a .negative .now)) (a .out .now) (a .reply .now) (c .before .before .before .before .before .before .sheet-from .result) _ _ (c .before .before .before .before .before .before .before .before .if1 .left) (c .before .before .before .before .before .before .sheet-from .ensures) (c .before .before .put-written .ensures)
 
 pub jugbowo-write-sheet-spec : {M : Type 1} → statement M
 jugbowo-write-sheet-spec =
