@@ -4,10 +4,10 @@ this repository.
 
 usage: tools/definitions.py VECTORS SCRATCH KIND [MOST]
 
-VECTORS is a file of one JSON object a line, SCRATCH a folder that is made anew, KIND reader, builder, checker,
-writer or write_sheet. A vector is left out if its line has more than MOST characters (default 6000), if it comes in parts, or if its n
-is beyond what antt should raise 2 to. Prints how many vectors of each answer were computed, which ids were left out,
-and what the check says. Not part of the gate."""
+VECTORS is a file of one JSON object a line, SCRATCH a folder that is made anew, KIND reader, builder, checker, writer
+or write_sheet. A vector is left out if its line has more than MOST characters (default 6000), if it comes in parts,
+or if its n is beyond what antt should raise 2 to. Prints how many vectors of each answer were computed, which ids
+were left out, and what the check says. Not part of the gate."""
 import collections
 import json
 import os
@@ -21,7 +21,7 @@ USES = {
     "checker": "Rattle.checker.specs.Checker.{checkReply}\nuse Rattle.certificate.specs.Reader.{openedReply}\n"
     "use Rattle.certificate.specs.Certificate.{filePermutations, filePoints, fileNumbers}",
     "writer": "Rattle.certificate.specs.Writer.{writeReply, writeOutput}",
-    "write_sheet": "Rattle.dimacs_text.specs.Writer.{sheetReply, sheetOutput}",
+    "write_sheet": "Rattle.dimacs_text.specs.Writer.{textReply, textOutput}",
 }
 HEAD = """-- Vectors as theorems about the definitions. Assumes nothing.
 use mathlib.Core.List.{List, [], _∷_, _++_}
@@ -117,8 +117,8 @@ def writer(v):
 def write_sheet(v):
     e, out = v["expect"], filled(v, v["out_len"], 8)
     args = "%s %s %s" % (formula(v["sheet"]), clauses(v["yes"], v["no"]), listed(out))
-    yield "sheetReply", "sheetReply %s ≡ %s" % (args, refusal(e) or "written %d" % e["length"])
-    yield "sheetOutput", "sheetOutput %s ≡ %s" % (args, listed(over(list(bytes.fromhex(e.get("out", ""))), out)))
+    yield "textReply", "textReply %s ≡ %s" % (args, refusal(e) or "written %d" % e["length"])
+    yield "textOutput", "textOutput %s ≡ %s" % (args, listed(over(list(bytes.fromhex(e.get("out", ""))), out)))
 
 
 def taken(v, kind, most):

@@ -30,7 +30,7 @@ ghost use Rattle.certificate_writer.specs.Contract.{Wrote};
 ghost use Rattle.check_distinct.specs.Laws.Indexing.{Counted};
 ghost use Rattle.certificate_writer.specs.Laws.Parts.{slotsFault, parts, Storable};
 
-// What the writer answers: the certificate's length in bytes, or a refusal.
+// What a writer answers, of certificates or of texts: the length in bytes of what it wrote, or a refusal.
 pub enum Written {
     Bytes(usize),
     Refused { code: u32, place: usize },

@@ -1,4 +1,4 @@
 -- Laws, and what functions inside the library promise each other: no contract of an entry point cites any of it.
-pub mod NameLaws
+pub mod LiteralPutting
 pub mod ClausePutting
 pub mod LinePutting

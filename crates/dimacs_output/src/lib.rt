@@ -22,9 +22,9 @@ ghost use Rattle.formula.specs.Limits.{maxVariables};
 ghost use Rattle.text_output.specs.Decimal.{lineEnd};
 ghost use Rattle.text_output.specs.Laws.Putting.{placesEnd, Put};
 ghost use Rattle.dimacs_text.specs.SheetText.{targetLine};
-ghost use Rattle.dimacs_text.specs.Laws.TextParts.{literalPart, namePart, digitPart, permutationPart, clausePart};
+ghost use Rattle.dimacs_text.specs.Laws.TextParts.{literalPart, variablePart, digitPart, permutationPart, clausePart};
 ghost use Rattle.dimacs_text.specs.Laws.LengthLaws.{longestClause};
-ghost use Rattle.dimacs_output.specs.Laws.NameLaws.{signed, longestLiteral};
+ghost use Rattle.dimacs_output.specs.Laws.LiteralPutting.{signed, longestLiteral};
 ghost use Rattle.dimacs_output.specs.Laws.LinePutting.{longestImages, ListedWithin, AllPermutations};
 
 // 1 for a test that passes, 0 for one that does not.
@@ -42,16 +42,16 @@ fn binary_digit(is_one: bool) -> u8
 }
 
 // Puts the word of a literal, and a blank behind it. Its minus and the first of two digits are put in any case, and the
-// byte behind stands on them where there are none: no branch depends on the literal, which no processor could foresee.
+// byte behind stands on them where there are none, so that no branch is needed on what a processor can hardly foresee.
 fn put_literal(out: &mut [u8], at: usize, unwanted: bool, v: u32) -> usize
     requires { ⌜ (v < maxVariables) × (at + longestLiteral ≤ placesEnd) ⌝ }
     ensures { λ r. ⌜ Put at (literalPart (signed unwanted (v + 1))) (now (out .entry)) r (now (out .exit))
         × (r ≤ at + longestLiteral) ⌝ }
 {
-    let name = v + 1;
-    let tens = 48 + (name / 10) as u8;
-    let ones = 48 + (name % 10) as u8;
-    let two = 10 <= name;
+    let number = v + 1;
+    let tens = 48 + (number / 10) as u8;
+    let ones = 48 + (number % 10) as u8;
+    let two = 10 <= number;
     put_byte(out, at, 45);
     let first = at + one_if(unwanted);
     put_byte(out, first, tens);
@@ -61,15 +61,15 @@ fn put_literal(out: &mut [u8], at: usize, unwanted: bool, v: u32) -> usize
 }
 
 // Q02.2: "a name listed both ways yes before no": puts the literals of the variable of bit v. `put_clause` sees to it
-// that the clause lists it.
-fn put_name(out: &mut [u8], at: usize, c: Clause, v: u32) -> usize
+// that the clause lists it. Whether it is listed both ways is one test, which seldom passes.
+fn put_variable(out: &mut [u8], at: usize, c: Clause, v: u32) -> usize
     requires { ⌜ (v < maxVariables) × (bit (c .positive) v || bit (c .negative) v ≡ true)
         × (at + 2 * longestLiteral ≤ placesEnd) ⌝ }
-    ensures { λ r. ⌜ Put at (namePart (clauseOf c) v) (now (out .entry)) r (now (out .exit)) ⌝ }
+    ensures { λ r. ⌜ Put at (variablePart (clauseOf c) v) (now (out .entry)) r (now (out .exit)) ⌝ }
 {
-    let wanted = points::member(c.positive, v);
+    let both = points::common(c.positive, c.negative);
     let unwanted = points::member(c.negative, v);
-    if wanted & unwanted {
+    if points::member(both, v) {
         let place = put_literal(out, at, false, v);
         return put_literal(out, place, true, v);
     }
@@ -85,7 +85,7 @@ fn put_clause(out: &mut [u8], at: usize, n: u32, c: Clause) -> usize
     let mut v = points::next_variable(left);
     let mut place = at;
     while v < n {
-        place = put_name(out, place, c, v);
+        place = put_variable(out, place, c, v);
         left = points::flip(left, v);
         v = points::next_variable(left);
     }

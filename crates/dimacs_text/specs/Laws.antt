@@ -4,6 +4,7 @@ pub mod LiteralLaws
 pub mod WrittenLines
 pub mod LinesBehind
 pub mod RoundTrip
+pub mod Inputs
 pub mod TextParts
 pub mod LengthLaws
 pub mod Example

@@ -10,20 +10,19 @@ use Rattle.formula.specs.Refusals.{formulaFault, permutationFault, roomFault}
 use Rattle.formula.specs.Reply.{Reply, written, Fault, first, unless, unlessKept}
 use Rattle.dimacs_text.specs.SheetText.{textOf}
 
--- Q02.4: "It gives 10, 11, then 19 for short output"; 2026-02 b: 12 is not tested
-unfoldable pub sheetFault : Formula → ClauseSlices → List ℕ → Fault
+-- Q02.4: "It gives 10, 11, then 19 for short output", for an output of that many bytes; 2026-02 b: 12 is not tested
+unfoldable pub textFault : Formula → ClauseSlices → ℕ → Fault
 unfolding formulaFault permutationFault permutationsIn roomFault textOf first
-sheetFault f clauses out =
+textFault f clauses lent =
     let row11 = permutationFault (f .variables) (permutationsIn (f .variables) (f .permutations) (f .images)) in
-    let row19 = roomFault (length (textOf f clauses)) (length out) in
-    first (formulaFault f clauses ∷ row11 ∷ row19 ∷ [])
+    first (formulaFault f clauses ∷ row11 ∷ roomFault (length (textOf f clauses)) lent ∷ [])
 
 -- Q02.4: "otherwise the length"
-unfoldable pub sheetReply : Formula → ClauseSlices → List ℕ → Reply
-unfolding sheetFault unless
-sheetReply f clauses out = unless (sheetFault f clauses out) (written (length (textOf f clauses)))
+unfoldable pub textReply : Formula → ClauseSlices → List ℕ → Reply
+unfolding textFault unless
+textReply f clauses out = unless (textFault f clauses (length out)) (written (length (textOf f clauses)))
 
 -- Q02.4: "bytes past the text are unchanged"; N1: "Every row leaves all lent slices unchanged"
-unfoldable pub sheetOutput : Formula → ClauseSlices → List ℕ → List ℕ
-unfolding sheetFault unlessKept over
-sheetOutput f clauses out = unlessKept (sheetFault f clauses out) (over (textOf f clauses) out) out
+unfoldable pub textOutput : Formula → ClauseSlices → List ℕ → List ℕ
+unfolding textFault unlessKept over
+textOutput f clauses out = unlessKept (textFault f clauses (length out)) (over (textOf f clauses) out) out

@@ -18,8 +18,9 @@ ghost use Rattle.formula.specs.Limits.{maxImages};
 ghost use Rattle.formula.specs.Refusals.{roomFault, faultOf};
 ghost use Rattle.text_output.specs.Laws.Putting.{Put};
 ghost use Rattle.dimacs_text.specs.SheetText.{textOf};
+ghost use Rattle.dimacs_text.specs.Writer.{textFault};
 ghost use Rattle.dimacs_writer.specs.Contract.{WroteSheet};
-ghost use Rattle.dimacs_writer.specs.Laws.Writing.{Writable, faultFor};
+ghost use Rattle.dimacs_writer.specs.Laws.Writing.{Writable};
 
 // A bound for every text, in bytes: the problem line, the target, a line a permutation, a line a clause.
 pub const LONGEST: usize = 14
@@ -28,7 +29,7 @@ pub const LONGEST: usize = 14
     + Formula::MAX_CLAUSES as usize * (Formula::MAX_VARIABLES as usize * 7 + 2);
 
 // Q02.2: "problem line, wish line, exchange lines, then a line a rule": puts the text of a formula to the front of the
-// output, as far as that reaches, and answers its length. Two bytes a step at least. Refusals 10 and 11 see to what it
+// output, as far as that reaches, and answers its length. At most one step a byte. Refusals 10 and 11 see to what it
 // requires.
 fn put_sheet(out: &mut [u8], f: Numbers, images: &[u8], positive: &[u64], negative: &[u64]) -> usize
     requires { ⌜ Writable (formulaWith f (now images)) (clauseSlices (now positive) (now negative)) ⌝ }
@@ -88,7 +89,7 @@ fn sheet_refusal(
     lent: usize,
 ) -> Checked
     requires { ⌜ length (now images) ≡ maxImages ⌝ }
-    ensures { λ r. ⌜ faultOf r ≡ faultFor (formulaWith f (now (images .entry)))
+    ensures { λ r. ⌜ faultOf r ≡ textFault (formulaWith f (now (images .entry)))
         (clauseSlices (now (positive .entry)) (now (negative .entry))) lent ⌝ }
 {
     let ten = formula_refusal(f, positive, negative);
@@ -127,8 +128,8 @@ pub fn write_lent(
     Written::Bytes(size)
 }
 
-// Q02.4: "It gives 10, 11, then 19 for short output, otherwise the length; bytes past the text are unchanged." A refusal
-// leaves `out` as it was.
+// Q02.4: "It gives 10, 11, then 19 for short output, otherwise the length; bytes past the text are unchanged." After a
+// refusal `out` is as it was.
 pub fn write(f: Formula, positive: &[u64], negative: &[u64], out: &mut [u8]) -> Written
     ensures { λ r. ⌜ WroteSheet f (clauseSlices (now (positive .entry)) (now (negative .entry))) (now (out .entry)) r
         (now (out .exit)) ⌝ }

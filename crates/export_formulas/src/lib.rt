@@ -13,7 +13,7 @@ ghost use Rattle.math.specs.Lists.{over};
 ghost use Rattle.formula.specs.Limits.{maxImages};
 ghost use Rattle.formula.specs.Laws.Contracts.{formulaWith};
 ghost use Rattle.export_words.specs.Words.{wordsOf};
-ghost use Rattle.export_formulas.specs.Formulas.{imagesFrom, formulaFrom, numbersOf, isParsed, putIfParsed};
+ghost use Rattle.export_formulas.specs.Formulas.{formulaFrom, numbersOf, isParsed, putIfParsed};
 ghost use mathlib.Core.Bool.{true};
 ghost use Rattle.dimacs_lines.specs.Reply.{replyOfParse};
 ghost use Rattle.export_formulas.specs.Laws.FormulaLaws.{Unused};

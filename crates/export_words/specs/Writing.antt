@@ -10,12 +10,12 @@ use Rattle.formula.specs.Reply.{Reply}
 use Rattle.certificate.specs.Writer.{writeReply, writeOutput}
 use Rattle.export_words.specs.Words.{wordsOf, hasRoom}
 
--- what a writer tells a caller in another language: with room for the answer's words, these and its output; without,
--- nothing changes
-pub record OutputReturns (answer : Reply) (text out₀ reply₀ : List ℕ) (r : ℕ) (out₁ reply₁ : List ℕ) : Type 0 where
+-- what a writer tells a caller in another language: with room for the answer's words, these and the new output;
+-- without, nothing changes
+pub record OutputReturns (answer : Reply) (new out₀ reply₀ : List ℕ) (r : ℕ) (out₁ reply₁ : List ℕ) : Type 0 where
   pub returned : r ≡ cond (hasRoom reply₀) 1 0
   pub reply : reply₁ ≡ cond (hasRoom reply₀) (over (wordsOf answer) reply₀) reply₀
-  pub output : out₁ ≡ cond (hasRoom reply₀) text out₀
+  pub output : out₁ ≡ cond (hasRoom reply₀) new out₀
 
 -- D2.4 for a caller in another language
 abbrev pub WriteReturns : Formula → ClauseSlices → SlotSlices → ℕ → List ℕ → List ℕ → ℕ → List ℕ → List ℕ → Type 0

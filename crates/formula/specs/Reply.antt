@@ -13,7 +13,7 @@ pub data Reply : Type 0 where
   unknown : ℕ → ℕ → Reply
   -- the text is read
   parsed : Reply
-  -- a certificate of that many bytes is written
+  -- a certificate, or a sheet's text, of that many bytes is written
   written : ℕ → Reply
   -- the file's contents are in order
   opened : Reply

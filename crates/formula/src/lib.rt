@@ -1,4 +1,4 @@
-// The formula by value (01: sheet), its limits, replies, and the refusals 10 to 12 that several entry points share.
+// The formula by value (01: sheet), its limits, replies, and the refusals 10, 11, 12 and 19 that entry points share.
 use points::Point;
 ghost use mathlib.Core.Path.{_≡_};
 ghost use Rattle.formula.specs.Problem.{emptyFormula};

@@ -1,5 +1,5 @@
-// Texts and decimal numbers put into lent bytes, as far as these reach: each function stores what there is room for, and
-// answers the place behind all of it.
+// Texts and decimal numbers put into lent bytes, as far as these reach: each function stores what there is room for
+// and answers the place behind all of it.
 ghost use mathlib.Core.List.{[], _∷_};
 ghost use mathlib.Core.Path.{_≡_};
 ghost use Prim.Native.Nat.{_+_, _≤_, _<_};

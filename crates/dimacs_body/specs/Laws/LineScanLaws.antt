@@ -25,7 +25,7 @@ use Rattle.dimacs_format.specs.Text.{isPercentLine, targetHead}
 use Rattle.dimacs_format.specs.Text.{permutationHead, isTargetLine, isPermutationLine}
 use Rattle.dimacs_format.specs.Reader.{andThen, Sizes, Progress, withPart, lineStep, atEnd, linesSay, textSays}
 use Rattle.dimacs_format.specs.Reader.{clause-line, target-line, permutation-line}
-use Rattle.dimacs_format.specs.Laws.AnswerLaws.{stepTo, WherePassed, where-passed, where-both, step-within}
+use Rattle.dimacs_format.specs.Laws.AnswerLaws.{stepTo, where-passed, where-both, step-within}
 use Rattle.dimacs_format.specs.Laws.AnswerLaws.{where-told, where-refused, then-passed, then-alike}
 use Rattle.dimacs_format.specs.Laws.LineLaws.{kind-clauses, kind-target, kind-permutation, kind-remark, line-remark}
 use Rattle.dimacs_format.specs.Laws.LineLaws.{line-of-kind}

@@ -26,7 +26,7 @@ use Rattle.dimacs_body.specs.declared.State.{State}
 use Rattle.dimacs_body.specs.declared.Lined.{Lined}
 use Rattle.dimacs_lines.specs.declared.Told.{Told}
 use Rattle.dimacs_format.specs.Input.{Input, imagesOf, padded, formulaOf, positives, negatives}
-use Rattle.dimacs_format.specs.Reader.{Step, goes, refuses, andThen, Sizes, Progress, inputOf, atEnd, replyTo}
+use Rattle.dimacs_format.specs.Reader.{Step, goes, refuses, andThen, Sizes, inputOf, atEnd, replyTo}
 use Rattle.dimacs_format.specs.Reader.{formulaFrom}
 use Rattle.dimacs_format.specs.Reader.{slicesFrom, textSays}
 use Rattle.dimacs_format.specs.Laws.AnswerLaws.{stepTo, where-told}

@@ -8,7 +8,7 @@ use Rattle.points.specs.Laws.Contracts.{clauseOf}
 use Rattle.formula.specs.Laws.RefusalLaws.{digits-suffice}
 use Rattle.text_output.specs.Laws.Putting.{put-both}
 use Rattle.dimacs_output.specs.Laws.ClausePutting.{PuttingClause, putting-begins, putting-ends, next-listed}
-use Rattle.dimacs_output.specs.Laws.ClausePutting.{name-room, putting-less, putting-goes-on, clause-put, put-within}
+use Rattle.dimacs_output.specs.Laws.ClausePutting.{variable-room, putting-less, putting-goes-on, clause-put, put-within}
 use Rattle.dimacs_output.proofs.put_clause.Statement.{statement}
 use Rattle.dimacs_output.proofs.put_clause.Tie as tie
 
@@ -23,12 +23,12 @@ loop-holds c =
     let a = (c .before .before .before .args) in
     putting-begins (a .n) (clauseOf (a .c)) (a .at) (a .out .now) (c .before .listed .ensures) (c .before .before .before .pre .1) (c .next-variable .ensures)
 
-put-name-requires : tie.Need-put-name-requires Inv-loop μ-loop
-put-name-requires c κs =
+put-variable-requires : tie.Need-put-variable-requires Inv-loop μ-loop
+put-variable-requires c κs =
     let a = (c .before .before .before .before .before .before .args) in
     let p = c .before .before .loop .inv in
     let lt = c .before .loop-test .taken in
-    (lt-of-lt-of-le lt (c .before .before .before .before .before .before .pre .0), next-listed (a .n) (clauseOf (a .c)) (a .at) (a .out .now) (c .before .before .before .before .before .before .pre .0) p lt, omega (arith, name-room (a .n) (clauseOf (a .c)) (a .at) (a .out .now) (c .before .before .before .before .before .before .pre .0) p lt, c .before .before .before .before .before .before .pre .0, c .before .before .before .before .before .before .pre .2))
+    (lt-of-lt-of-le lt (c .before .before .before .before .before .before .pre .0), next-listed (a .n) (clauseOf (a .c)) (a .at) (a .out .now) (c .before .before .before .before .before .before .pre .0) p lt, omega (arith, variable-room (a .n) (clauseOf (a .c)) (a .at) (a .out .now) (c .before .before .before .before .before .before .pre .0) p lt, c .before .before .before .before .before .before .pre .0, c .before .before .before .before .before .before .pre .2))
 
 flip-requires : tie.Need-flip-requires Inv-loop μ-loop
 flip-requires c κs = lt-of-lt-of-le (c .before .before .before .before .loop-test .taken) (digits-suffice (c .before .before .before .before .before .before .before .before .before .pre .0))
@@ -41,7 +41,7 @@ loop-less c =
 loop-again : tie.Need-loop-again Inv-loop μ-loop
 loop-again c =
     let a = (c .before .before .before .before .before .before .before .before .before .before .before .args) in
-    putting-goes-on (a .n) (clauseOf (a .c)) (a .at) (a .out .now) (c .before .before .before .before .before .before .before .before .before .before .before .pre .0) (c .before .before .before .before .before .before .before .loop .inv) (c .before .before .before .before .before .before .loop-test .taken) (c .before .flip .ensures) (c .next-variable2 .ensures) (c .before .before .before .before .put-name .ensures) (c .before .before .before .before .put-name .kept .0)
+    putting-goes-on (a .n) (clauseOf (a .c)) (a .at) (a .out .now) (c .before .before .before .before .before .before .before .before .before .before .before .pre .0) (c .before .before .before .before .before .before .before .loop .inv) (c .before .before .before .before .before .before .loop-test .taken) (c .before .flip .ensures) (c .next-variable2 .ensures) (c .before .before .before .before .put-variable .ensures) (c .before .before .before .before .put-variable .kept .0)
 
 put-byte-requires : tie.Need-put-byte-requires Inv-loop μ-loop
 put-byte-requires c κs =
@@ -67,7 +67,7 @@ put-clause-spec =
     (λ c κs. search needs)
     (λ c κs. search needs)
     loop-holds
-    put-name-requires
+    put-variable-requires
     flip-requires
     (λ c κs. search needs)
     loop-less

@@ -5,7 +5,7 @@ use Prim.Native.Nat.{_+_, _<_}
 use native.Mathlib.Omega.{arith}
 use lib.Dec.{leb}
 use borrow.Author.Needs.{needs}
-use Rattle.dimacs_output.specs.Laws.NameLaws.{literal-put, literal-most, one-most}
+use Rattle.dimacs_output.specs.Laws.LiteralPutting.{literal-put, literal-most, one-most}
 use Rattle.dimacs_output.proofs.put_literal.Statement.{statement}
 use Rattle.dimacs_output.proofs.put_literal.Tie as tie
 

@@ -19,8 +19,8 @@ use Rattle.points.specs.Laws.NextLaws.{next-lowest, next-none}
 use Rattle.formula.specs.Limits.{maxVariables}
 use Rattle.formula.specs.Laws.RefusalLaws.{digits-suffice}
 use Rattle.text_output.specs.Laws.Putting.{Put, put-none, put-both, put-as}
-use Rattle.dimacs_text.specs.Laws.TextParts.{namePart, clauseEnd, clausePart, clause-parts}
-use Rattle.dimacs_text.specs.Laws.LengthLaws.{longestName, name-length}
+use Rattle.dimacs_text.specs.Laws.TextParts.{variablePart, clauseEnd, clausePart, clause-parts}
+use Rattle.dimacs_text.specs.Laws.LengthLaws.{longestVariable, variable-length}
 
 -- the variables `taken` are put, those of `left` are to come, and v is the lowest of these
 pub record PuttingClause (n : ℕ) (c : Clause) (at : ℕ) (out₀ : List ℕ) (left v place : ℕ) (out : List ℕ) : Type 0 where
@@ -29,7 +29,7 @@ pub record PuttingClause (n : ℕ) (c : Clause) (at : ℕ) (out₀ : List ℕ) (
   pub long : length out ≡ length out₀
   pub taken : List ℕ
   pub split : members n (listed c) ≡ taken ++ members n left
-  pub texts : Put at (flatMap (namePart c) taken) out₀ place out
+  pub texts : Put at (flatMap (variablePart c) taken) out₀ place out
 
 module _ (n : ℕ) (c : Clause) (at : ℕ) (out₀ : List ℕ) where
   -- before the first turn none is put
@@ -49,21 +49,21 @@ module _ (n : ℕ) (c : Clause) (at : ℕ) (out₀ : List ℕ) where
   module _ (few : n ≤ maxVariables) {left v place : ℕ} {out : List ℕ} (p : PuttingClause n c at out₀ left v place out)
     where
       -- after the last turn all are put
-      pub putting-ends : n ≤ v → Put at (flatMap (namePart c) (members n (listed c))) out₀ place out
+      pub putting-ends : n ≤ v → Put at (flatMap (variablePart c) (members n (listed c))) out₀ place out
       putting-ends all =
-          put-as (ap (flatMap (namePart c)) (sym (p .split
+          put-as (ap (flatMap (variablePart c)) (sym (p .split
           ∙ ap (λ l. p .taken ++ l) (next-none n left v (digits-suffice few) (p .next) (p .within) all)
           ∙ append-nil (p .taken)))) (p .texts)
 
       -- within what n variables can take
-      pub put-within : n ≤ v → place ≤ at + n * longestName
+      pub put-within : n ≤ v → place ≤ at + n * longestVariable
       unfolding members
       put-within all =
           let whole = putting-ends all in
           omega (
             arith,
             whole .behind,
-            length-flatMap-le (namePart c) longestName (members n (listed c)) (λ i m. name-length c i
+            length-flatMap-le (variablePart c) longestVariable (members n (listed c)) (λ i m. variable-length c i
                 (let lt : i < n = below-out n i (select-out (bit (listed c)) (below n) m .0) in omega arith)),
             members-few n (listed c),
           )
@@ -89,12 +89,12 @@ module _ (n : ℕ) (c : Clause) (at : ℕ) (out₀ : List ℕ) where
             ∙ member-out v (subst (λ l. v ∈ l) (sym split-next) m) .1
 
         -- and there is room for it where there is for all that n variables can take
-        pub name-room : place + longestName ≤ at + n * longestName
-        name-room =
+        pub variable-room : place + longestVariable ≤ at + n * longestVariable
+        variable-room =
             omega (
               arith,
               p .texts .behind,
-              length-flatMap-le (namePart c) longestName (p .taken) (λ i m. name-length c i
+              length-flatMap-le (variablePart c) longestVariable (p .taken) (λ i m. variable-length c i
                   (let lt = member-out i (subst (λ l. i ∈ l) (sym split-next) (Memᴰ·append-left _ m)) .0 in
                   omega arith)),
               ap length split-next,
@@ -107,7 +107,7 @@ module _ (n : ℕ) (c : Clause) (at : ℕ) (out₀ : List ℕ) where
           putting-less = le-of-eq (ap (λ t. suc (length (members n t))) without ∙ sym (ap length rest))
 
           -- a turn puts the lowest variable that is left
-          pub putting-goes-on : {v′ r : ℕ} {out₁ : List ℕ} → NextVariable left′ v′ → Put place (namePart c v) out r out₁
+          pub putting-goes-on : {v′ r : ℕ} {out₁ : List ℕ} → NextVariable left′ v′ → Put place (variablePart c v) out r out₁
               → length out₁ ≡ length out → PuttingClause n c at out₀ left′ v′ r out₁
           putting-goes-on next q same =
               record {
@@ -117,11 +117,11 @@ module _ (n : ℕ) (c : Clause) (at : ℕ) (out₀ : List ℕ) where
                 taken = p .taken ++ v ∷ [];
                 split = split-next ∙ sym (append-assoc (p .taken) (v ∷ []) (members n (flip left v)))
                     ∙ ap (λ t. (p .taken ++ v ∷ []) ++ members n t) (sym without);
-                texts = put-as (sym (flatMap-snoc (namePart c) (p .taken) v)) (put-both (p .texts) q);
+                texts = put-as (sym (flatMap-snoc (variablePart c) (p .taken) v)) (put-both (p .texts) q);
               }
 
   -- the end of the line behind them
   pub clause-put : {place r : ℕ} {out out₁ : List ℕ}
-      → Put at (flatMap (namePart c) (members n (listed c))) out₀ place out → Put place clauseEnd out r out₁
+      → Put at (flatMap (variablePart c) (members n (listed c))) out₀ place out → Put place clauseEnd out r out₁
       → Put at (clausePart n c) out₀ r out₁
   clause-put p q = put-as (sym (clause-parts n c)) (put-both p q)

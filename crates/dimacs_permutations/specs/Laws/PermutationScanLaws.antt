@@ -22,7 +22,7 @@ use Rattle.dimacs_words.specs.declared.Word.{Word as WordAnswer}
 use Rattle.dimacs_words.specs.declared.Word.the-variants.{Read, Malformed as no-word}
 use Rattle.dimacs_permutations.specs.declared.Image.{Image}
 use Rattle.dimacs_permutations.specs.declared.Image.the-variants.{End, Variable, Malformed as Other}
-use Rattle.dimacs_format.specs.Text.{endsLine, isBlank, words, spelled, numberIn, tokenIn, malformed}
+use Rattle.dimacs_format.specs.Text.{endsLine, isBlank, words, spelled, numberIn, tokenIn}
 use Rattle.dimacs_format.specs.Reader.{beginsWord, bothNumbers, numbersIn, permuting, permutationIn}
 use Rattle.dimacs_words.specs.Laws.Scans.{belongs, Stretch, WordAt, signed, DigitsAt, DigitsRead}
 use Rattle.dimacs_words.specs.Laws.PlainLaws.{plain-word, plain-spoilt, plain-number, plain-malformed}

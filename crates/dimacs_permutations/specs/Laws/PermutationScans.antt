@@ -6,7 +6,6 @@ use mathlib.Core.Path.{_≡_}
 use Prim.Native.Nat.{ℕ, _+_, _≤_, _<_}
 use lib.Dec.{ltb}
 use lib.ListN.{length, take, drop}
-use Rattle.math.specs.Lists.{all}
 use Rattle.formula.specs.Limits.{maxVariables}
 use Rattle.dimacs_permutations.specs.declared.Image.{Image}
 use Rattle.dimacs_permutations.specs.declared.Image.the-variants.{End, Variable, Malformed}

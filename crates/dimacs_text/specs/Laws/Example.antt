@@ -12,7 +12,7 @@ use Rattle.dimacs_format.specs.Reader.{readReply, readFormula, readClauses}
 use Rattle.dimacs_format.specs.Text.{ascii}
 use Rattle.dimacs_text.specs.ReadBack.{unusedZero, ReadsBack}
 use Rattle.dimacs_text.specs.SheetText.{textOf}
-use Rattle.dimacs_text.specs.Writer.{sheetReply, sheetOutput}
+use Rattle.dimacs_text.specs.Writer.{textReply, textOutput}
 
 -- "B": the clauses (1 2) and (-1 3), target 000, no permutation
 abbrev satisfiable : Formula
@@ -56,15 +56,15 @@ swapped-back = record { reply = refl; formula = refl; rules = refl }
 
 -- what the writer answers and leaves in an output
 pub record Answered (out : List ℕ) (r : Reply) (out₁ : List ℕ) : Type 0 where
-  pub reply : sheetReply swapped swapped-clauses out ≡ r
-  pub output : sheetOutput swapped swapped-clauses out ≡ out₁
+  pub reply : textReply swapped swapped-clauses out ≡ r
+  pub output : textOutput swapped swapped-clauses out ≡ out₁
 
 -- R19: "output too short | 19 | length needed (bytes here)": one byte too short
 pub swapped-short : Answered (replicate 52 7) (refused 19 53) (replicate 52 7)
-unfolding sheetReply sheetOutput
+unfolding textReply textOutput
 swapped-short = record { reply = refl; output = refl }
 
 -- Q02.4: "bytes past the text are unchanged": two bytes longer
 pub swapped-long : Answered (replicate 55 7) (written 53) (swapped-text ++ 7 ∷ 7 ∷ [])
-unfolding sheetReply sheetOutput
+unfolding textReply textOutput
 swapped-long = record { reply = refl; output = refl }

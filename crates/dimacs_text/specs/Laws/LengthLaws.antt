@@ -22,29 +22,29 @@ use Rattle.dimacs_format.specs.Laws.InputLaws.{Proper}
 use Rattle.text_output.specs.Decimal.{numeral, lineEnd, line}
 use Rattle.text_output.specs.Laws.DecimalLaws.{numeral-length, line-length}
 use Rattle.dimacs_text.specs.SheetText.{spelling, literalsAt, targetLine, sheetText}
-use Rattle.dimacs_text.specs.Laws.TextParts.{literalPart, namePart, clauseEnd, clause-parts, imagePart}
+use Rattle.dimacs_text.specs.Laws.TextParts.{literalPart, variablePart, clauseEnd, clause-parts, imagePart}
 use Rattle.dimacs_text.specs.Laws.TextParts.{permutation-parts, permutationPart, clausePart, sheet-parts}
 
 -- ---- a clause
 
 -- bytes for a variable that a clause lists both ways, at most: two digits each, a minus, two blanks
-abbrev pub longestName : ℕ
-longestName = 7
+abbrev pub longestVariable : ℕ
+longestVariable = 7
 
 -- the line of a clause, with its end
 abbrev pub longestClause : ℕ
-longestClause = maxVariables * longestName + 2
+longestClause = maxVariables * longestVariable + 2
 
 -- the part of a variable, whichever way it is listed
-pub name-length : (c : Clause) (i : ℕ) → i < maxVariables → length (namePart c i) ≤ longestName
-unfolding namePart literalsAt literalPart spelling flatMap
-name-length c i lt = by (bit (c .positive) i) (bit (c .negative) i)
+pub variable-length : (c : Clause) (i : ℕ) → i < maxVariables → length (variablePart c i) ≤ longestVariable
+unfolding variablePart literalsAt literalPart spelling flatMap
+variable-length c i lt = by (bit (c .positive) i) (bit (c .negative) i)
   where
     short : length (numeral (suc i)) ≤ 2
     short = numeral-length 1 (suc i) (omega arith)
 
     by : (wanted unwanted : Bool)
-        → length (flatMap literalPart (cond wanted (pos (suc i) ∷ []) [] ++ cond unwanted (neg (suc i) ∷ []) [])) ≤ longestName
+        → length (flatMap literalPart (cond wanted (pos (suc i) ∷ []) [] ++ cond unwanted (neg (suc i) ∷ []) [])) ≤ longestVariable
     by true true = omega (
       arith,
       short,
@@ -66,15 +66,15 @@ name-length c i lt = by (bit (c .positive) i) (bit (c .negative) i)
     )
     by false false = omega arith
 
-pub clause-length : (n : ℕ) (c : Clause) → n ≤ maxVariables → length (clausePart n c) ≤ n * longestName + 2
+pub clause-length : (n : ℕ) (c : Clause) → n ≤ maxVariables → length (clausePart n c) ≤ n * longestVariable + 2
 unfolding members
 clause-length n c few =
-    let parts : List ℕ = flatMap (namePart c) (members n (listed c)) in
+    let parts : List ℕ = flatMap (variablePart c) (members n (listed c)) in
     omega (
       arith,
       ap length (clause-parts n c),
       length-append parts clauseEnd,
-      length-flatMap-le (namePart c) longestName (members n (listed c)) (λ i m. name-length c i
+      length-flatMap-le (variablePart c) longestVariable (members n (listed c)) (λ i m. variable-length c i
           (let lt : i < n = below-out n i (select-out (bit (listed c)) (below n) m .0) in omega arith)),
       members-few n (listed c),
     )

@@ -25,9 +25,9 @@ unfolding spelling
 literalPart l = spelling l ++ 32 ∷ []
 
 -- the literals of the variable of bit i
-unfoldable pub namePart : Clause → ℕ → List ℕ
+unfoldable pub variablePart : Clause → ℕ → List ℕ
 unfolding literalPart literalsAt flatMap
-namePart c i = flatMap literalPart (literalsAt c i)
+variablePart c i = flatMap literalPart (literalsAt c i)
 
 -- the last word of a clause's line and the line end
 abbrev pub clauseEnd : List ℕ
@@ -35,8 +35,8 @@ clauseEnd = ascii "0\n"
 
 -- a clause's line: a part for each variable that it lists, and its end
 pub clause-parts : (n : ℕ) (c : Clause)
-    → clauseLine n c ++ lineEnd ≡ flatMap (namePart c) (members n (listed c)) ++ clauseEnd
-unfolding clauseLine literalsOf variables namePart literalPart
+    → clauseLine n c ++ lineEnd ≡ flatMap (variablePart c) (members n (listed c)) ++ clauseEnd
+unfolding clauseLine literalsOf variables variablePart literalPart
 clause-parts n c =
     let names : List ℕ = members n (listed c) in
     let words : List (List ℕ) = map spelling (flatMap (literalsAt c) names) in
@@ -44,7 +44,7 @@ clause-parts n c =
     (spaced-last words (ascii "0")
     ∙ ap (λ l. l ++ ascii "0") (flatMap-map (λ v. v ++ 32 ∷ []) spelling (flatMap (literalsAt c) names)
     ∙ flatMap-flatMap (λ l. spelling l ++ 32 ∷ []) (literalsAt c) names))
-    ∙ append-assoc (flatMap (namePart c) names) (ascii "0") lineEnd
+    ∙ append-assoc (flatMap (variablePart c) names) (ascii "0") lineEnd
 
 -- a number with a blank before it
 abbrev pub imagePart : ℕ → List ℕ

@@ -1,5 +1,5 @@
--- `dimacs_writer::room_refusal` meets its contract: an output that no text exceeds, a short one, and a long one. Assumes
--- nothing.
+-- `dimacs_writer::room_refusal` meets its contract: an output that no text exceeds, a short one and a long one.
+-- Assumes nothing.
 use mathlib.Core.Path.{sym, ap, _∙_}
 use Rattle.formula.specs.Laws.RefusalLaws.{too-short, long-enough}
 use Rattle.formula.specs.Refusals.{roomFault}

@@ -25,7 +25,7 @@ use Rattle.text_output.specs.Decimal.{line, lineEnd}
 use Rattle.text_output.specs.Laws.DecimalLaws.{line-length}
 use Rattle.text_output.specs.Laws.Putting.{placesEnd, Put, put-both, put-as, put-over}
 use Rattle.dimacs_text.specs.SheetText.{targetLine, inputIn, textOf}
-use Rattle.dimacs_text.specs.Writer.{sheetFault, sheetReply, sheetOutput}
+use Rattle.dimacs_text.specs.Writer.{textFault, textReply, textOutput}
 use Rattle.dimacs_text.specs.Laws.RoundTrip.{input-proper}
 use Rattle.dimacs_text.specs.Laws.TextParts.{permutationPart, clausePart, sheetParts, sheet-parts}
 use Rattle.dimacs_text.specs.Laws.LengthLaws.{target-length, permutation-length, longestClause}
@@ -34,7 +34,7 @@ use Rattle.dimacs_output.specs.Laws.LinePutting.{longestImages, ListedWithin, A
 use Rattle.certificate_writer.specs.Contract.{replyOfWritten}
 use Rattle.certificate_writer.specs.declared.Written.the-variants.{Bytes, Refused}
 use Rattle.dimacs_writer.specs.Contract.{WroteSheet}
-use Rattle.dimacs_writer.specs.Laws.Writing.{elevenOf, Writable, faultFor}
+use Rattle.dimacs_writer.specs.Laws.Writing.{elevenOf, Writable}
 
 module _ (f : Formula) (clauses : ClauseSlices) where
   abbrev permutations : List Permutation
@@ -142,57 +142,62 @@ module _ (f : Formula) (clauses : ClauseSlices) where
 
   -- ---- the tests in order
 
-  module _ (lent : ℕ) (r : Fault) where
-    row19 : Fault
-    row19 = roomFault (length (textOf f clauses)) lent
+  -- rows 19, and 11 before it
+  abbrev row19 : ℕ → Fault
+  row19 lent = roomFault (length (textOf f clauses)) lent
 
-    pub stops-10 : r ≡ formulaFault f clauses → IsFault r → r ≡ faultFor f clauses lent
-    stops-10 e h = answers-first r (formulaFault f clauses) _ e h
+  abbrev past10 : ℕ → List Fault
+  past10 lent = elevenOf f ∷ row19 lent ∷ []
+
+  module _ (lent : ℕ) (r : Fault) where
+    pub stops-10 : r ≡ formulaFault f clauses → IsFault r → r ≡ textFault f clauses lent
+    unfolding textFault
+    stops-10 e h = answers-first r (formulaFault f clauses) (past10 lent) e h
 
     module _ (ten : formulaFault f clauses ≡ no-fault) where
-      pub stops-11 : r ≡ elevenOf f → IsFault r → r ≡ faultFor f clauses lent
-      stops-11 e h = answers-rest r (formulaFault f clauses) _ ten (answers-first r (elevenOf f) _ e h)
+      pub stops-11 : r ≡ elevenOf f → IsFault r → r ≡ textFault f clauses lent
+      unfolding textFault
+      stops-11 e h = answers-rest r (formulaFault f clauses) (past10 lent) ten
+          (answers-first r (elevenOf f) (row19 lent ∷ []) e h)
 
-      pub ends-19 : elevenOf f ≡ no-fault → r ≡ roomFault (length (textOf f clauses)) lent
-          → r ≡ faultFor f clauses lent
+      pub ends-19 : elevenOf f ≡ no-fault → r ≡ row19 lent → r ≡ textFault f clauses lent
+      unfolding textFault
       ends-19 eleven e =
-          answers-rest r (formulaFault f clauses) _ ten (answers-rest r (elevenOf f) _ eleven
-          (e ∙ sym (first-last (roomFault (length (textOf f clauses)) lent))))
+          answers-rest r (formulaFault f clauses) (past10 lent) ten (answers-rest r (elevenOf f) (row19 lent ∷ [])
+          eleven (e ∙ sym (first-last (row19 lent))))
 
   -- ---- the ways out
 
   module _ (out : List ℕ) where
     -- N1: "Every row leaves all lent slices unchanged"
-    pub wrote-faulty : (r : Checked) → faultOf r ≡ faultFor f clauses (length out) → (code place : ℕ)
+    pub wrote-faulty : (r : Checked) → faultOf r ≡ textFault f clauses (length out) → (code place : ℕ)
         → r ≡ Faulty code place → WroteSheet f clauses out (Refused code place) out
-    unfolding sheetReply sheetOutput sheetFault replyOfWritten
+    unfolding textReply textOutput textFault replyOfWritten
     wrote-faulty r tested code place e =
-        let h : faultFor f clauses (length out) ≡ fault code place = sym tested ∙ ap faultOf e in
+        let h : textFault f clauses (length out) ≡ fault code place = sym tested ∙ ap faultOf e in
         record { reply = rw h; output = rw h }
 
-    module _ (r : Checked) (tested : faultOf r ≡ faultFor f clauses (length out)) (e : r ≡ Passed) where
-      nothing-found : faultFor f clauses (length out) ≡ no-fault
+    module _ (r : Checked) (tested : faultOf r ≡ textFault f clauses (length out)) (e : r ≡ Passed) where
+      nothing-found : textFault f clauses (length out) ≡ no-fault
       nothing-found = sym tested ∙ ap faultOf e
 
-      past-10 : first (elevenOf f ∷ roomFault (length (textOf f clauses)) (length out) ∷ []) ≡ no-fault
-      past-10 = first-split (formulaFault f clauses) _ nothing-found .1
+      past-10 : (formulaFault f clauses ≡ no-fault) × (first (past10 (length out)) ≡ no-fault)
+      unfolding textFault
+      past-10 = first-split (formulaFault f clauses) (past10 (length out)) nothing-found
+
+      past-11 : (elevenOf f ≡ no-fault) × (first (row19 (length out) ∷ []) ≡ no-fault)
+      past-11 = first-split (elevenOf f) (row19 (length out) ∷ []) (past-10 .1)
 
       -- what the text requires
       pub writable-of : length (f .images) ≡ maxImages → Writable f clauses
-      writable-of places =
-          record {
-            ten = first-split (formulaFault f clauses) _ nothing-found .0;
-            eleven = first-split (elevenOf f) _ past-10 .0;
-            places = places;
-          }
+      writable-of places = record { ten = past-10 .0; eleven = past-11 .0; places = places }
 
       room : length (textOf f clauses) ≤ length out
-      room = room-passes (length (textOf f clauses)) (length out)
-          (sym (first-last (roomFault (length (textOf f clauses)) (length out))) ∙ first-split (elevenOf f) _ past-10 .1)
+      room = room-passes (length (textOf f clauses)) (length out) (sym (first-last (row19 (length out))) ∙ past-11 .1)
 
       pub wrote-all : {size : ℕ} {after : List ℕ} → Put 0 (textOf f clauses) out size after
           → WroteSheet f clauses out (Bytes size) after
-      unfolding sheetReply sheetOutput sheetFault replyOfWritten
+      unfolding textReply textOutput textFault replyOfWritten
       wrote-all {size} {after} p =
           let w = put-over (textOf f clauses) out size after room p in
           record { reply = ap written (w .0) ∙ rw nothing-found; output = w .1 ∙ rw nothing-found }

@@ -8,7 +8,7 @@ use Rattle.point_slices.specs.Slices.{ClauseSlices}
 use Rattle.formula.specs.declared.Formula.{Formula}
 use Rattle.certificate_writer.specs.Contract.{replyOfWritten}
 use Rattle.certificate_writer.specs.declared.Written.{Written}
-use Rattle.dimacs_text.specs.Writer.{sheetReply, sheetOutput}
+use Rattle.dimacs_text.specs.Writer.{textReply, textOutput}
 use Rattle.dimacs_writer.specs.Contract.{WroteSheet}
 use Rattle.export_words.specs.Words.{wordsOf}
 use Rattle.export_words.specs.Laws.WritingLaws.{tells-all}
@@ -23,5 +23,5 @@ pub tells-sheet : (f : Formula) (clauses : ClauseSlices) (out reply : List ℕ) 
     → 4 ≤ length reply → WroteSheet f clauses out r out₁ → reply₁ ≡ over (wordsOf (replyOfWritten r)) reply
     → SheetReturns f clauses out reply 1 out₁ reply₁
 tells-sheet f clauses out reply r out₁ reply₁ le wrote words =
-    tells-all (sheetReply f clauses out) (sheetOutput f clauses out) out reply (replyOfWritten r) out₁ reply₁ le
+    tells-all (textReply f clauses out) (textOutput f clauses out) out reply (replyOfWritten r) out₁ reply₁ le
     (wrote .reply) (wrote .output) words

@@ -23,8 +23,8 @@ wrote-as {f} {g} {clauses} {slots} {filled} {out} {out₁} {r} same wrote =
     subst (λ h. Wrote h clauses slots filled out r out₁) same wrote
 
 -- what any writer tells
-module _ (answer : Reply) (text out reply : List ℕ) where
-  pub tells-none : length reply < 4 → OutputReturns answer text out reply 0 out reply
+module _ (answer : Reply) (new out reply : List ℕ) where
+  pub tells-none : length reply < 4 → OutputReturns answer new out reply 0 out reply
   tells-none lt =
       record {
         returned = without-room (lt-leb 4 (length reply) lt) 1 0;
@@ -32,8 +32,8 @@ module _ (answer : Reply) (text out reply : List ℕ) where
         output = without-room (lt-leb 4 (length reply) lt) _ out;
       }
 
-  pub tells-all : (told : Reply) (out₁ reply₁ : List ℕ) → 4 ≤ length reply → told ≡ answer → out₁ ≡ text
-      → reply₁ ≡ over (wordsOf told) reply → OutputReturns answer text out reply 1 out₁ reply₁
+  pub tells-all : (told : Reply) (out₁ reply₁ : List ℕ) → 4 ≤ length reply → told ≡ answer → out₁ ≡ new
+      → reply₁ ≡ over (wordsOf told) reply → OutputReturns answer new out reply 1 out₁ reply₁
   tells-all told out₁ reply₁ le said left words =
       record {
         returned = with-room (le-leb 4 (length reply) le) 1 0;

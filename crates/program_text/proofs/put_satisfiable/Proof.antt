@@ -1,4 +1,5 @@
--- `program_text::put_satisfiable` meets its contract: the head, the names, their end, and the last line. Assumes nothing.
+-- `program_text::put_satisfiable` meets its contract: the head, the names, their end and the last line. Assumes
+-- nothing.
 use native.Mathlib.Nat.{le-trans}
 use native.Mathlib.Omega.{arith}
 use borrow.Author.Needs.{needs}

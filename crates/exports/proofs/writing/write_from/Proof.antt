@@ -1,6 +1,6 @@
 -- `exports::writing::write_from` meets its contract: the formula is made of what is lent, one way or the other. Assumes
 -- nothing.
-use mathlib.Core.Path.{_≡_, sym}
+use mathlib.Core.Path.{sym}
 use lib.Seq.{length-take-le}
 use Rattle.formula.specs.Limits.{maxImages}
 use Rattle.export_words.specs.Laws.WritingLaws.{wrote-as}

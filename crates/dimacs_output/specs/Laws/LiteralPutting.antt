@@ -7,18 +7,20 @@ use Prim.Native.Nat.{ℕ, zero, suc, _+_, _/_, _%_, _≤_, _<_}
 use native.Mathlib.Nat.{add-zero}
 use native.Mathlib.Numerals.{add-one}
 use native.Mathlib.Omega.{arith}
+use lib.Bits.{bitAnd}
 use lib.Dec.{leb}
 use lib.ListN.{length, set, length-append}
 use lib.Seq.{sets}
 use borrow.Author.Tests.{leb-true, leb-false}
 use Rattle.math.specs.Bits.{bit}
+use Rattle.math.specs.Laws.BitLaws.{bit-and}
 use Rattle.points.specs.Points.{Clause}
 use Rattle.dimacs_format.specs.Text.{Literal, pos, neg}
 use Rattle.text_output.specs.Decimal.{numeral}
 use Rattle.text_output.specs.Laws.DecimalLaws.{numeral-small, numeral-large, numeral-length}
 use Rattle.text_output.specs.Laws.Putting.{Put, put-both, put-as}
 use Rattle.dimacs_text.specs.SheetText.{spelling, literalsAt}
-use Rattle.dimacs_text.specs.Laws.TextParts.{literalPart, namePart}
+use Rattle.dimacs_text.specs.Laws.TextParts.{literalPart, variablePart}
 
 -- the literal of a variable by whether it is wanted 0
 unfoldable pub signed : Bool → ℕ → Literal
@@ -65,7 +67,8 @@ two-digits x lt = by (leb 10 x) refl
         numeral-small x below ∙ ap (λ (k : ℕ). (48 + k) ∷ []) (let z : x ≡ x % 10 = omega arith in z)
 
 -- a minus where the literal is wanted 0, and its variable's digits
-pub literal-word : (unwanted : Bool) (x : ℕ) → literalPart (signed unwanted x) ≡ byteIf unwanted 45 ++ (numeral x ++ 32 ∷ [])
+pub literal-word : (unwanted : Bool) (x : ℕ)
+    → literalPart (signed unwanted x) ≡ byteIf unwanted 45 ++ (numeral x ++ 32 ∷ [])
 unfolding literalPart signed spelling
 literal-word true x = refl
 literal-word false x = refl
@@ -124,10 +127,15 @@ literal-most unwanted x lt p =
 
 -- ---- the literals of a variable
 
+-- whether two sets have a variable, by the set of what they have in common
+pub common-bit : (c : Clause) (i both : ℕ) (test : Bool) → both ≡ bitAnd (c .positive) (c .negative) → test ≡ bit both i
+    → test ≡ bit (c .positive) i && bit (c .negative) i
+common-bit c i both test e f = f ∙ ap (λ b. bit b i) e ∙ bit-and (c .positive) (c .negative) i
+
 -- both ways: first wanted 1, then wanted 0
 pub both-ways : (c : Clause) (i : ℕ) → bit (c .positive) i && bit (c .negative) i ≡ true
-    → literalPart (signed false (i + 1)) ++ literalPart (signed true (i + 1)) ≡ namePart c i
-unfolding namePart literalsAt signed flatMap
+    → literalPart (signed false (i + 1)) ++ literalPart (signed true (i + 1)) ≡ variablePart c i
+unfolding variablePart literalsAt signed flatMap
 both-ways c i e =
     ap (λ (v : ℕ). literalPart (pos v) ++ literalPart (neg v)) (add-one i)
     ∙ by (bit (c .positive) i) (bit (c .negative) i) e
@@ -141,8 +149,8 @@ both-ways c i e =
 
 -- one way
 pub one-way : (c : Clause) (i : ℕ) → bit (c .positive) i && bit (c .negative) i ≡ false
-    → bit (c .positive) i || bit (c .negative) i ≡ true → literalPart (signed (bit (c .negative) i) (i + 1)) ≡ namePart c i
-unfolding namePart literalsAt signed flatMap
+    → bit (c .positive) i || bit (c .negative) i ≡ true → literalPart (signed (bit (c .negative) i) (i + 1)) ≡ variablePart c i
+unfolding variablePart literalsAt signed flatMap
 one-way c i e f =
     ap (λ (v : ℕ). literalPart (signed (bit (c .negative) i) v)) (add-one i)
     ∙ by (bit (c .positive) i) (bit (c .negative) i) e f
