@@ -1,7 +1,7 @@
 -- How long the lines of a written text are at most, and the whole of it. Assumes nothing.
 use mathlib.Core.Bool.{Bool, true, false, cond}
 use mathlib.Core.List.{List, [], _∷_, _++_, map, flatMap}
-use mathlib.Core.Path.{_≡_, ap}
+use mathlib.Core.Path.{_≡_, refl, ap}
 use Prim.Native.Nat.{ℕ, suc, _+_, _*_, _≤_, _<_}
 use native.Mathlib.Nat.{le-trans}
 use native.Mathlib.Omega.{arith}
@@ -121,6 +121,10 @@ permutation-length n e low few p = by (e .images) (p .size) (λ v m. permutation
 -- the lines one by one, as long as they can be
 abbrev pub longestSheet : ℕ
 longestSheet = 14 + (maxVariables + 8) + maxPermutations * (maxVariables * 3 + 7) + maxClauses * longestClause
+
+-- the figure that the header and the Rust crate tell their callers
+pub longest-figure : longestSheet ≡ 1846470
+longest-figure = refl
 
 pub sheet-length : (d : Input) → Proper d → length (sheetText d) ≤ longestSheet
 sheet-length d h =
