@@ -35,15 +35,17 @@ spelling (neg v) = 45 ∷ numeral v
 
 -- ---- the lines
 
+-- Q02.2: "problem line"; S11: "byte `p` first, then `cnf`, V, C"
 unfoldable pub problemLine : ℕ → ℕ → List ℕ
 unfolding spaced numeral
 problemLine n m = spaced (problemWord ∷ formatWord ∷ numeral n ∷ numeral m ∷ [])
 
--- a digit 0 or 1 for each variable; 2026-02 a: this line is written also where the target is all 0
+-- Q02.2: "wish line"; S18: "n digits 0 or 1 unparted, name 1 first"; 2026-02 a: written also where the target is all 0
 unfoldable pub targetLine : ℕ → ℕ → List ℕ
 unfolding bit
 targetLine n x = targetHead ++ map (λ i. cond (bit x i) 49 48) (below n)
 
+-- Q02.2: "exchange lines"; S19: "n numbers from 1 to n without sign, .., the first right behind those seven bytes"
 unfoldable pub permutationLine : Permutation → List ℕ
 unfolding spaced numeral
 permutationLine e = permutationHead ++ spaced (map numeral (e .images))

@@ -8,10 +8,9 @@ use borrow.Author.Needs.{needs}
 use Rattle.math.specs.Laws.ListLaws.{getD-in}
 use Rattle.points.specs.Points.{emptyClause, listed}
 use Rattle.point_slices.specs.Laws.Contracts.{lentClauses}
-use Rattle.text_output.specs.Laws.Putting.{placesEnd, PutFirst, first-none, first-next, first-all, put-as}
+use Rattle.text_output.specs.Laws.Putting.{placesEnd, PutFirst, first-none, first-next, first-all, room-left, put-as}
 use Rattle.dimacs_text.specs.Laws.TextParts.{clausePart}
 use Rattle.dimacs_text.specs.Laws.LengthLaws.{longestClause, clause-length}
-use Rattle.dimacs_output.specs.Laws.LinePutting.{room-left}
 use Rattle.dimacs_output.proofs.put_clauses.Statement.{statement}
 use Rattle.dimacs_output.proofs.put_clauses.Tie as tie
 

@@ -10,9 +10,8 @@ use borrow.Author.Needs.{needs}
 use Rattle.math.specs.Bits.{bit}
 use Rattle.math.specs.Lists.{below}
 use Rattle.math.specs.Laws.ListLaws.{length-range, getD-range}
-use Rattle.text_output.specs.Laws.Putting.{placesEnd, PutFirst, first-none, first-next, first-all, put-as}
+use Rattle.text_output.specs.Laws.Putting.{placesEnd, PutFirst, first-none, first-next, first-all, room-left, put-as}
 use Rattle.dimacs_text.specs.Laws.TextParts.{digitPart}
-use Rattle.dimacs_output.specs.Laws.LinePutting.{room-left}
 use Rattle.dimacs_output.proofs.put_digits.Statement.{statement}
 use Rattle.dimacs_output.proofs.put_digits.Tie as tie
 

@@ -6,9 +6,9 @@ use lib.ListN.{length}
 use borrow.Author.Needs.{needs}
 use Rattle.math.specs.Laws.ListLaws.{getD-in}
 use Rattle.math.specs.Laws.SplitLaws.{length-flatMap-le}
-use Rattle.text_output.specs.Laws.Putting.{placesEnd, PutFirst, first-none, first-next, first-all}
+use Rattle.text_output.specs.Laws.Putting.{placesEnd, PutFirst, first-none, first-next, first-all, room-left}
 use Rattle.dimacs_text.specs.Laws.TextParts.{imagePart}
-use Rattle.dimacs_output.specs.Laws.LinePutting.{room-left, image-length, permutation-put}
+use Rattle.dimacs_output.specs.Laws.LinePutting.{image-length, permutation-put}
 use Rattle.dimacs_output.proofs.put_permutation.Statement.{statement}
 use Rattle.dimacs_output.proofs.put_permutation.Tie as tie
 

@@ -7,10 +7,10 @@ use lib.ListN.{length}
 use borrow.Author.Needs.{needs}
 use Rattle.permutation_theory.specs.Permutations.{permutationsIn}
 use Rattle.permutation_images.specs.Laws.LoopLaws.{length-permutations, permutation-at, part-ends, noPermutation}
-use Rattle.text_output.specs.Laws.Putting.{placesEnd, PutFirst, first-none, first-next, first-all, put-as}
+use Rattle.text_output.specs.Laws.Putting.{placesEnd, PutFirst, first-none, first-next, first-all, room-left, put-as}
 use Rattle.dimacs_text.specs.Laws.TextParts.{permutationPart}
 use Rattle.dimacs_text.specs.Laws.LengthLaws.{permutation-length}
-use Rattle.dimacs_output.specs.Laws.LinePutting.{longestImages, room-left, part-length}
+use Rattle.dimacs_output.specs.Laws.LinePutting.{longestImages, part-length}
 use Rattle.dimacs_output.proofs.put_permutations.Statement.{statement}
 use Rattle.dimacs_output.proofs.put_permutations.Tie as tie
 

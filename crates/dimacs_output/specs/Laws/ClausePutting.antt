@@ -107,8 +107,8 @@ module _ (n : ℕ) (c : Clause) (at : ℕ) (out₀ : List ℕ) where
           putting-less = le-of-eq (ap (λ t. suc (length (members n t))) without ∙ sym (ap length rest))
 
           -- a turn puts the lowest variable that is left
-          pub putting-goes-on : {v′ r : ℕ} {out₁ : List ℕ} → NextVariable left′ v′ → Put place (variablePart c v) out r out₁
-              → length out₁ ≡ length out → PuttingClause n c at out₀ left′ v′ r out₁
+          pub putting-goes-on : {v′ r : ℕ} {out₁ : List ℕ} → NextVariable left′ v′
+              → Put place (variablePart c v) out r out₁ → length out₁ ≡ length out → PuttingClause n c at out₀ left′ v′ r out₁
           putting-goes-on next q same =
               record {
                 next = next;

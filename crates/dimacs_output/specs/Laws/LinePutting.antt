@@ -1,22 +1,20 @@
 -- The loops that put the lines of clauses and permutations: what they require, and the room for each line. Assumes
 -- nothing.
-use mathlib.Core.List.{List, [], _∷_, flatMap, Memᴰ·append-left}
-use mathlib.Core.Path.{_≡_, sym, ap, subst}
+use mathlib.Core.List.{List, [], _∷_, flatMap}
+use mathlib.Core.Path.{_≡_, sym, subst}
 use Prim.Native.Nat.{ℕ, _+_, _*_, _^_, _≤_, _<_}
-use native.Mathlib.Nat.{le-refl, suc-mul, mul-le-mul}
 use native.Mathlib.Omega.{arith}
-use lib.ListN.{length, getD, take, drop, length-append, length-drop, take-append-drop}
+use lib.ListN.{length, getD, take, drop, length-append, length-drop}
 use lib.Seq.{length-take-le}
 use Rattle.math.specs.Lists.{_∈_}
 use Rattle.math.specs.Laws.ListLaws.{in-getD}
-use Rattle.math.specs.Laws.SplitLaws.{length-flatMap-le}
 use Rattle.points.specs.Points.{Clause, listed}
 use Rattle.permutation_theory.specs.Permutations.{Permutation, IsPermutation}
 use Rattle.formula.specs.Limits.{maxVariables}
 use Rattle.dimacs_format.specs.Text.{ascii}
 use Rattle.text_output.specs.Decimal.{numeral, lineEnd}
 use Rattle.text_output.specs.Laws.DecimalLaws.{numeral-length}
-use Rattle.text_output.specs.Laws.Putting.{Put, PutFirst, put-both, put-as}
+use Rattle.text_output.specs.Laws.Putting.{Put, put-both, put-as}
 use Rattle.dimacs_text.specs.Laws.TextParts.{imagePart, permutation-parts, permutationPart}
 
 -- bytes for the line of a permutation, whatever bytes its images are: a blank and three digits each
@@ -30,21 +28,6 @@ ListedWithin n cs = (c : Clause) → c ∈ cs → listed c < 2 ^ n
 -- all listed are permutations
 abbrev pub AllPermutations : ℕ → List Permutation → Type 0
 AllPermutations n es = (e : Permutation) → e ∈ es → IsPermutation n e
-
--- where each text has at most k bytes, the first i have at most i · k, so that there is room for one more
-module _ {A : Type 0} (f : A → List ℕ) (k : ℕ) (xs : List A) (short : (x : A) → x ∈ xs → length (f x) ≤ k) where
-  pub room-left : (at : ℕ) (out₀ : List ℕ) {i place : ℕ} {out : List ℕ} → PutFirst f xs at out₀ i place out
-      → i < length xs → (end : ℕ) → at + length xs * k ≤ end → place + k ≤ end
-  room-left at out₀ {i} {place} p more end room =
-      omega (
-        arith,
-        p .texts .behind,
-        length-flatMap-le f k (take i xs) (λ x m. short x
-            (subst (λ l. x ∈ l) (take-append-drop i xs) (Memᴰ·append-left (drop i xs) m))),
-        ap (λ (j : ℕ). j * k) (length-take-le i xs (p .within)),
-        suc-mul i k,
-        mul-le-mul more (le-refl k),
-      )
 
 -- ---- the line of a permutation
 

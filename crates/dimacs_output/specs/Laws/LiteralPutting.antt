@@ -149,7 +149,8 @@ both-ways c i e =
 
 -- one way
 pub one-way : (c : Clause) (i : ℕ) → bit (c .positive) i && bit (c .negative) i ≡ false
-    → bit (c .positive) i || bit (c .negative) i ≡ true → literalPart (signed (bit (c .negative) i) (i + 1)) ≡ variablePart c i
+    → bit (c .positive) i || bit (c .negative) i ≡ true
+    → literalPart (signed (bit (c .negative) i) (i + 1)) ≡ variablePart c i
 unfolding variablePart literalsAt signed flatMap
 one-way c i e f =
     ap (λ (v : ℕ). literalPart (signed (bit (c .negative) i) v)) (add-one i)

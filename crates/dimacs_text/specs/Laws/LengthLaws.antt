@@ -44,7 +44,8 @@ variable-length c i lt = by (bit (c .positive) i) (bit (c .negative) i)
     short = numeral-length 1 (suc i) (omega arith)
 
     by : (wanted unwanted : Bool)
-        → length (flatMap literalPart (cond wanted (pos (suc i) ∷ []) [] ++ cond unwanted (neg (suc i) ∷ []) [])) ≤ longestVariable
+        → length (flatMap literalPart (cond wanted (pos (suc i) ∷ []) [] ++ cond unwanted (neg (suc i) ∷ []) []))
+        ≤ longestVariable
     by true true = omega (
       arith,
       short,
@@ -81,6 +82,10 @@ clause-length n c few =
 
 -- ---- the other lines
 
+pub problem-length : (n m : ℕ) → n ≤ maxVariables → m ≤ maxClauses
+    → length (line (ascii "p cnf ") n (ascii " ") m) ≤ 14
+problem-length n m few less = line-length (ascii "p cnf ") (ascii " ") 1 3 n m (omega arith) (omega arith)
+
 pub target-length : (n x : ℕ) → length (targetLine n x ++ lineEnd) ≡ n + 8
 unfolding targetLine
 target-length n x =
@@ -116,6 +121,12 @@ permutation-length n e low few p = by (e .images) (p .size) (λ v m. permutation
           ap (λ (k : ℕ). k * 3) size,
         )
 
+pub permutations-length : (n : ℕ) (es : List Permutation) → 1 ≤ n → n ≤ maxVariables
+    → ((e : Permutation) → e ∈ es → IsPermutation n e)
+    → length (flatMap permutationPart es) ≤ length es * (maxVariables * 3 + 7)
+permutations-length n es low few h = length-flatMap-le permutationPart (maxVariables * 3 + 7) es (λ e m. le-trans
+    (permutation-length n e low few (h e m)) (omega arith))
+
 -- ---- the whole text
 
 -- the lines one by one, as long as they can be
@@ -140,11 +151,9 @@ sheet-length d h =
       length-append (problem ++ target ++ permutations) clauses,
       length-append (problem ++ target) permutations,
       length-append problem target,
-      line-length (ascii "p cnf ") (ascii " ") 1 3 n (length (d .clauses)) (omega arith)
-          (let m = h .few-clauses in omega arith),
+      problem-length n (length (d .clauses)) few (h .few-clauses),
       target-length n (d .target),
-      length-flatMap-le permutationPart (maxVariables * 3 + 7) (d .permutations) (λ e m. le-trans
-          (permutation-length n e (h .some-variable) few (h .permutations e m)) (omega arith)),
+      permutations-length n (d .permutations) (h .some-variable) few (h .permutations),
       h .few-permutations,
       length-flatMap-le (clausePart n) longestClause (d .clauses) (λ c m. le-trans (clause-length n c few) (omega arith)),
       h .few-clauses,

@@ -14,8 +14,9 @@ use Rattle.math.specs.Lists.{_∈_, select}
 use Rattle.points.specs.Points.{Clause}
 use Rattle.permutation_theory.specs.Permutations.{Permutation, IsPermutation}
 use Rattle.dimacs_format.specs.Accepted.{closedBy0, Permuted, none-left, one-more, wordsAmong}
+use Rattle.dimacs_format.specs.Laws.ClauseLaws.{tokenOf}
 use Rattle.dimacs_format.specs.Text.{ascii, piece, Line, Word, lines, wordsOf, isComment, isTargetLine}
-use Rattle.dimacs_format.specs.Text.{isPermutationLine, isPercentLine, Token, tokenIn}
+use Rattle.dimacs_format.specs.Text.{isPermutationLine, isPercentLine, tokenIn}
 use Rattle.dimacs_text.specs.SheetText.{lined, targetLine, permutationLine, spelling, literalsOf, clauseLine}
 use Rattle.dimacs_text.specs.Laws.LiteralLaws.{clause-words, clause-tokens}
 use Rattle.dimacs_text.specs.Laws.WordLaws.{words-spaced, line-next}
@@ -49,10 +50,6 @@ clause-kinds n c at =
 
 -- ---- the words that are no comments
 
--- the token of a word
-abbrev tokenOf : Word → Token
-tokenOf w = tokenIn (w .bytes)
-
 pub words-comment : (l : Line) (ls : List Line) → isComment l ≡ true → wordsAmong (l ∷ ls) ≡ wordsAmong ls
 unfolding wordsAmong
 words-comment l ls e = ap (flatMap wordsOf) (select-skip (λ k. not (isComment k)) {x = l} ls (ap not e))
@@ -74,7 +71,7 @@ clause-says n c at few =
 
 -- lines that hold these permutations and these clauses, and no target
 pub record Behind (n : ℕ) (es : List Permutation) (cs : List Clause) (ls : List Line) : Type 0 where
-  pub tokens : map (λ (w : Word). tokenIn (w .bytes)) (wordsAmong ls) ≡ flatMap closedBy0 (map (literalsOf n) cs)
+  pub tokens : map tokenOf (wordsAmong ls) ≡ flatMap closedBy0 (map (literalsOf n) cs)
   pub targets : select isTargetLine ls ≡ []
   pub permuted : Permuted n (select isPermutationLine ls) es
   pub unended : (l : Line) → l ∈ ls → isPercentLine l ≡ false

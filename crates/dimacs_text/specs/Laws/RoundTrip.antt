@@ -23,11 +23,11 @@ use Rattle.formula.specs.Refusals.{formulaFault, permutationFault}
 use Rattle.formula.specs.Reply.{no-fault}
 use Rattle.dimacs_format.specs.Accepted.{Targeted, one-line, Permuted, Skipped, at-text-end, Accepts}
 use Rattle.dimacs_format.specs.Input.{Input, clauseOf, imagesOf, padded, formulaOf}
+use Rattle.dimacs_format.specs.Laws.ClauseLaws.{tokenOf}
 use Rattle.dimacs_format.specs.Laws.InputLaws.{Proper, input-problem}
 use Rattle.dimacs_format.specs.Laws.ReaderLaws.{accepts-yields}
 use Rattle.dimacs_format.specs.Reader.{storedIn, readFormula, readClauses}
-use Rattle.dimacs_format.specs.Text.{maxText, piece, Line, Word, lines, isTargetLine, isPermutationLine, isPercentLine}
-use Rattle.dimacs_format.specs.Text.{tokenIn}
+use Rattle.dimacs_format.specs.Text.{maxText, piece, Line, lines, isTargetLine, isPermutationLine, isPercentLine}
 use Rattle.dimacs_text.specs.SheetText.{lined, problemLine, targetLine, permutationLine, literalsOf, clauseLine}
 use Rattle.dimacs_text.specs.SheetText.{sheetLines, sheetText, inputIn, textOf}
 use Rattle.dimacs_text.specs.ReadBack.{unusedZero, ReadsBack}
@@ -84,7 +84,7 @@ module _ (d : Input) (h : Proper d) where
         grouped =
             record {
               groups = map (literalsOf n) (d .clauses);
-              tokens = ap (map (λ (w : Word). tokenIn (w .bytes))) (words-comment target ls (k .comments)) ∙ b .tokens;
+              tokens = ap (map tokenOf) (words-comment target ls (k .comments)) ∙ b .tokens;
               within =
                   λ g m l i.
                   let w = map-out (literalsOf n) (d .clauses) m in

@@ -6,7 +6,6 @@ use native.Mathlib.Nat.{le-trans}
 use native.Mathlib.Omega.{arith}
 use lib.Bits.{or-lt}
 use lib.ListN.{length}
-use Rattle.math.specs.Laws.SplitLaws.{length-flatMap-le}
 use Rattle.points.specs.Points.{listed}
 use Rattle.permutation_theory.specs.Permutations.{Permutation, permutationsIn}
 use Rattle.permutation_images.specs.Laws.LoopLaws.{length-permutations}
@@ -22,13 +21,12 @@ use Rattle.formula.specs.Refusals.{formulaFault, roomFault, faultOf}
 use Rattle.formula.specs.Reply.{Fault, no-fault, fault, first, written}
 use Rattle.dimacs_format.specs.Text.{ascii}
 use Rattle.text_output.specs.Decimal.{line, lineEnd}
-use Rattle.text_output.specs.Laws.DecimalLaws.{line-length}
 use Rattle.text_output.specs.Laws.Putting.{placesEnd, Put, put-both, put-as, put-over}
 use Rattle.dimacs_text.specs.SheetText.{targetLine, inputIn, textOf}
 use Rattle.dimacs_text.specs.Writer.{textFault, textReply, textOutput}
 use Rattle.dimacs_text.specs.Laws.RoundTrip.{input-proper}
 use Rattle.dimacs_text.specs.Laws.TextParts.{permutationPart, clausePart, sheetParts, sheet-parts}
-use Rattle.dimacs_text.specs.Laws.LengthLaws.{target-length, permutation-length, longestClause}
+use Rattle.dimacs_text.specs.Laws.LengthLaws.{problem-length, target-length, permutations-length, longestClause}
 use Rattle.dimacs_text.specs.Laws.LengthLaws.{longestSheet, sheet-length}
 use Rattle.dimacs_output.specs.Laws.LinePutting.{longestImages, ListedWithin, AllPermutations}
 use Rattle.certificate_writer.specs.Contract.{replyOfWritten}
@@ -71,23 +69,13 @@ module _ (f : Formula) (clauses : ClauseSlices) where
         or-lt (f .variables) (c .positive) (c .negative) (b .0) (b .1)
 
     -- the room for the lines that precede each part, and for it
-    problem : List ℕ
-    problem = line (ascii "p cnf ") (f .variables) (ascii " ") (f .clauses)
-
-    problem-length : length problem ≤ 14
-    unfolding problem
-    problem-length = line-length (ascii "p cnf ") (ascii " ") 1 3 (f .variables) (f .clauses)
-        (let few = few-variables in omega arith) (let few = few-clauses in omega arith)
-
     pub problem-room : 0 + length (line (ascii "p cnf ") (f .variables) (ascii " ") (f .clauses)) ≤ placesEnd
-    unfolding problem
-    problem-room = omega (arith, problem-length)
+    problem-room = omega (arith, problem-length (f .variables) (f .clauses) few-variables few-clauses)
 
     module _ {out out₁ : List ℕ} {first : ℕ}
         (p : Put 0 (line (ascii "p cnf ") (f .variables) (ascii " ") (f .clauses)) out first out₁) where
       first-most : first ≤ 14
-      unfolding problem
-      first-most = omega (arith, p .behind, problem-length)
+      first-most = omega (arith, p .behind, problem-length (f .variables) (f .clauses) few-variables few-clauses)
 
       pub target-room : first + (f .variables + 8) ≤ placesEnd
       target-room = omega (arith, first-most, few-variables)
@@ -106,16 +94,15 @@ module _ (f : Formula) (clauses : ClauseSlices) where
         pub permutations-room : second + f .permutations * longestImages ≤ placesEnd
         permutations-room = omega (arith, second-most, few-permutations)
 
-        module _ {out₃ : List ℕ} {third : ℕ} (r : Put second (flatMap permutationPart permutations) out₂ third out₃) where
+        module _ {out₃ : List ℕ} {third : ℕ}
+            (r : Put second (flatMap permutationPart permutations) out₂ third out₃) where
           pub clauses-room : third + length (clausesOf clauses) * longestClause ≤ placesEnd
           clauses-room =
               omega (
                 arith,
                 second-most,
                 r .behind,
-                length-flatMap-le permutationPart (maxVariables * 3 + 7) permutations (λ e m. le-trans
-                    (permutation-length (f .variables) e some-variable few-variables (all-permutations e m))
-                    (omega (arith, few-variables))),
+                permutations-length (f .variables) permutations some-variable few-variables all-permutations,
                 length-permutations (f .variables) (f .permutations) (f .images),
                 few-permutations,
                 counted,
@@ -142,7 +129,7 @@ module _ (f : Formula) (clauses : ClauseSlices) where
 
   -- ---- the tests in order
 
-  -- rows 19, and 11 before it
+  -- row 19, and the rows behind row 10
   abbrev row19 : ℕ → Fault
   row19 lent = roomFault (length (textOf f clauses)) lent
 

@@ -1,11 +1,10 @@
 -- `text_output::put_text` meets its contract: a byte each. Assumes nothing.
 use mathlib.Core.List.{[], _∷_}
-use Prim.Native.Nat.{_+_, _-_, _≤_}
-use mathlib.Core.Path.{sym, subst}
+use Prim.Native.Nat.{_-_}
 use native.Mathlib.Omega.{arith}
 use lib.ListN.{length}
 use borrow.Author.Needs.{needs}
-use Rattle.text_output.specs.Laws.Putting.{placesEnd, PutFirst, first-none, first-next, first-all, next-room}
+use Rattle.text_output.specs.Laws.Putting.{placesEnd, PutFirst, first-none, first-next, first-all, room-left}
 use Rattle.text_output.specs.Laws.Putting.{flat-bytes, put-as}
 use Rattle.text_output.proofs.put_text.Statement.{statement}
 use Rattle.text_output.proofs.put_text.Tie as tie
@@ -22,8 +21,7 @@ loop-holds c = let a = (c .before .before .args) in first-none (λ b. b ∷ []) 
 put-byte-requires : tie.Need-put-byte-requires Inv-loop μ-loop
 put-byte-requires c κs =
     let a = (c .before .before .before .before .before .before .args) in
-    let room = subst (λ l. a .at + length l ≤ placesEnd) (sym (flat-bytes (a .text .now))) (c .before .before .before .before .before .before .pre) in
-    omega (arith, next-room (λ b. b ∷ []) (a .text .now) (a .at) (a .out .now) (c .before .before .before .loop .inv) 0 (c .before .before .loop-test .taken) placesEnd room)
+    omega (arith, room-left (λ b. b ∷ []) 1 (a .text .now) (λ b m. omega arith) (a .at) (a .out .now) (c .before .before .before .loop .inv) (c .before .before .loop-test .taken) placesEnd (omega (arith, c .before .before .before .before .before .before .pre)))
 
 loop-again : tie.Need-loop-again Inv-loop μ-loop
 loop-again c =

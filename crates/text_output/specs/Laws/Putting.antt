@@ -1,16 +1,16 @@
 -- Texts put into lent bytes, one behind the other, as far as the bytes reach: whoever puts a text into none learns how
 -- long it is. Assumes nothing.
-use mathlib.Core.List.{List, [], _∷_, _++_, map-id, flatMap}
+use mathlib.Core.List.{List, [], _∷_, _++_, map-id, flatMap, Memᴰ·append-left}
 use mathlib.Core.Path.{_≡_, refl, sym, ap, ap₂, _∙_, subst}
-use Prim.Native.Nat.{ℕ, suc, _+_, _≤_, _<_, zero-le}
-use native.Mathlib.Nat.{add-assoc, add-zero, zero-add, le-trans, le-of-eq}
+use Prim.Native.Nat.{ℕ, suc, _+_, _*_, _≤_, _<_, zero-le}
+use native.Mathlib.Nat.{add-assoc, add-zero, zero-add, le-trans, le-of-eq, le-refl, suc-mul, mul-le-mul}
 use native.Mathlib.Numerals.{add-one}
 use native.Mathlib.Omega.{arith}
-use lib.ListN.{length, getD, set, take, drop, length-append}
-use lib.Seq.{sets, sets-eq, split-at, take-suc, take-all}
-use Rattle.math.specs.Lists.{over, spliced}
+use lib.ListN.{length, getD, set, take, drop, length-append, take-append-drop}
+use lib.Seq.{sets, sets-eq, take-suc, take-all, length-take-le}
+use Rattle.math.specs.Lists.{_∈_, over, spliced}
 use Rattle.math.specs.Laws.SpliceLaws.{spliced-front}
-use Rattle.math.specs.Laws.SplitLaws.{flatMap-append, flatMap-snoc, flatMap-single}
+use Rattle.math.specs.Laws.SplitLaws.{flatMap-snoc, flatMap-single, length-flatMap-le}
 
 -- no put reaches this place, so that no sum of a place and a length leaves the machine's numbers
 abbrev pub placesEnd : ℕ
@@ -61,7 +61,8 @@ module _ (at : ℕ) (a b : List ℕ) (k : ℕ) (room : at + length (a ++ b) ≤ 
 
 module _ {A : Type 0} where
   -- the texts of the first i elements of a list are put
-  pub record PutFirst (f : A → List ℕ) (xs : List A) (at : ℕ) (out₀ : List ℕ) (i place : ℕ) (out : List ℕ) : Type 0 where
+  pub record PutFirst (f : A → List ℕ) (xs : List A) (at : ℕ) (out₀ : List ℕ) (i place : ℕ) (out : List ℕ)
+      : Type 0 where
     pub within : i ≤ length xs
     pub long : length out ≡ length out₀
     pub texts : Put at (flatMap f (take i xs)) out₀ place out
@@ -76,22 +77,6 @@ module _ {A : Type 0} where
       first-all all = put-as (ap (flatMap f) (take-all i xs all)) (p .texts)
 
       module _ (d : A) (more : i < length xs) where
-        -- the element that comes next has room where all of them have
-        pub next-room : (k : ℕ) → at + length (flatMap f xs) ≤ k → place + length (f (getD xs i d)) ≤ k
-        unfolding flatMap
-        next-room k room =
-            let front : List ℕ = flatMap f (take i xs) in
-            let rest : List ℕ = flatMap f (drop (suc i) xs) in
-            let whole : flatMap f xs ≡ front ++ (f (getD xs i d) ++ rest) = ap (flatMap f) (split-at xs i d more)
-            ∙ flatMap-append f (take i xs) (getD xs i d ∷ drop (suc i) xs) in
-            omega (
-              arith,
-              ap length whole,
-              length-append front (f (getD xs i d) ++ rest),
-              length-append (f (getD xs i d)) rest,
-              p .texts .behind,
-            )
-
         pub first-next : {r : ℕ} {out₁ : List ℕ} → Put place (f (getD xs i d)) out r out₁ → length out₁ ≡ length out
             → PutFirst f xs at out₀ (i + 1) r out₁
         first-next q same =
@@ -101,6 +86,21 @@ module _ {A : Type 0} where
               texts = put-as (sym (flatMap-snoc f (take i xs) (getD xs i d)) ∙ ap (flatMap f)
                   (sym (take-suc xs i d more) ∙ ap (λ (k : ℕ). take k xs) (sym (add-one i)))) (put-both (p .texts) q);
             }
+
+-- where each text has at most k bytes, the first i have at most i · k, so that there is room for one more
+module _ {A : Type 0} (f : A → List ℕ) (k : ℕ) (xs : List A) (short : (x : A) → x ∈ xs → length (f x) ≤ k) where
+  pub room-left : (at : ℕ) (out₀ : List ℕ) {i place : ℕ} {out : List ℕ} → PutFirst f xs at out₀ i place out
+      → i < length xs → (end : ℕ) → at + length xs * k ≤ end → place + k ≤ end
+  room-left at out₀ {i} {place} p more end room =
+      omega (
+        arith,
+        p .texts .behind,
+        length-flatMap-le f k (take i xs) (λ x m. short x
+            (subst (λ l. x ∈ l) (take-append-drop i xs) (Memᴰ·append-left (drop i xs) m))),
+        ap (λ (j : ℕ). j * k) (length-take-le i xs (p .within)),
+        suc-mul i k,
+        mul-le-mul more (le-refl k),
+      )
 
 -- a byte each: the list itself
 pub flat-bytes : (bs : List ℕ) → flatMap (λ b. b ∷ []) bs ≡ bs
