@@ -1,11 +1,12 @@
 -- K3: the one claim: the third demand whole, over sheet, search, written certificate and checker together. It cites the
 -- very definitions that the entry points' contracts cite. Definitions alone; Theorem shows it. Assumes nothing.
-use mathlib.Core.List.{List}
+use mathlib.Core.List.{List, [], map}
 use mathlib.Core.Logic.{_↔_}
 use mathlib.Core.Path.{_≡_}
 use Prim.Native.Nat.{ℕ, _≤_, _<_, _^_}
 use lib.ListN.{length, take, drop}
-use Rattle.points.specs.Points.{distance, SatisfiesAll}
+use Rattle.math.specs.Lists.{_∈_}
+use Rattle.points.specs.Points.{Clause, distance, Numbered, SatisfiesAll}
 use Rattle.point_slices.specs.Slices.{ClauseSlices, SlotSlices, firstClauses}
 use Rattle.formula.specs.declared.Formula.{Formula}
 use Rattle.formula.specs.Limits.{maxSlots, capacity}
@@ -68,6 +69,25 @@ pub record Meets (pb : Problem) (x : ℕ) : Type 0 where
 abbrev pub AtLeast : Problem → ℕ → Type 0
 AtLeast pb d = (y : ℕ) → Meets pb y → d ≤ distance (pb .variables) y (pb .target)
 
+-- x is the smallest, as a number, of the nearest choices that are in the set S: those that meet the rules with d changes
+abbrev pub SmallestIn : (ℕ → Type 0) → Problem → ℕ → ℕ → Type 0
+SmallestIn S pb d x = (y : ℕ) → S y → Meets pb y → distance (pb .variables) y (pb .target) ≡ d → x ≤ y
+
+-- the choices in the filled slots, as the builder left them
+abbrev pub InSlots : Sheet → SlotSlices → ℕ → ℕ → Type 0
+InSlots s slots filled y = y ∈ take filled (searchSlices (formulaIn s) (slicesIn s) slots .points)
+
+-- all choices on the sheet
+abbrev pub OnSheet : ℕ → Type 0
+OnSheet y = Unit {0}
+
+-- two problems with the same n, wish and set of rules, in whatever order
+pub record SameRules (a b : Problem) : Type 0 where
+  pub variables : a .variables ≡ b .variables
+  pub target : a .target ≡ b .target
+  pub rules : (c : Clause) → (c ∈ map (λ (r : Numbered). r .clause) (a .clauses))
+      ↔ (c ∈ map (λ (r : Numbered). r .clause) (b .clauses))
+
 -- the certificate of the filled slots, `size` bytes long: an output too short is refused by 19 and left as it was;
 -- another takes the certificate, keeps what lies behind it, and the checker accepts what was put there
 pub record Certified (s : Sheet) (slots : SlotSlices) (filled size : ℕ) (out : List ℕ) : Type 0 where
@@ -108,3 +128,16 @@ pub record Claim : Type 0 where
       → 2 ^ problemIn s .variables ≤ length (slots .points)
       → 2 ^ problemIn s .variables ≤ length (slots .falsified) → 2 ^ problemIn s .variables ≤ length (slots .depths)
       → SearchAnswers s slots (unknown b filled) → ⊥
+  -- Q03.2: "Among the nearest choices in the slots the one smallest as a number is now handed back."
+  pub smallest-in-slots : (s : Sheet) (slots : SlotSlices) (x d filled : ℕ)
+      → SearchAnswers s slots (satisfiable x d filled)
+      → InSlots s slots filled x × SmallestIn (InSlots s slots filled) (problemIn s) d x
+  -- Q03.6: "Without exchanges a choice handed back is the smallest of all nearest choices on the whole sheet."
+  pub smallest : (s : Sheet) (slots : SlotSlices) (x d filled : ℕ) → SearchAnswers s slots (satisfiable x d filled)
+      → problemIn s .permutations ≡ [] → SmallestIn OnSheet (problemIn s) d x
+  -- Q03.1: "Editors of series want the same house choice each time, however the client ordered the rules.": without
+  -- exchanges, where both sheets are met, with whatever slots
+  pub same-choice : (s t : Sheet) (slots lent : SlotSlices) (x d filled y e used : ℕ)
+      → SearchAnswers s slots (satisfiable x d filled) → SearchAnswers t lent (satisfiable y e used)
+      → problemIn s .permutations ≡ [] → problemIn t .permutations ≡ [] → SameRules (problemIn s) (problemIn t)
+      → (x ≡ y) × (d ≡ e)

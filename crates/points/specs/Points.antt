@@ -6,7 +6,7 @@ use mathlib.Core.Bool.{Bool, true, false, not, cond, _||_, xor}
 use mathlib.Core.List.{List, [], _∷_, _++_}
 use mathlib.Core.Option.{Option, some, none}
 use mathlib.Core.Path.{_≡_}
-use Prim.Native.Nat.{ℕ, suc, _<_, _^_}
+use Prim.Native.Nat.{ℕ, suc, min, _≤_, _<_, _^_}
 use lib.Bits.{bitAnd, bitOr}
 use lib.Dec.{eqb}
 use Rattle.math.specs.Bits.{bit, members}
@@ -87,3 +87,26 @@ firstFalsified (c ∷ cs) x = cond (satisfies (c .clause) x) (firstFalsified cs 
 unfoldable pub numberOf : Option Numbered → ℕ
 numberOf none = 0
 numberOf (some c) = c .number
+
+-- ---- the smallest of points that meet all rules
+
+-- Q03.2: "the one smallest as a number": x, of the points l
+pub record Smallest (cs : List Numbered) (l : List ℕ) (x : ℕ) : Type 0 where
+  pub among : x ∈ l
+  pub satisfying : SatisfiesAll cs x
+  pub least : (y : ℕ) → y ∈ l → SatisfiesAll cs y → x ≤ y
+
+-- none of the points l does
+abbrev pub NoneSatisfies : List Numbered → List ℕ → Type 0
+NoneSatisfies cs l = (y : ℕ) → y ∈ l → SatisfiesAll cs y → ⊥
+
+-- the same, computed: a point, from the clause that it falsifies first, beside the smallest of those behind it
+unfoldable pub lesser : ℕ → Option Numbered → Option ℕ → Option ℕ
+lesser x (some c) o = o
+lesser x none none = some x
+lesser x none (some y) = some (min x y)
+
+unfoldable pub smallest : List Numbered → List ℕ → Option ℕ
+unfolding firstFalsified lesser
+smallest cs [] = none
+smallest cs (x ∷ l) = lesser x (firstFalsified cs x) (smallest cs l)

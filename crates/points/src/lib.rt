@@ -33,6 +33,13 @@ pub fn same(x: Point, y: Point) -> bool
     x == y
 }
 
+// Whether x is smaller than y as a number.
+pub fn less(x: Point, y: Point) -> bool
+    ensures { λ r. ⌜ r ≡ ltb x y ⌝ }
+{
+    x < y
+}
+
 // Whether x has no bit at n or above.
 pub fn below(x: Point, n: u32) -> bool
     ensures { λ r. ⌜ r ≡ ltb x (2 ^ n) ⌝ }

@@ -1,13 +1,15 @@
 -- Document 01, 'Walk': the search over a problem and a number of slots, first as a sentence (Walks), then computed
 -- (walk). Slots stand in two lists, those processed and those that wait, each oldest first. Assumes nothing.
-use mathlib.Core.Bool.{Bool, true, false}
+use mathlib.Core.Bool.{Bool, true, false, cond}
 use mathlib.Core.List.{List, [], _∷_, _++_, map}
 use mathlib.Core.Option.{Option, some, none}
 use Prim.Native.Nat.{ℕ, zero, suc, _≤_, _<_}
-use lib.Dec.{ltb}
+use lib.Dec.{eqb, ltb}
 use lib.ListN.{length}
 use Rattle.math.specs.Bits.{flip, bit}
-use Rattle.points.specs.Points.{distance, variables, Numbered, SatisfiesAll, FirstFalsified, firstFalsified}
+use Rattle.math.specs.Lists.{all, select}
+use Rattle.points.specs.Points.{distance, variables, Numbered, FirstFalsified, firstFalsified}
+use Rattle.points.specs.Points.{Smallest, NoneSatisfies, smallest}
 use Rattle.permutation_theory.specs.Permutations.{Permutation, Covered, covered}
 use Rattle.formula.specs.Problem.{Problem}
 use Rattle.formula.specs.Reply.{Reply, satisfiable, unsatisfiable, unknown}
@@ -90,6 +92,23 @@ module _ (es : List Permutation) (capacity : ℕ) (known : List Slot) (x d : ℕ
   expand [] r = r
   expand (v ∷ vs) r = expand vs (tryFlip v r)
 
+-- ---- the points that are tested
+
+-- Q03.3: "on first taking a point of a new depth (0 included)": every processed slot is shallower than s
+unfoldable pub opens : List Slot → Slot → Bool
+unfolding all
+opens p s = all (λ (t : Slot). ltb (t .depth) (s .depth)) p
+
+-- the slots that are as deep as s
+abbrev pub asDeep : Slot → List Slot → List Slot
+asDeep s l = select (λ (t : Slot). eqb (t .depth) (s .depth)) l
+
+-- Q03.3: "tests all unprocessed points of that depth before it processes any"; of a depth that is not new, the point
+-- taken alone
+unfoldable pub tested : List Slot → Slot → List Slot → List ℕ
+unfolding opens select
+tested p s w = pointsIn (cond (opens p s) (asDeep s (s ∷ w)) (s ∷ []))
+
 -- ---- the search
 
 module _ (pb : Problem) (capacity : ℕ) where
@@ -98,21 +117,22 @@ module _ (pb : Problem) (capacity : ℕ) where
   pub data Walks : State → Reply → List Slot → Type 0 where
     -- W9: "None left: answer cannot be met, with slots filled."
     none-left : {p : List Slot} → Walks (state p []) (unsatisfiable (length p)) p
-    -- W5: "it meets all rules: answer met (its slot's rule stays 0), with the choice, its changes .. and the number of
-    -- slots filled"
-    met : {p w : List Slot} {s : Slot} → SatisfiesAll (pb .clauses) (s .point)
-        → Walks (state p (s ∷ w)) (satisfiable (s .point) (distance (pb .variables) (s .point) (pb .target))
-        (length (p ++ s ∷ w))) (p ++ s ∷ w)
+    -- Q03.2: "Among the nearest choices in the slots the one smallest as a number is now handed back.": of the points
+    -- tested. W5: "answer met .., with the choice, its changes .. and the number of slots filled"
+    met : {p w : List Slot} {s : Slot} {x : ℕ} → Smallest (pb .clauses) (tested p s w) x
+        → Walks (state p (s ∷ w)) (satisfiable x (distance (pb .variables) x (pb .target)) (length (p ++ s ∷ w)))
+        (p ++ s ∷ w)
     -- W6: "otherwise its rule is the lowest-numbered one unmet; that number goes into its slot first, and stays there
     -- on 'no room'."
-    -- W8: "answer no room, with d the depth of the point being processed and slots filled"
-    stuck : {p w w′ : List Slot} {s : Slot} {c : Numbered} → FirstFalsified (pb .clauses) (s .point) c
+    -- Q03.4: "On 'no room' the number carried is the depth being processed plus one"
+    stuck : {p w w′ : List Slot} {s : Slot} {c : Numbered} → NoneSatisfies (pb .clauses) (tested p s w)
+        → FirstFalsified (pb .clauses) (s .point) c
         → Fills (pb .permutations) capacity (p ++ withNumber s c ∷ []) (s .point) (s .depth)
         (variables (pb .variables) (c .clause)) w (full w′)
-        → Walks (state p (s ∷ w)) (unknown (s .depth) (length ((p ++ withNumber s c ∷ []) ++ w′)))
+        → Walks (state p (s ∷ w)) (unknown (suc (s .depth)) (length ((p ++ withNumber s c ∷ []) ++ w′)))
         ((p ++ withNumber s c ∷ []) ++ w′)
     goes-on : {p w w′ : List Slot} {s : Slot} {c : Numbered} {r : Reply} {l : List Slot}
-        → FirstFalsified (pb .clauses) (s .point) c
+        → NoneSatisfies (pb .clauses) (tested p s w) → FirstFalsified (pb .clauses) (s .point) c
         → Fills (pb .permutations) capacity (p ++ withNumber s c ∷ []) (s .point) (s .depth)
         (variables (pb .variables) (c .clause)) w (complete w′)
         → Walks (state (p ++ withNumber s c ∷ []) w′) r l → Walks (state p (s ∷ w)) r l
@@ -124,21 +144,31 @@ module _ (pb : Problem) (capacity : ℕ) where
 
   unfoldable pub expanded : List Slot → ℕ → Expansion → Stepped
   expanded known d (complete w) = goes (state known w)
-  expanded known d (full w) = ends (unknown d (length (known ++ w))) (known ++ w)
+  expanded known d (full w) = ends (unknown (suc d) (length (known ++ w))) (known ++ w)
+
+  -- the point x is the answer, with the slots l filled
+  unfoldable pub answers : ℕ → List Slot → Stepped
+  unfolding distance bit
+  answers x l = ends (satisfiable x (distance (pb .variables) x (pb .target)) (length l)) l
 
   unfoldable pub processedBy : List Slot → Slot → List Slot → Option Numbered → Stepped
-  unfolding expanded expand variables distance bit
-  processedBy p s w none = ends (satisfiable (s .point) (distance (pb .variables) (s .point) (pb .target))
-      (length (p ++ s ∷ w))) (p ++ s ∷ w)
+  unfolding answers expanded expand variables
+  processedBy p s w none = answers (s .point) (p ++ s ∷ w)
   processedBy p s w (some c) =
       let known = p ++ withNumber s c ∷ [] in
       expanded known (s .depth) (expand (pb .permutations) capacity known (s .point) (s .depth)
       (variables (pb .variables) (c .clause)) (complete w))
 
+  -- a slot, from the smallest of the points tested that satisfies, if any
+  unfoldable pub testedBy : List Slot → Slot → List Slot → Option ℕ → Stepped
+  unfolding answers processedBy firstFalsified
+  testedBy p s w (some x) = answers x (p ++ s ∷ w)
+  testedBy p s w none = processedBy p s w (firstFalsified (pb .clauses) (s .point))
+
   unfoldable pub stepFrom : List Slot → List Slot → Stepped
-  unfolding processedBy firstFalsified
+  unfolding testedBy smallest tested
   stepFrom p [] = ends (unsatisfiable (length p)) p
-  stepFrom p (s ∷ w) = processedBy p s w (firstFalsified (pb .clauses) (s .point))
+  stepFrom p (s ∷ w) = testedBy p s w (smallest (pb .clauses) (tested p s w))
 
   -- an answer, and the slots as the search leaves them
   pub record Ending : Type 0 where

@@ -6,13 +6,13 @@ use Prim.Native.Nat.{ℕ, suc, _+_, _≤_, _<_, _^_}
 use lib.ListN.{length, getD}
 use Rattle.math.specs.Bits.{flip}
 use Rattle.math.specs.Lists.{_∈_, Distinct}
-use Rattle.points.specs.Points.{distance, variables, Numbered, SatisfiesAll, FirstFalsified}
+use Rattle.points.specs.Points.{distance, variables, Numbered, SatisfiesAll, FirstFalsified, Smallest, NoneSatisfies}
 use Rattle.permutation_theory.specs.Permutations.{Permutation, imageOfPoint}
 use Rattle.point_theory.specs.Laws.Maps.{Automorphism, CoveredBy}
 use Rattle.point_theory.specs.Laws.Notions.{ClausesBelow}
 use Rattle.formula.specs.Problem.{Problem}
 use Rattle.formula.specs.Reply.{Reply, satisfiable, unsatisfiable, unknown}
-use Rattle.search_theory.specs.Walk.{Slot, slot, pointsIn, withNumber, full, Fills}
+use Rattle.search_theory.specs.Walk.{Slot, slot, pointsIn, withNumber, full, Fills, tested}
 
 -- ---- the problem
 
@@ -98,6 +98,8 @@ pub record Invariants (pb : Problem) (capacity : ℕ) (p w : List Slot) : Type 0
   pub unnumbered : (t : Slot) → t ∈ w → t .falsified ≡ 0
   -- with `ascending`: no waiting slot is more than one deeper than the first of them
   pub level : (s t : Slot) → s ∈ w → t ∈ w → t .depth ≤ suc (s .depth)
+  -- a waiting slot that is no deeper than a processed one was tested, and does not satisfy
+  pub failed : (q t : Slot) → q ∈ p → t ∈ w → t .depth ≤ q .depth → SatisfiesAll (pb .clauses) (t .point) → ⊥
 
 -- ---- between two states: the flips of the slot q, the last of those known, are filled one by one
 
@@ -111,13 +113,13 @@ pub record Expanding (pb : Problem) (capacity : ℕ) (known : List Slot) (q : Sl
 
 -- ---- the measure
 
--- one of the slots w stands so near to a satisfying point that its depth and that distance together are at most k
-pub record Ahead (pb : Problem) (w : List Slot) (k : ℕ) : Type 0 where
+-- one of the slots w stands so near to a point of the set S that its depth and that distance together are at most k
+pub record Ahead (pb : Problem) (S : ℕ → Type 0) (w : List Slot) (k : ℕ) : Type 0 where
   pub ahead : Slot
   pub among : ahead ∈ w
   pub solution : ℕ
   pub within : solution < 2 ^ pb .variables
-  pub satisfying : SatisfiesAll (pb .clauses) solution
+  pub inside : S solution
   pub reaches : ahead .depth + distance (pb .variables) (ahead .point) solution ≤ k
 
 -- ---- how a search ends
@@ -125,12 +127,12 @@ pub record Ahead (pb : Problem) (w : List Slot) (k : ℕ) : Type 0 where
 -- the answer r, with the slots l, is the next step from a state that satisfies the invariants
 pub data Ended (pb : Problem) (capacity : ℕ) : Reply → List Slot → Type 0 where
   exhausted : {p : List Slot} → Invariants pb capacity p [] → Ended pb capacity (unsatisfiable (length p)) p
-  reached : {p w : List Slot} {s : Slot} → Invariants pb capacity p (s ∷ w) → SatisfiesAll (pb .clauses) (s .point)
-      → Ended pb capacity (satisfiable (s .point) (distance (pb .variables) (s .point) (pb .target))
-      (length (p ++ s ∷ w))) (p ++ s ∷ w)
+  reached : {p w : List Slot} {s : Slot} {x : ℕ} → Invariants pb capacity p (s ∷ w)
+      → Smallest (pb .clauses) (tested p s w) x
+      → Ended pb capacity (satisfiable x (distance (pb .variables) x (pb .target)) (length (p ++ s ∷ w))) (p ++ s ∷ w)
   blocked : {p w u : List Slot} {s : Slot} {c : Numbered} → Invariants pb capacity p (s ∷ w)
-      → FirstFalsified (pb .clauses) (s .point) c
+      → NoneSatisfies (pb .clauses) (tested p s w) → FirstFalsified (pb .clauses) (s .point) c
       → Fills (pb .permutations) capacity (p ++ withNumber s c ∷ []) (s .point) (s .depth)
       (variables (pb .variables) (c .clause)) w (full u)
-      → Ended pb capacity (unknown (s .depth) (length ((p ++ withNumber s c ∷ []) ++ u)))
+      → Ended pb capacity (unknown (suc (s .depth)) (length ((p ++ withNumber s c ∷ []) ++ u)))
       ((p ++ withNumber s c ∷ []) ++ u)

@@ -27,6 +27,16 @@ pub record Nearest (pb : Problem) (x d : ℕ) : Type 0 where
   pub changes : d ≡ distance (pb .variables) x (pb .target)
   pub nearest : LowerBound pb d
 
+-- Q03.2: "Among the nearest choices in the slots the one smallest as a number is now handed back."
+abbrev pub SmallestFilled : Problem → List Slot → ℕ → ℕ → Type 0
+SmallestFilled pb l x d = (t : Slot) → t ∈ l → SatisfiesAll (pb .clauses) (t .point)
+    → distance (pb .variables) (t .point) (pb .target) ≡ d → x ≤ t .point
+
+-- Q03.6: "Without exchanges a choice handed back is the smallest of all nearest choices on the whole sheet."
+abbrev pub SmallestNearest : Problem → ℕ → ℕ → Type 0
+SmallestNearest pb x d = (y : ℕ) → y < 2 ^ pb .variables → SatisfiesAll (pb .clauses) y
+    → distance (pb .variables) y (pb .target) ≡ d → x ≤ y
+
 -- the slot of the point handed back: "its slot's rule stays 0", and its depth is its distance
 pub record HandedBack (l : List Slot) (x d : ℕ) : Type 0 where
   pub holder : Slot
