@@ -2,3 +2,4 @@
 pub mod Contracts
 pub mod PointLaws
 pub mod NextLaws
+pub mod SmallestLaws
