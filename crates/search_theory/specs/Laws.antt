@@ -1,6 +1,7 @@
 -- Laws, and what functions inside the library promise each other: no contract of an entry point cites any of it.
 pub mod Invariants
 pub mod InvariantLaws
+pub mod LevelLaws
 pub mod ExpansionLaws
 pub mod Ends
 pub mod Measure

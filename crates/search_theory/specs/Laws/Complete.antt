@@ -1,13 +1,14 @@
 -- 'Unsatisfiable' is answered exactly if no point satisfies, unless 'unknown' is. Assumes nothing.
 use mathlib.Core.List.{List, [], _∷_, _++_, List·Memᴰ·not-nil}
 use mathlib.Core.Path.{_≡_, refl, subst}
-use Prim.Native.Nat.{ℕ, _≤_}
+use Prim.Native.Nat.{ℕ, suc, _≤_}
 use lib.ListN.{length}
-use Rattle.points.specs.Points.{distance}
+use Rattle.points.specs.Points.{distance, SatisfiesAll}
 use Rattle.formula.specs.Problem.{Problem, Unsatisfiable}
 use Rattle.formula.specs.Reply.{Reply, satisfiable, unsatisfiable, unknown}
 use Rattle.search_theory.specs.Laws.Ends.{search-ends}
 use Rattle.search_theory.specs.Laws.Invariants.{Ready, Ended, exhausted}
+use Rattle.search_theory.specs.Laws.InvariantLaws.{symmetries-of}
 use Rattle.search_theory.specs.Laws.Measure.{measure}
 use Rattle.search_theory.specs.Laws.Nearest.{found-nearest}
 use Rattle.search_theory.specs.Walk.{Slot, withNumber, State, start, Walks, none-left, met, stuck, goes-on}
@@ -18,16 +19,18 @@ module _ (pb : Problem) (capacity : ℕ) where
       → ((b filled : ℕ) → r ≡ unknown b filled → ⊥) → ((x d filled : ℕ) → r ≡ satisfiable x d filled → ⊥)
       → r ≡ unsatisfiable (length l)
   otherwise-unsatisfiable none-left known lost = refl
-  otherwise-unsatisfiable (met {p = p} {w = w} {s = s} h) known lost = absurd
-      (lost (s .point) (distance (pb .variables) (s .point) (pb .target)) (length (p ++ s ∷ w)) refl)
-  otherwise-unsatisfiable (stuck {p = p} {w′ = u} {s = s} {c = c} f g) known lost = absurd
-      (known (s .depth) (length ((p ++ withNumber s c ∷ []) ++ u)) refl)
-  otherwise-unsatisfiable (goes-on f g t) known lost = otherwise-unsatisfiable t known lost
+  otherwise-unsatisfiable (met {p = p} {w = w} {s = s} {x = x} h) known lost = absurd
+      (lost x (distance (pb .variables) x (pb .target)) (length (p ++ s ∷ w)) refl)
+  otherwise-unsatisfiable (stuck {p = p} {w′ = u} {s = s} {c = c} n f g) known lost = absurd
+      (known (suc (s .depth)) (length ((p ++ withNumber s c ∷ []) ++ u)) refl)
+  otherwise-unsatisfiable (goes-on n f g t) known lost = otherwise-unsatisfiable t known lost
 
 module _ (pb : Problem) (capacity : ℕ) (ready : Ready pb) where
   -- nothing waits, but for a satisfying point something would
   refuted-ended : {filled : ℕ} {l : List Slot} → Ended pb capacity (unsatisfiable filled) l → Unsatisfiable pb
-  refuted-ended (exhausted {p = p} i) y hy sat = List·Memᴰ·not-nil (measure pb capacity ready p [] i y hy sat .among)
+  refuted-ended (exhausted {p = p} i) y hy sat =
+      List·Memᴰ·not-nil (measure pb capacity ready (SatisfiesAll (pb .clauses)) (λ z h. h) (symmetries-of pb ready) p []
+      i y hy sat .among)
 
   module _ (room : 1 ≤ capacity) where
     pub refuted : {filled : ℕ} {l : List Slot} → Walks pb capacity (start pb) (unsatisfiable filled) l

@@ -33,8 +33,9 @@ module _ (pb : Problem) (capacity : ℕ) where
       → Invariants pb capacity (st .processed) (st .waiting) → Ended pb capacity r l
   walks-end none-left i = exhausted i
   walks-end (met h) i = reached i h
-  walks-end (stuck f g) i = blocked i f g
-  walks-end (goes-on {p = p} {w = w} {s = s} {c = c} f g t) i = walks-end t (invariants-step pb capacity p w s c f i g)
+  walks-end (stuck n f g) i = blocked i n f g
+  walks-end (goes-on {p = p} {w = w} {s = s} {c = c} n f g t) i =
+      walks-end t (invariants-step pb capacity p w s c f i n g)
 
   pub search-ends : Ready pb → 1 ≤ capacity → {r : Reply} {l : List Slot} → Walks pb capacity (start pb) r l
       → Ended pb capacity r l
@@ -45,17 +46,17 @@ module _ (pb : Problem) (capacity : ℕ) where
   pub ended-filled : {r : Reply} {l : List Slot} → Ended pb capacity r l → Filled pb capacity l
   ended-filled (exhausted {p = p} i) = subst (Filled pb capacity) (append-nil p) (i .filled)
   ended-filled (reached i h) = i .filled
-  ended-filled (blocked {p = p} {w = w} {s = s} {c = c} i f g) = blocked-expanding p w s c f i g .filled
+  ended-filled (blocked {p = p} {w = w} {s = s} {c = c} i n f g) = blocked-expanding p w s c f i g .filled
 
   pub ended-family : {r : Reply} {l : List Slot} → Ended pb capacity r l → (k : ℕ) × Family pb l k
   ended-family (exhausted {p = p} i) = (length p, subst (λ l. Family pb l (length p)) (append-nil p) (i .family))
   ended-family (reached {p = p} i h) = (length p, i .family)
-  ended-family (blocked {p = p} {w = w} {s = s} {c = c} i f g) =
+  ended-family (blocked {p = p} {w = w} {s = s} {c = c} i n f g) =
       (length (p ++ withNumber s c ∷ []), blocked-expanding p w s c f i g .family)
 
   -- the number reported is that of the slots filled
   pub walks-reported : {st : State} {r : Reply} {l : List Slot} → Walks pb capacity st r l → reported r ≡ length l
   walks-reported none-left = refl
   walks-reported (met h) = refl
-  walks-reported (stuck f g) = refl
-  walks-reported (goes-on f g t) = walks-reported t
+  walks-reported (stuck n f g) = refl
+  walks-reported (goes-on n f g t) = walks-reported t

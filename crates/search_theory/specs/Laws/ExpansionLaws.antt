@@ -1,6 +1,7 @@
 -- The flips of one slot: while they are filled the invariants stay, and once all are looked at each is covered by the
 -- filled slots. Assumes nothing.
 use mathlib.Core.List.{List, [], _∷_, _++_, append-assoc, List·Memᴰ·tail, Memᴰ·append-left, Memᴰ·append-right}
+use mathlib.Core.Logic.{_⊎_, inl, inr, ⊎-elim}
 use mathlib.Core.Path.{_≡_, refl, _∙_, subst}
 use Prim.Native.Nat.{ℕ, suc, _+_, _≤_, _<_, suc-le-suc}
 use native.Mathlib.Nat.{le-refl, le-trans, lt-of-lt-of-le, le-step}
@@ -11,7 +12,7 @@ use Rattle.math.specs.Laws.ListLaws.{here, in-getD}
 use Rattle.math.specs.Lists.{_∈_}
 use Rattle.math.specs.Laws.PartLaws.{each-nil, each-cons}
 use Rattle.math.specs.Laws.QueueLaws.{each-append, each-snoc, last-in, before-after}
-use Rattle.points.specs.Points.{Numbered, variables, FirstFalsified}
+use Rattle.points.specs.Points.{Numbered, variables, SatisfiesAll, FirstFalsified, NoneSatisfies}
 use Rattle.permutation_theory.specs.Permutations.{Covered, itself}
 use Rattle.point_theory.specs.Laws.Maps.{CoveredBy, in-set}
 use Rattle.permutation_theory.specs.Laws.Symmetries.{covered-through}
@@ -21,7 +22,8 @@ use Rattle.search_theory.specs.Laws.InvariantLaws.{family-more}
 use Rattle.search_theory.specs.Laws.Invariants.{maps, slotAt, Moved, Parent, Held, Processed, Filled, Family}
 use Rattle.search_theory.specs.Laws.Invariants.{Invariants, Expanding}
 use Rattle.search_theory.specs.Walk.{Slot, slot, pointsIn, withNumber, Expansion, complete, full, Fills, no-more}
-use Rattle.search_theory.specs.Walk.{skipped, filled-next, no-room}
+use Rattle.search_theory.specs.Walk.{skipped, filled-next, no-room, tested}
+use Rattle.search_theory.specs.Laws.LevelLaws.{level-failed}
 use Rattle.search_theory.specs.Laws.WalkLaws.{waitingIn}
 
 -- ---- the flips of the slot q, whose clause's variables are among vs
@@ -98,6 +100,16 @@ module _ (pb : Problem) (capacity : ℕ) (known : List Slot) (q : Slot) (moved :
   fills-grow (skipped c f) t m = fills-grow f t m
   fills-grow (filled-next {v = v} c h f) t m = fills-grow f t (Memᴰ·append-left (child v ∷ []) m)
   fills-grow (no-room c h) t m = m
+
+  -- what waits waited before, or is one deeper than q
+  pub fills-new : {vs : List ℕ} {w : List Slot} {r : Expansion} → fills vs w r → (t : Slot) → t ∈ waitingIn r
+      → (t ∈ w) ⊎ (t .depth ≡ suc (q .depth))
+  fills-new no-more t m = inl m
+  fills-new (skipped c f) t m = fills-new f t m
+  fills-new (filled-next {w = w} c h f) t m =
+      ⊎-elim (each-snoc (λ t. (t ∈ w) ⊎ (t .depth ≡ suc (q .depth))) w (λ t k. inl k) (inr refl) t) inr
+      (fills-new f t m)
+  fills-new (no-room c h) t m = inl m
 
   -- a point that is covered by the filled slots is so by slots at most one deeper than q, whatever is filled later
   still-covered : {w u : List Slot} {y : ℕ} → Expanding pb capacity known q w → ((t : Slot) → t ∈ w → t ∈ u)
@@ -183,12 +195,13 @@ module _ (pb : Problem) (capacity : ℕ) (p w : List Slot) (s : Slot) (c : Numbe
       filled : Filled pb capacity (known ++ w)
       filled = filled-moved pb capacity p w s q refl refl (i .filled)
 
-  -- all its flips are looked at: the next state
+  -- none of the points tested satisfies, and all its flips are looked at: the next state
   pub invariants-step : {u : List Slot} → Invariants pb capacity p (s ∷ w)
+      → NoneSatisfies (pb .clauses) (tested p s w)
       → Fills (pb .permutations) capacity (p ++ withNumber s c ∷ []) (s .point) (s .depth)
       (variables (pb .variables) (c .clause)) w (complete u)
       → Invariants pb capacity (p ++ withNumber s c ∷ []) u
-  invariants-step {u} i f =
+  invariants-step {u} i none f =
       let e = begins-expanding i in
       let g = fills-expanding pb capacity known q numbered-moved f (λ v m. m) e in
       record {
@@ -198,8 +211,16 @@ module _ (pb : Problem) (capacity : ℕ) (p w : List Slot) (s : Slot) (c : Numbe
         family = g .family;
         unnumbered = g .unnumbered;
         level = λ a b ma mb. le-trans (g .next b mb .1) (suc-le-suc (g .next a ma .0));
+        failed = λ a b ma mb le. behind b (le-trans le (g .settled a ma))
+            (fills-new pb capacity known q numbered-moved f b mb);
       }
     where
+      -- a slot no deeper than s is none of those just filled, so it waited and was tested
+      behind : (b : Slot) → b .depth ≤ s .depth → (b ∈ w) ⊎ (b .depth ≡ suc (s .depth))
+          → SatisfiesAll (pb .clauses) (b .point) → ⊥
+      behind b le (inl m) sat = level-failed pb capacity p w s i none b (List·Memᴰ·tail m) le sat
+      behind b le (inr e) sat = omega arith
+
       grows : (t : Slot) → t ∈ w → t ∈ u
       grows = fills-grow pb capacity known q numbered-moved f
 

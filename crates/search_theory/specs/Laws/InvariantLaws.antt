@@ -243,6 +243,7 @@ module _ (pb : Problem) (capacity : ℕ) where
         unnumbered = each-cons (λ u. u .falsified ≡ 0) refl (each-nil (λ u. u .falsified ≡ 0));
         level = λ s t ms mt. le-trans (le-of-eq (each-cons (λ u. u .depth ≡ 0) refl (each-nil (λ u. u .depth ≡ 0)) t
             mt)) zero-le;
+        failed = λ q t m. absurd (List·Memᴰ·not-nil m);
       }
     where
       first : List Slot

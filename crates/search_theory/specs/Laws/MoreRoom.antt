@@ -21,5 +21,5 @@ module _ {few many : ℕ} (more : few ≤ many) where
       → ((b filled : ℕ) → r ≡ unknown b filled → ⊥) → Walks pb few st r l → Walks pb many st r l
   walks-more known none-left = none-left
   walks-more known (met m) = met m
-  walks-more known (stuck first f) = absurd (known _ _ refl)
-  walks-more known (goes-on first f t) = goes-on first (fills-more f) (walks-more known t)
+  walks-more known (stuck n first f) = absurd (known _ _ refl)
+  walks-more known (goes-on n first f t) = goes-on n first (fills-more f) (walks-more known t)

@@ -35,7 +35,7 @@ module _ (pb : Problem) (capacity : ℕ) where
 
   room-ended : 2 ^ pb .variables ≤ capacity → {b filled : ℕ} {l : List Slot} → Ended pb capacity (unknown b filled) l
       → ⊥
-  room-ended large (blocked {p = p} {w = w} {u = u} {s = s} {c = c} i first g) =
+  room-ended large (blocked {p = p} {w = w} {u = u} {s = s} {c = c} i n first g) =
       let known = p ++ withNumber s c ∷ [] in
       let e = blocked-expanding pb capacity p w s c first i g in
       let r = fills-stuck pb capacity known (withNumber s c) (numbered-moved pb capacity p w s c first) g in

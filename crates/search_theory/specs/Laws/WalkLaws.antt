@@ -13,16 +13,18 @@ use borrow.Author.Tests.{lt-ltb, le-ltb, ltb-true, ltb-false}
 use Rattle.math.specs.Bits.{flip}
 use Rattle.math.specs.Laws.ListLaws.{not-true-false}
 use Rattle.math.specs.Laws.QueueLaws.{length-snoc, length-moved}
-use Rattle.points.specs.Laws.PointLaws.{first-sound, first-complete, first-none, none-first}
-use Rattle.points.specs.Points.{variables, Numbered, firstFalsified}
+use Rattle.points.specs.Laws.PointLaws.{first-sound, first-complete, first-none}
+use Rattle.points.specs.Laws.SmallestLaws.{smallest-some, smallest-none, none-smallest, smallest-same}
+use Rattle.points.specs.Points.{distance, variables, Numbered, firstFalsified, NoneSatisfies, smallest}
 use Rattle.permutation_theory.specs.Laws.PermutationLaws.{covered-sound, covered-complete}
 use Rattle.permutation_theory.specs.Permutations.{Permutation, Covered, covered}
 use Rattle.formula.specs.Problem.{Problem}
-use Rattle.formula.specs.Reply.{Reply}
+use Rattle.formula.specs.Reply.{Reply, satisfiable}
+use Rattle.search_theory.specs.Laws.LevelLaws.{tested-first}
 use Rattle.search_theory.specs.Walk.{Slot, slot, pointsIn, withNumber, State, state, filled, start, Expansion}
 use Rattle.search_theory.specs.Walk.{complete, full, filledBy, queued, Fills, no-more, skipped, filled-next}
 use Rattle.search_theory.specs.Walk.{no-room, placed, expand, Walks, none-left, met, stuck, goes-on, expanded}
-use Rattle.search_theory.specs.Walk.{processedBy, Ending, followed, walk, walked}
+use Rattle.search_theory.specs.Walk.{tested, processedBy, testedBy, Ending, followed, walk, walked}
 
 -- a test that failed is a point that is not covered
 uncovered : (es : List Permutation) (ps : List ℕ) (y : ℕ) → covered es ps y ≡ false → Covered es ps y → ⊥
@@ -131,30 +133,37 @@ module _ (pb : Problem) (capacity : ℕ) where
   walk-walks zero p w room more = let e : length (p ++ w)
       ≡ length p + length w = length-append p w in let z : ⊥ = omega arith in absurd z
   walk-walks (suc k) p [] room more = none-left
-  walk-walks (suc k) p (s ∷ w) room more = by (firstFalsified (pb .clauses) (s .point)) refl (walk-walks k)
+  walk-walks (suc k) p (s ∷ w) room more = tests (smallest (pb .clauses) (tested p s w)) refl (walk-walks k)
     where
       Rest : Type 0
       Rest = (q u : List Slot) → length (q ++ u) ≤ capacity → capacity < k + length q
           → Says (state q u) (walk pb capacity k (state q u))
 
-      on : (c : Numbered) → firstFalsified (pb .clauses) (s .point) ≡ some c → (r : Expansion) → flips p s w c ≡ r
-          → Rest
+      on : NoneSatisfies (pb .clauses) (tested p s w) → (c : Numbered)
+          → firstFalsified (pb .clauses) (s .point) ≡ some c → (r : Expansion) → flips p s w c ≡ r → Rest
           → Says (state p (s ∷ w)) (followed pb capacity (expanded pb capacity (known p s c) (s .depth) r)
           (λ q. walk pb capacity k q))
-      on c f (full u) e ih = stuck (first-sound (pb .clauses) (s .point) c f) (flipped p s w c (full u) e)
-      on c f (complete u) e ih =
+      on out c f (full u) e ih = stuck out (first-sound (pb .clauses) (s .point) c f) (flipped p s w c (full u) e)
+      on out c f (complete u) e ih =
           let fl = flipped p s w c (complete u) e in
           let m = length-snoc p (withNumber s c) in
-          goes-on (first-sound (pb .clauses) (s .point) c f) fl
+          goes-on out (first-sound (pb .clauses) (s .point) c f) fl
           (ih (known p s c) u
           (fills-room (pb .permutations) capacity (known p s c) (s .point) (s .depth) fl
           (le-trans (le-of-eq (length-moved p w (withNumber s c) s)) room))
           (omega arith))
 
-      by : (o : Option Numbered) → firstFalsified (pb .clauses) (s .point) ≡ o → Rest
+      by : NoneSatisfies (pb .clauses) (tested p s w) → (o : Option Numbered)
+          → firstFalsified (pb .clauses) (s .point) ≡ o → Rest
           → Says (state p (s ∷ w)) (followed pb capacity (processedBy pb capacity p s w o) (λ q. walk pb capacity k q))
-      by none f ih = met (first-none (pb .clauses) (s .point) f)
-      by (some c) f ih = on c f (flips p s w c) refl ih
+      by out none f ih = absurd (out (s .point) (tested-first p w s) (first-none (pb .clauses) (s .point) f))
+      by out (some c) f ih = on out c f (flips p s w c) refl ih
+
+      tests : (o : Option ℕ) → smallest (pb .clauses) (tested p s w) ≡ o → Rest
+          → Says (state p (s ∷ w)) (followed pb capacity (testedBy pb capacity p s w o) (λ q. walk pb capacity k q))
+      tests (some x) e ih = met (smallest-some (pb .clauses) (tested p s w) x e)
+      tests none e ih = by (smallest-none (pb .clauses) (tested p s w) e) (firstFalsified (pb .clauses) (s .point)) refl
+          ih
 
   abbrev ending : Reply → List Slot → Ending pb capacity
   ending r l = record { reply = r; slots = l }
@@ -169,17 +178,27 @@ module _ (pb : Problem) (capacity : ℕ) where
       ≡ length (st .processed) + length (st .waiting) = length-append (st .processed) (st .waiting) in
       let z : ⊥ = omega arith in absurd z
   walks-walk none-left room (suc k) more = refl
-  walks-walk (met {p = p} {w = w} {s = s} h) room (suc k) more =
-      ap (λ o. followed pb capacity (processedBy pb capacity p s w o) (λ q. walk pb capacity k q))
-      (none-first (pb .clauses) (s .point) h)
-  walks-walk (stuck {p = p} {w = w} {w′ = u} {s = s} {c = c} f fl) room (suc k) more =
-      ap (λ o. followed pb capacity (processedBy pb capacity p s w o) (λ q. walk pb capacity k q))
+  walks-walk (met {p = p} {w = w} {s = s} {x = x} h) room (suc k) more = by (smallest (pb .clauses) (tested p s w)) refl
+    where
+      by : (o : Option ℕ) → smallest (pb .clauses) (tested p s w) ≡ o
+          → followed pb capacity (testedBy pb capacity p s w o) (λ q. walk pb capacity k q)
+          ≡ ending (satisfiable x (distance (pb .variables) x (pb .target)) (length (p ++ s ∷ w))) (p ++ s ∷ w)
+      by (some y) e =
+          ap (λ z. ending (satisfiable z (distance (pb .variables) z (pb .target)) (length (p ++ s ∷ w))) (p ++ s ∷ w))
+          (smallest-same (smallest-some (pb .clauses) (tested p s w) y e) h)
+      by none e = absurd (smallest-none (pb .clauses) (tested p s w) e x (h .among) (h .satisfying))
+  walks-walk (stuck {p = p} {w = w} {w′ = u} {s = s} {c = c} out f fl) room (suc k) more =
+      ap (λ o. followed pb capacity (testedBy pb capacity p s w o) (λ q. walk pb capacity k q))
+      (none-smallest (pb .clauses) (tested p s w) out)
+      ∙ ap (λ o. followed pb capacity (processedBy pb capacity p s w o) (λ q. walk pb capacity k q))
       (first-complete (pb .clauses) (s .point) c f)
       ∙ ap (λ x. followed pb capacity (expanded pb capacity (known p s c) (s .depth) x) (λ q. walk pb capacity k q))
       (fills-expand (pb .permutations) capacity (known p s c) (s .point) (s .depth) fl)
-  walks-walk (goes-on {p = p} {w = w} {w′ = u} {s = s} {c = c} f fl t) room (suc k) more =
+  walks-walk (goes-on {p = p} {w = w} {w′ = u} {s = s} {c = c} out f fl t) room (suc k) more =
       let m = length-snoc p (withNumber s c) in
-      ap (λ o. followed pb capacity (processedBy pb capacity p s w o) (λ q. walk pb capacity k q))
+      ap (λ o. followed pb capacity (testedBy pb capacity p s w o) (λ q. walk pb capacity k q))
+      (none-smallest (pb .clauses) (tested p s w) out)
+      ∙ ap (λ o. followed pb capacity (processedBy pb capacity p s w o) (λ q. walk pb capacity k q))
       (first-complete (pb .clauses) (s .point) c f)
       ∙ ap (λ x. followed pb capacity (expanded pb capacity (known p s c) (s .depth) x) (λ q. walk pb capacity k q))
       (fills-expand (pb .permutations) capacity (known p s c) (s .point) (s .depth) fl)
