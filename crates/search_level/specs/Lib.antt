@@ -1,0 +1,2 @@
+-- The test of a level: its contract, and the laws.
+pub mod Laws
