@@ -4,9 +4,8 @@ use mathlib.Core.Bool.{Bool, true, false, cond}
 use mathlib.Core.List.{List, [], _∷_, _++_, List·Memᴰ·head, List·Memᴰ·tail, List·Memᴰ·not-nil, Memᴰ·append-right}
 use mathlib.Core.Logic.{_⊎_, inl, inr, ⊎-elim}
 use mathlib.Core.Path.{_≡_, refl, sym, ap, _∙_, subst}
-use Prim.Native.Nat.{ℕ, zero, suc, _≤_, _<_}
+use Prim.Native.Nat.{ℕ, zero, suc, _≤_, _<_, _^_}
 use native.Mathlib.Nat.{le-trans, le-of-eq, le-antisymm}
-use native.Mathlib.Decide.{decLt}
 use native.Mathlib.Omega.{arith}
 use lib.Dec.{eqb, ltb}
 use lib.ListN.{length, List·getD-append}
@@ -15,10 +14,10 @@ use Rattle.math.specs.Laws.ListLaws.{here, true-or-false, all-at, all-failed, s
 use Rattle.math.specs.Laws.ListLaws.{in-getD, getD-in}
 use Rattle.math.specs.Laws.SplitLaws.{select-cons}
 use Rattle.math.specs.Lists.{_∈_, all, select}
-use Rattle.points.specs.Points.{SatisfiesAll, NoneSatisfies}
+use Rattle.points.specs.Points.{distance, SatisfiesAll, NoneSatisfies}
 use Rattle.formula.specs.Problem.{Problem}
 use Rattle.search_theory.specs.Laws.InvariantLaws.{first-shallowest}
-use Rattle.search_theory.specs.Laws.Invariants.{slotAt, Child, Invariants}
+use Rattle.search_theory.specs.Laws.Invariants.{slotAt, Invariants}
 use Rattle.search_theory.specs.Walk.{Slot, slot, pointsIn, opens, asDeep, tested}
 
 -- the depth of s is not new: a processed slot is as deep or deeper
@@ -137,6 +136,18 @@ module _ (pb : Problem) (capacity : ℕ) where
       tested-level p w s e
       ∙ ap pointsIn (select-whole (λ (t : Slot). eqb (t .depth) (s .depth)) (s ∷ w)
       (λ t m. eq-eqb (t .depth) (s .depth) (level-flat p w s i e t m)))
+
+  -- a point on the level is one of the formula's, no farther from the target than the level is deep
+  pub level-below : (p w : List Slot) (s : Slot) → Invariants pb capacity p (s ∷ w) → {y : ℕ} → OnLevel s w y
+      → y < 2 ^ pb .variables
+  level-below p w s i o =
+      subst (λ z. z < 2 ^ pb .variables) (o .point) (i .filled .below (o .holder) (Memᴰ·append-right p (o .among)))
+
+  pub level-near : (p w : List Slot) (s : Slot) → Invariants pb capacity p (s ∷ w) → {y : ℕ} → OnLevel s w y
+      → distance (pb .variables) y (pb .target) ≤ s .depth
+  level-near p w s i o =
+      subst (λ z. distance (pb .variables) z (pb .target) ≤ s .depth) (o .point)
+      (le-trans (i .filled .near (o .holder) (Memᴰ·append-right p (o .among))) (le-of-eq (o .depth)))
 
   -- a depth that is not new was tested before
   old-failed : (p w : List Slot) (s : Slot) → Invariants pb capacity p (s ∷ w) → OldDepth p s → (t : Slot)
