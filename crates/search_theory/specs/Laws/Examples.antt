@@ -43,21 +43,21 @@ pub depth-exceeds : walked (problem 2 0 [] (clause 1 0 ∷ clause 2 0 ∷ clause
 unfolding walked numberedFrom
 depth-exceeds = refl
 
--- Q03.2: "Among the nearest choices in the slots the one smallest as a number is now handed back.": the clause (-1 -2 3)
--- and the target 110 fill the slots 010, 100 and 111, that is 2, 1 and 7, which all satisfy: 1 is handed back, not the
--- first
-pub smallest-first : walked (problem 3 3 [] (clause 4 3 ∷ [])) 8 .reply ≡ satisfiable 1 1 4
+-- Q03.2: "Among the nearest choices in the slots the one smallest as a number is now handed back.": from the clause
+-- (-1 -2 3) and the target 110 the slots get 010, 100 and 111, that is 2, 1 and 7. All three satisfy; 1 is handed back,
+-- neither the first nor the last
+pub smallest-of-level : walked (problem 3 3 [] (clause 4 3 ∷ [])) 8 .reply ≡ satisfiable 1 1 4
 unfolding walked numberedFrom
-smallest-first = refl
+smallest-of-level = refl
 
--- Q03.5: "Case B, the program's example too, now fills 3 slots, with P = 3 it is met": the clauses (1 2), (-1 3) and the
--- target 000. 010 is found while 100, before it, is not processed
+-- Q03.5: "Case B, the program's example too, now fills 3 slots, with P = 3 it is met": the clauses (1 2), (-1 3) and
+-- the target 000. 010 is found before 100, the older one, is processed
 pub level-tested : walked (problem 3 0 [] (clause 3 0 ∷ clause 4 1 ∷ [])) 3 .reply ≡ satisfiable 2 1 3
 unfolding walked numberedFrom
 level-tested = refl
 
--- Q03.5: "case A with P = 3 carries 2": the clauses (1 2), (-1 2), (1 -2), (-1 -2) and the target 00. The flip of 10, of
--- depth 1, finds no room
+-- Q03.5: "case A with P = 3 carries 2": the clauses (1 2), (-1 2), (1 -2), (-1 -2) and the target 00. The flip of 10,
+-- of depth 1, finds no room
 pub next-depth-carried : walked (problem 2 0 [] (clause 3 0 ∷ clause 2 1 ∷ clause 1 2 ∷ clause 0 3 ∷ [])) 3 .reply
     ≡ unknown 2 3
 unfolding walked numberedFrom

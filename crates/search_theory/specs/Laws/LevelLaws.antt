@@ -33,13 +33,18 @@ pub record OnLevel (s : Slot) (w : List Slot) (y : ℕ) : Type 0 where
   pub depth : holder .depth ≡ s .depth
   pub point : holder .point ≡ y
 
-module _ (p w : List Slot) (s : Slot) where
-  old-depth : opens p s ≡ false → OldDepth p s
-  unfolding opens
-  old-depth e =
-      let o = all-failed (λ (t : Slot). ltb (t .depth) (s .depth)) p e in
-      record { deep = o .0; among = o .1; reaches = ltb-false (o .0 .depth) (s .depth) (o .2) }
+old-depth : (p : List Slot) (s : Slot) → opens p s ≡ false → OldDepth p s
+unfolding opens
+old-depth p s e =
+    let o = all-failed (λ (t : Slot). ltb (t .depth) (s .depth)) p e in
+    record { deep = o .0; among = o .1; reaches = ltb-false (o .0 .depth) (s .depth) (o .2) }
 
+pub opens-or : (p : List Slot) (s : Slot) → (opens p s ≡ true) ⊎ OldDepth p s
+opens-or p s = ⊎-elim inl (λ e. inr (old-depth p s e)) (true-or-false (opens p s))
+
+-- ---- the points tested
+
+module _ (p w : List Slot) (s : Slot) where
   -- at a new depth: the waiting slots that are as deep
   tested-level : opens p s ≡ true → tested p s w ≡ pointsIn (asDeep s (s ∷ w))
   unfolding tested
@@ -86,10 +91,6 @@ module _ (p w : List Slot) (s : Slot) where
       (λ e. subst (λ l. s .point ∈ l) (sym (tested-one e)) (here (s .point) []))
       (true-or-false (opens p s))
 
--- a depth is new, or not
-pub opens-or : (p : List Slot) (s : Slot) → (opens p s ≡ true) ⊎ OldDepth p s
-opens-or p s = ⊎-elim inl (λ e. inr (old-depth p [] s e)) (true-or-false (opens p s))
-
 -- a list of which all pass the test is selected whole
 select-whole : {A : Type 0} (t : A → Bool) (xs : List A) → ((x : A) → x ∈ xs → t x ≡ true) → select t xs ≡ xs
 unfolding select
@@ -97,12 +98,15 @@ select-whole t [] h = refl
 select-whole t (x ∷ xs) h =
     select-cons t xs (h x (here x xs)) ∙ ap (λ l. x ∷ l) (select-whole t xs (λ y m. h y (List·Memᴰ·tail m)))
 
+-- ---- in a state of the search
+
 module _ (pb : Problem) (capacity : ℕ) where
   -- at a new depth no waiting slot is deeper: each was filled from a processed one, which is shallower than s
   pub level-flat : (p w : List Slot) (s : Slot) → Invariants pb capacity p (s ∷ w) → opens p s ≡ true
       → (t : Slot) → t ∈ (s ∷ w) → t .depth ≡ s .depth
   unfolding opens
-  level-flat p w s i e t m = le-antisymm (by (at .0) (at .1) (at .2)) (first-shallowest pb capacity p w s (i .filled) t m)
+  level-flat p w s i e t m =
+      le-antisymm (by (at .0) (at .1) (at .2)) (first-shallowest pb capacity p w s (i .filled) t m)
     where
       filled : List Slot
       filled = p ++ s ∷ w
@@ -158,7 +162,7 @@ module _ (pb : Problem) (capacity : ℕ) where
       → NoneSatisfies (pb .clauses) (tested p s w)
   untested-fails p w s i e y m sat =
       let o = tested-out p w s y m in
-      old-failed p w s i (old-depth p w s e) (o .holder) (o .among) (le-of-eq (o .depth))
+      old-failed p w s i (old-depth p s e) (o .holder) (o .among) (le-of-eq (o .depth))
       (subst (SatisfiesAll (pb .clauses)) (sym (o .point)) sat)
 
   -- Q03.3: "tests all unprocessed points of that depth before it processes any": where none of the tested satisfies, no

@@ -1,5 +1,5 @@
--- The point handed back is the smallest, as a number: of the nearest points in the slots, and without permutations of all
--- nearest points. Assumes nothing.
+-- The point handed back is the smallest, as a number: of the nearest points in the slots, and without permutations of
+-- all nearest points. Assumes nothing.
 use mathlib.Core.Bool.{true}
 use mathlib.Core.List.{List, [], _∷_, _++_, map, List·Memᴰ·not-nil, List·Memᴰ·append-cases}
 use mathlib.Core.Logic.{⊎-elim}
