@@ -8,6 +8,7 @@ pub mod Measure
 pub mod Promised
 pub mod Bound
 pub mod Nearest
+pub mod Smallest
 pub mod Complete
 pub mod Room
 pub mod MoreRoom

@@ -1,6 +1,6 @@
 -- The sentences of demand 3 about the builder's result, in terms of what a call of `search` returns and leaves in the
 -- lent slices: each follows from the call's contract, the record `Searched`. Assumes nothing.
-use mathlib.Core.List.{List, map}
+use mathlib.Core.List.{List, [], map}
 use mathlib.Core.Path.{_≡_, refl, sym, ap, _∙_}
 use Prim.Native.Nat.{ℕ, _≤_, _^_}
 use lib.ListN.{length, take, drop, length-map}
@@ -13,7 +13,8 @@ use Rattle.formula.specs.Problem.{problemOf, Unsatisfiable as NoneSatisfies}
 use Rattle.formula.specs.Reply.{Reply, refused, satisfiable, unsatisfiable, unknown, parsed, written, opened, accepted}
 use Rattle.formula.specs.Reply.{no-fault}
 use Rattle.formula.specs.Laws.ReplyLaws.{not-refused}
-use Rattle.search_theory.specs.Laws.Promised.{LowerBound, Nearest, HandedBack, ClosedSlots, reported}
+use Rattle.search_theory.specs.Laws.Promised.{LowerBound, Nearest, HandedBack, SmallestFilled, SmallestNearest}
+use Rattle.search_theory.specs.Laws.Promised.{ClosedSlots, reported}
 use Rattle.search_theory.specs.Filled.{filledWith}
 use Rattle.search_theory.specs.Walk.{Slot, walked}
 use Rattle.search.specs.Laws.Accepted.{answered}
@@ -23,7 +24,7 @@ use Rattle.search.specs.declared.Found.{Found}
 use Rattle.search.specs.declared.Outcome.{Outcome}
 use Rattle.search.specs.declared.Outcome.the-variants.{Satisfiable, Unsatisfiable, Unknown, Refused}
 use Rattle.search.specs.Laws.Theorems.{slots-reported, search-nearest, search-slot, search-exactly, search-closed}
-use Rattle.search.specs.Laws.Theorems.{search-bound, search-room-lent}
+use Rattle.search.specs.Laws.Theorems.{search-smallest-filled, search-smallest, search-bound, search-room-lent}
 
 -- ---- an outcome is known by its reply
 
@@ -143,6 +144,18 @@ module _ (f : Formula) (clauses : ClauseSlices) (slots₀ : SlotSlices) (r : Fou
   -- its slot, with 0 for its clause and its distance for its depth
   pub outcome-slot : (d filled : ℕ) → r .answer ≡ Satisfiable d filled → HandedBack slotsOf (r .point) d
   outcome-slot d filled e = search-slot f clauses lent (r .point) d filled (replied (Satisfiable d filled) e)
+
+  -- Q03.2: "Among the nearest choices in the slots the one smallest as a number is now handed back."
+  pub outcome-smallest-filled : (d filled : ℕ) → r .answer ≡ Satisfiable d filled
+      → SmallestFilled (problemOf f clauses) slotsOf (r .point) d
+  outcome-smallest-filled d filled e = search-smallest-filled f clauses lent (r .point) d filled
+      (replied (Satisfiable d filled) e)
+
+  -- Q03.6: "Without exchanges a choice handed back is the smallest of all nearest choices on the whole sheet."
+  pub outcome-smallest : problemOf f clauses .permutations ≡ [] → (d filled : ℕ) → r .answer ≡ Satisfiable d filled
+      → SmallestNearest (problemOf f clauses) (r .point) d
+  outcome-smallest plain d filled e = search-smallest f clauses lent plain (r .point) d filled
+      (replied (Satisfiable d filled) e)
 
   -- the slots of an unsatisfiable formula are a stable set, as many as reported
   pub outcome-closed : (filled : ℕ) → r .answer ≡ Unsatisfiable filled

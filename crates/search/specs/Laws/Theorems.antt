@@ -1,6 +1,6 @@
 -- What is promised of the search, a line each: first of the slots, for any problem and however it ends; then of the
 -- builder's reply to a formula by value. Assumes nothing.
-use mathlib.Core.List.{List}
+use mathlib.Core.List.{List, []}
 use mathlib.Core.Path.{_≡_, refl}
 use Prim.Native.Nat.{ℕ, _≤_, _<_, _^_}
 use native.Mathlib.Nat.{le-trans, lt-of-le-of-lt, lt-of-lt-of-le}
@@ -15,7 +15,8 @@ use Rattle.formula.specs.Laws.AlikeLaws.{same-problem}
 use Rattle.formula.specs.Problem.{Problem, problemOf, Unsatisfiable}
 use Rattle.formula.specs.Reply.{Reply, refused, satisfiable, unsatisfiable, unknown}
 use Rattle.search.specs.Laws.Accepted.{answered, lent-enough}
-use Rattle.search_theory.specs.Laws.Promised.{LowerBound, Nearest, HandedBack, ClosedSlots, reported}
+use Rattle.search_theory.specs.Laws.Promised.{LowerBound, Nearest, HandedBack, SmallestFilled, SmallestNearest}
+use Rattle.search_theory.specs.Laws.Promised.{ClosedSlots, reported}
 use Rattle.search.specs.Laws.WalkAnswers.{WalkAnswers}
 use Rattle.formula.specs.Laws.Alike.{Alike}
 use Rattle.search_theory.specs.Laws.Bound.{unknown-bound}
@@ -27,6 +28,7 @@ use Rattle.search.specs.Laws.Inputs.{same-reply, same-slots, same-slices
 use Rattle.search_theory.specs.Laws.Invariants.{Ready, slotAt, Parent, Filled}
 use Rattle.search_theory.specs.Laws.Nearest.{found-nearest, found-slot}
 use Rattle.search_theory.specs.Laws.Room.{never-unknown}
+use Rattle.search_theory.specs.Laws.Smallest.{found-smallest-filled, found-smallest}
 use Rattle.search_theory.specs.Walk.{Slot, pointsIn, start, Walks}
 
 -- ---- the slots l that a search leaves, whatever it answers
@@ -113,6 +115,18 @@ module _ (f : Formula) (clauses : ClauseSlices) (lent : ℕ) where
       → HandedBack (searchSlots f clauses lent) x d
   search-slot x d filled e = let a = satisfiable-answered x d filled e in found-slot pb lent (a .ready) (a .room)
       (a .walks)
+
+  -- Q03.2: "Among the nearest choices in the slots the one smallest as a number is now handed back."
+  pub search-smallest-filled : (x d filled : ℕ) → searchReply f clauses lent ≡ satisfiable x d filled
+      → SmallestFilled (problemOf f clauses) (searchSlots f clauses lent) x d
+  search-smallest-filled x d filled e = let a = satisfiable-answered x d filled e in found-smallest-filled pb lent
+      (a .ready) (a .room) (a .walks)
+
+  -- Q03.6: "Without exchanges a choice handed back is the smallest of all nearest choices on the whole sheet."
+  pub search-smallest : problemOf f clauses .permutations ≡ [] → (x d filled : ℕ)
+      → searchReply f clauses lent ≡ satisfiable x d filled → SmallestNearest (problemOf f clauses) x d
+  search-smallest plain x d filled e = let a = satisfiable-answered x d filled e in found-smallest pb lent (a .ready)
+      plain (a .room) (a .walks)
 
   -- D3.3: "Unless 'no room' is said, 'cannot be met' is said exactly when none of the 2^n choices meets the rules."
   pub search-exactly : (r : Reply) → searchReply f clauses lent ≡ r

@@ -4,9 +4,8 @@ use mathlib.Core.Bool.{Bool, true, false, cond}
 use mathlib.Core.List.{List, [], _∷_, _++_, List·Memᴰ·head, List·Memᴰ·tail, List·Memᴰ·not-nil, Memᴰ·append-right}
 use mathlib.Core.Logic.{_⊎_, inl, inr, ⊎-elim}
 use mathlib.Core.Path.{_≡_, refl, sym, ap, _∙_, subst}
-use Prim.Native.Nat.{ℕ, zero, suc, _≤_, _<_}
+use Prim.Native.Nat.{ℕ, zero, suc, _≤_, _<_, _^_}
 use native.Mathlib.Nat.{le-trans, le-of-eq, le-antisymm}
-use native.Mathlib.Decide.{decLt}
 use native.Mathlib.Omega.{arith}
 use lib.Dec.{eqb, ltb}
 use lib.ListN.{length, List·getD-append}
@@ -15,10 +14,10 @@ use Rattle.math.specs.Laws.ListLaws.{here, true-or-false, all-at, all-failed, s
 use Rattle.math.specs.Laws.ListLaws.{in-getD, getD-in}
 use Rattle.math.specs.Laws.SplitLaws.{select-cons}
 use Rattle.math.specs.Lists.{_∈_, all, select}
-use Rattle.points.specs.Points.{SatisfiesAll, NoneSatisfies}
+use Rattle.points.specs.Points.{distance, SatisfiesAll, NoneSatisfies}
 use Rattle.formula.specs.Problem.{Problem}
 use Rattle.search_theory.specs.Laws.InvariantLaws.{first-shallowest}
-use Rattle.search_theory.specs.Laws.Invariants.{slotAt, Child, Invariants}
+use Rattle.search_theory.specs.Laws.Invariants.{slotAt, Invariants}
 use Rattle.search_theory.specs.Walk.{Slot, slot, pointsIn, opens, asDeep, tested}
 
 -- the depth of s is not new: a processed slot is as deep or deeper
@@ -34,13 +33,18 @@ pub record OnLevel (s : Slot) (w : List Slot) (y : ℕ) : Type 0 where
   pub depth : holder .depth ≡ s .depth
   pub point : holder .point ≡ y
 
-module _ (p w : List Slot) (s : Slot) where
-  old-depth : opens p s ≡ false → OldDepth p s
-  unfolding opens
-  old-depth e =
-      let o = all-failed (λ (t : Slot). ltb (t .depth) (s .depth)) p e in
-      record { deep = o .0; among = o .1; reaches = ltb-false (o .0 .depth) (s .depth) (o .2) }
+old-depth : (p : List Slot) (s : Slot) → opens p s ≡ false → OldDepth p s
+unfolding opens
+old-depth p s e =
+    let o = all-failed (λ (t : Slot). ltb (t .depth) (s .depth)) p e in
+    record { deep = o .0; among = o .1; reaches = ltb-false (o .0 .depth) (s .depth) (o .2) }
 
+pub opens-or : (p : List Slot) (s : Slot) → (opens p s ≡ true) ⊎ OldDepth p s
+opens-or p s = ⊎-elim inl (λ e. inr (old-depth p s e)) (true-or-false (opens p s))
+
+-- ---- the points tested
+
+module _ (p w : List Slot) (s : Slot) where
   -- at a new depth: the waiting slots that are as deep
   tested-level : opens p s ≡ true → tested p s w ≡ pointsIn (asDeep s (s ∷ w))
   unfolding tested
@@ -87,10 +91,6 @@ module _ (p w : List Slot) (s : Slot) where
       (λ e. subst (λ l. s .point ∈ l) (sym (tested-one e)) (here (s .point) []))
       (true-or-false (opens p s))
 
--- a depth is new, or not
-pub opens-or : (p : List Slot) (s : Slot) → (opens p s ≡ true) ⊎ OldDepth p s
-opens-or p s = ⊎-elim inl (λ e. inr (old-depth p [] s e)) (true-or-false (opens p s))
-
 -- a list of which all pass the test is selected whole
 select-whole : {A : Type 0} (t : A → Bool) (xs : List A) → ((x : A) → x ∈ xs → t x ≡ true) → select t xs ≡ xs
 unfolding select
@@ -98,12 +98,15 @@ select-whole t [] h = refl
 select-whole t (x ∷ xs) h =
     select-cons t xs (h x (here x xs)) ∙ ap (λ l. x ∷ l) (select-whole t xs (λ y m. h y (List·Memᴰ·tail m)))
 
+-- ---- in a state of the search
+
 module _ (pb : Problem) (capacity : ℕ) where
   -- at a new depth no waiting slot is deeper: each was filled from a processed one, which is shallower than s
   pub level-flat : (p w : List Slot) (s : Slot) → Invariants pb capacity p (s ∷ w) → opens p s ≡ true
       → (t : Slot) → t ∈ (s ∷ w) → t .depth ≡ s .depth
   unfolding opens
-  level-flat p w s i e t m = le-antisymm (by (at .0) (at .1) (at .2)) (first-shallowest pb capacity p w s (i .filled) t m)
+  level-flat p w s i e t m =
+      le-antisymm (by (at .0) (at .1) (at .2)) (first-shallowest pb capacity p w s (i .filled) t m)
     where
       filled : List Slot
       filled = p ++ s ∷ w
@@ -138,6 +141,18 @@ module _ (pb : Problem) (capacity : ℕ) where
       ∙ ap pointsIn (select-whole (λ (t : Slot). eqb (t .depth) (s .depth)) (s ∷ w)
       (λ t m. eq-eqb (t .depth) (s .depth) (level-flat p w s i e t m)))
 
+  -- a point on the level is one of the formula's, no farther from the target than the level is deep
+  pub level-below : (p w : List Slot) (s : Slot) → Invariants pb capacity p (s ∷ w) → {y : ℕ} → OnLevel s w y
+      → y < 2 ^ pb .variables
+  level-below p w s i o =
+      subst (λ z. z < 2 ^ pb .variables) (o .point) (i .filled .below (o .holder) (Memᴰ·append-right p (o .among)))
+
+  pub level-near : (p w : List Slot) (s : Slot) → Invariants pb capacity p (s ∷ w) → {y : ℕ} → OnLevel s w y
+      → distance (pb .variables) y (pb .target) ≤ s .depth
+  level-near p w s i o =
+      subst (λ z. distance (pb .variables) z (pb .target) ≤ s .depth) (o .point)
+      (le-trans (i .filled .near (o .holder) (Memᴰ·append-right p (o .among))) (le-of-eq (o .depth)))
+
   -- a depth that is not new was tested before
   old-failed : (p w : List Slot) (s : Slot) → Invariants pb capacity p (s ∷ w) → OldDepth p s → (t : Slot)
       → t ∈ (s ∷ w) → t .depth ≤ s .depth → SatisfiesAll (pb .clauses) (t .point) → ⊥
@@ -147,7 +162,7 @@ module _ (pb : Problem) (capacity : ℕ) where
       → NoneSatisfies (pb .clauses) (tested p s w)
   untested-fails p w s i e y m sat =
       let o = tested-out p w s y m in
-      old-failed p w s i (old-depth p w s e) (o .holder) (o .among) (le-of-eq (o .depth))
+      old-failed p w s i (old-depth p s e) (o .holder) (o .among) (le-of-eq (o .depth))
       (subst (SatisfiesAll (pb .clauses)) (sym (o .point)) sat)
 
   -- Q03.3: "tests all unprocessed points of that depth before it processes any": where none of the tested satisfies, no

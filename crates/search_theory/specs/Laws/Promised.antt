@@ -1,5 +1,5 @@
--- What the answers of the search promise. Definitions alone; Nearest, Complete, Bound and Closed show that they hold.
--- Assumes nothing.
+-- What the answers of the search promise. Definitions alone; Nearest, Smallest, Complete, Bound and Closed show that
+-- they hold. Assumes nothing.
 use mathlib.Core.List.{List}
 use mathlib.Core.Path.{_≡_}
 use Prim.Native.Nat.{ℕ, _≤_, _<_, _^_}
