@@ -1,7 +1,7 @@
 -- The lower bound: no satisfying point is nearer to the target than the slot that is taken is deep, and where none of
 -- the points tested satisfies, each is farther. Assumes nothing.
 use mathlib.Core.List.{List, _∷_, Memᴰ·append-right}
-use mathlib.Core.Path.{_≡_, refl, sym, subst}
+use mathlib.Core.Path.{_≡_, sym, subst}
 use Prim.Native.Nat.{ℕ, suc, _+_, _≤_, _<_, _^_}
 use native.Mathlib.Decide.{decLt}
 use native.Mathlib.Nat.{le-trans, le-of-eq}

@@ -13,7 +13,7 @@ use borrow.Author.Tests.{eq-eqb, eqb-true, ltb-true, ltb-false}
 use Rattle.math.specs.Laws.ListLaws.{here, true-or-false, all-at, all-failed, select-in, select-out, map-in, map-out}
 use Rattle.math.specs.Laws.ListLaws.{in-getD, getD-in}
 use Rattle.math.specs.Laws.SplitLaws.{select-cons}
-use Rattle.math.specs.Lists.{_∈_, all, select}
+use Rattle.math.specs.Lists.{_∈_, select}
 use Rattle.points.specs.Points.{distance, SatisfiesAll, NoneSatisfies}
 use Rattle.formula.specs.Problem.{Problem}
 use Rattle.search_theory.specs.Laws.InvariantLaws.{first-shallowest}

@@ -26,8 +26,7 @@ module _ (pb : Problem) (capacity : ℕ) (ready : Ready pb) (S : ℕ → Type 0)
   next q m s hs sat =
       let h = i .processed q m in
       let c = h .moved .clause in
-      comes-nearer (pb .variables) S (maps pb) (Held (p ++ w) (suc (q .depth)))
-      kept (q .point) s
+      comes-nearer (pb .variables) S (maps pb) (Held (p ++ w) (suc (q .depth))) kept (q .point) s
       (i .filled .below q (Memᴰ·append-left w m)) hs sat
       (clause-moves (pb .variables) (maps pb) (Held (p ++ w) (suc (q .depth))) (c .clause) (q .point) s
       (ready .clauses-below c (first-in (h .moved .first)))
@@ -48,7 +47,7 @@ module _ (pb : Problem) (capacity : ℕ) (ready : Ready pb) (S : ℕ → Type 0)
             (ap (λ d. q .depth + d) e);
       }
 
-  -- from any filled slot, by its distance k to a satisfying point: a processed one leads to a nearer one
+  -- from any filled slot, by its distance k to a point of S: a processed one leads to a nearer one
   from : (k : ℕ) (q : Slot) → q ∈ (p ++ w) → (s : ℕ) → s < 2 ^ pb .variables → S s
       → distance (pb .variables) (q .point) s ≡ k
       → Ahead pb S w (q .depth + k)
@@ -81,7 +80,7 @@ module _ (pb : Problem) (capacity : ℕ) (ready : Ready pb) (S : ℕ → Type 0)
           sum : (d : ℕ) → d ≤ suc (q .depth) → d + k ≤ q .depth + suc k
           sum d le = omega arith
 
-  -- from the target: for every satisfying point a waiting slot is so near to some satisfying point
+  -- from the target: for every point of S a waiting slot is so near to some point of S
   pub measure : (s : ℕ) → s < 2 ^ pb .variables → S s
       → Ahead pb S w (distance (pb .variables) (pb .target) s)
   measure s hs sat =
