@@ -1,10 +1,10 @@
 -- What one step of the search does to the memory: the contract of `process`.
 -- Assumes nothing.
 use mathlib.Core.Path.{_≡_}
-use mathlib.Core.List.{List, _++_}
-use Prim.Native.Nat.{ℕ, _+_, _*_, _≤_}
+use mathlib.Core.List.{List, _∷_, _++_}
+use Prim.Native.Nat.{ℕ, _+_, _*_, _≤_, _<_}
 use lib.ListN.{length, getD}
-use Rattle.points.specs.Points.{Clause, numbered}
+use Rattle.points.specs.Points.{Clause, numbered, NoneSatisfies}
 use Rattle.permutation_coverage.specs.Laws.Coverage.{Permuting, Imaged}
 use Rattle.formula.specs.Limits.{maxVariables, maxClauses, maxPermutations, maxSlots}
 use Rattle.formula.specs.Problem.{Problem}
@@ -19,9 +19,9 @@ use Rattle.search_expansion.specs.Laws.Filling.{listedIn, SlotsIndexed}
 use Rattle.point_slices.specs.Slices.{SlotSlices}
 use Rattle.search_expansion.specs.Laws.Memory.{Holds}
 use Rattle.search_theory.specs.Laws.Invariants.{Ready, Invariants}
-use Rattle.search_theory.specs.Walk.{Slot, state, Walks}
+use Rattle.search_theory.specs.Walk.{Slot, state, tested, Walks}
 
--- F10: what the code's answer says in document 01's terms, beside the point processed last
+-- F10: what the code's answer says in document 01's terms, beside the point handed back
 abbrev pub replyOfConclusion : ℕ → Conclusion → Reply
 replyOfConclusion x (Satisfiable d filled) = satisfiable x d filled
 replyOfConclusion x (Unsatisfiable filled) = unsatisfiable filled
@@ -51,7 +51,7 @@ pub record Searchable (g : Frame) (images : List ℕ) (clauses : List Clause) : 
 -- the links are an index of the points of the slots filled, with two links for each head
 pub record Linked (g : Frame) (slots : SlotSlices) (links : List ℕ) (filled : ℕ) : Type 0 where
   pub indexed : SlotsIndexed g slots links filled
-  pub linked : g .lookup .heads + 2 * g .lookup .heads ≤ length links
+  pub linked : length links ≡ g .lookup .heads + 2 * g .lookup .heads
 
 -- where the step goes on, the links are an index of the points of those filled then
 abbrev pub StillLinked : Frame → SlotSlices → List ℕ → Step → Type 0
@@ -70,6 +70,18 @@ nextPoint slots q = getD (slots .points) (q .at) 0
 abbrev pub Next : Frame → List ℕ → SlotSlices → List ℕ → Position → Type 0
 Next g images slots moved q = Imaged (g .lookup .variables) (g .lookup .permutations) images (nextPoint slots q) moved
 
+-- m has the points and depths that m₀ has in the slots filled, and every slot filled since is deeper than the one
+-- that is next there
+pub record Kept (m₀ : SlotSlices) (q : Position) (filled : ℕ) (m : SlotSlices) : Type 0 where
+  pub points : (i : ℕ) → i < q .filled → getD (m .points) i 0 ≡ getD (m₀ .points) i 0
+  pub depths : (i : ℕ) → i < q .filled → getD (m .depths) i 0 ≡ getD (m₀ .depths) i 0
+  pub deeper : (i : ℕ) → q .filled ≤ i → i < filled → getD (m₀ .depths) (q .at) 0 < getD (m .depths) i 0
+
+-- where the step goes on
+abbrev pub StillThere : SlotSlices → Position → Step → SlotSlices → Type 0
+StillThere m₀ q (Ends a) m = Unit {0}
+StillThere m₀ q (Goes filled) m = Kept m₀ q filled m
+
 module _ (pb : Problem) (capacity : ℕ) where
   -- the search has come to the position q: in front of what `old` has, m holds the processed slots p, and the waiting
   -- slots w, the next one first
@@ -86,6 +98,11 @@ module _ (pb : Problem) (capacity : ℕ) where
     pub back : List Slot
     pub stands : Stands old front back m q
 
+  -- none of the points that are tested there satisfies
+  abbrev pub Unmet : SlotSlices → Position → Type 0
+  Unmet m q = (old : SlotSlices) (p w : List Slot) (s : Slot) → Stands old p (s ∷ w) m q
+      → NoneSatisfies (pb .clauses) (tested p s w)
+
   -- it goes on from the state p w, to a state from which it answers what it answers from there
   pub record GoesOn (old : SlotSlices) (p w : List Slot) (m : SlotSlices) (q : Position) : Type 0 where
     pub front : List Slot
@@ -100,7 +117,7 @@ module _ (pb : Problem) (capacity : ℕ) where
     pub holds : Holds old slots m
     pub walks : Walks pb capacity (state p w) r slots
 
-  -- what a step answers that processed the slot of index i, with the point x
+  -- what a step answers that processed the slot of index i, beside the point x
   abbrev pub After : SlotSlices → List Slot → List Slot → ℕ → ℕ → Step → SlotSlices → Type 0
   After old p w x i (Ends a) m = Ended old p w (replyOfConclusion x a) m
   After old p w x i (Goes filled) m = GoesOn old p w m (position (i + 1) filled)

@@ -1,30 +1,28 @@
--- Laws of one step of the search: it answers 'satisfiable', it has found the clause and tries its flips, and then it
--- goes on or answers 'unknown'. Assumes nothing.
+-- Laws of one step of the search: its slot is taken, the flips of its clause's variables are tried, and then it goes
+-- on or answers 'unknown'. Assumes nothing.
 use mathlib.Core.Bool.{Bool, true, false}
-use mathlib.Core.List.{List, [], map, append-nil, Memᴰ·append-right, _∷_, _++_}
-use mathlib.Core.Path.{refl, sym, ap, subst, _≡_, _∙_}
+use mathlib.Core.List.{List, [], map, append-nil, append-assoc, Memᴰ·append-right, _∷_, _++_}
+use mathlib.Core.Path.{refl, sym, ap, ap₂, subst, _≡_, _∙_}
 use Prim.Native.Nat.{ℕ, suc, _+_, _-_, _≤_, _<_, _^_}
-use native.Mathlib.Nat.{le-trans, le-of-eq}
+use native.Mathlib.Nat.{le-trans, le-of-eq, lt-of-lt-of-le}
 use native.Mathlib.Numerals.{add-one}
 use native.Mathlib.Omega.{arith}
 use lib.Bits.{or-lt}
-use lib.ListN.{length, getD, set, length-map, length-set}
-use lib.Seq.{getD-at}
+use lib.ListN.{length, getD, set, drop, length-append, length-map, length-set, List·getD-append}
+use lib.Seq.{getD-at, getD-append-add}
 use Rattle.formula.specs.Laws.RefusalLaws.{digits-suffice}
 use Rattle.math.specs.Bits.{members}
 use Rattle.math.specs.Lists.{over}
-use Rattle.math.specs.Laws.ListLaws.{here}
+use Rattle.math.specs.Laws.ListLaws.{here, getD-in}
 use Rattle.math.specs.Laws.OverLaws.{over-change, over-at}
-use Rattle.math.specs.Laws.QueueLaws.{length-snoc, length-moved, map-moved}
-use Rattle.math.specs.Laws.SplitLaws.{map-append}
-use Rattle.points.specs.Points.{Clause, pointDigits, distance, listed, variables, Numbered, numbered, SatisfiesAll}
+use Rattle.math.specs.Laws.QueueLaws.{length-snoc, length-moved, map-moved, getD-moved}
+use Rattle.math.specs.Laws.SplitLaws.{map-append, map-at}
+use Rattle.points.specs.Points.{Clause, listed, variables, Numbered, SatisfiesAll, FirstFalsified, NoneSatisfies}
 use Rattle.points.specs.Points.{emptyClause}
-use Rattle.points.specs.Points.{FirstFalsified, firstFalsified, numberOf}
 use Rattle.point_slices.specs.Slices.{SlotSlices}
-use Rattle.point_theory.specs.Laws.Distance.{distance-wider}
 use Rattle.formula.specs.Limits.{maxSlots}
 use Rattle.formula.specs.Problem.{Problem}
-use Rattle.formula.specs.Reply.{satisfiable, unknown}
+use Rattle.formula.specs.Reply.{unknown}
 use Rattle.search_expansion.specs.declared.Frame.{Frame}
 use Rattle.search_expansion.specs.declared.Visit.{Visit}
 use Rattle.search_step.specs.declared.Position.{Position}
@@ -34,19 +32,32 @@ use Rattle.permutation_coverage.specs.Laws.Coverage.{Imaged}
 use Rattle.search_expansion.specs.Laws.Filling.{Fillable, Advances}
 use Rattle.search_expansion.specs.Laws.FillingLaws.{ended, advances-ends}
 use Rattle.search_expansion.specs.Laws.Memory.{Holds, Lends}
-use Rattle.search_step.specs.Laws.NumberLaws.{number-none, number-found}
+use Rattle.search_level.specs.Laws.NumberLaws.{number-none, number-found}
+use Rattle.search_level.specs.Laws.Testing.{numberFor}
 use Rattle.search_step.specs.Laws.Stepping.{framed, Searchable, Linked, position, nextPoint, Next, Stands, Midway}
-use Rattle.search_step.specs.Laws.Stepping.{GoesOn, Ended, Steps}
+use Rattle.search_step.specs.Laws.Stepping.{Unmet, GoesOn, Ended, Steps, Kept}
 use Rattle.search_theory.specs.Laws.ExpansionLaws.{invariants-step}
 use Rattle.search_theory.specs.Laws.InvariantLaws.{first-in}
 use Rattle.search_theory.specs.Laws.Invariants.{slotAt}
-use Rattle.search_theory.specs.Walk.{Slot, slot, withNumber, state, Expansion, Fills, Walks, met, stuck, goes-on}
-use Rattle.search_theory.specs.Laws.WalkLaws.{fills-room}
+use Rattle.search_theory.specs.Filled.{filledWith}
+use Rattle.search_theory.specs.Laws.LevelLaws.{tested-first}
+use Rattle.search_theory.specs.Walk.{Slot, slot, withNumber, state, Expansion, Fills, tested, Walks, stuck, goes-on}
+use Rattle.search_theory.specs.Laws.WalkLaws.{Added, fills-adds, fills-room}
 
 -- ---- a slot in the memory
 
--- what a slice has at the index of the slot s, behind the slots p
-slot-read : (part : Slot → ℕ) (p w : List Slot) (s : Slot) (old now : List ℕ) (i : ℕ)
+-- what a slice has at the index of one of the slots l
+pub slot-at : (part : Slot → ℕ) (l : List Slot) (old now : List ℕ) → now ≡ over (map part l) old → (i : ℕ)
+    → i < length l → getD now i 0 ≡ part (slotAt l i)
+unfolding over
+slot-at part l old now e i lt =
+    ap (λ n. getD n i 0) e
+    ∙ List·getD-append (map part l) (drop (length (map part l)) old) 0 i
+    (lt-of-lt-of-le lt (le-of-eq (sym (length-map l part))))
+    ∙ map-at part l i (slot 0 0 0) 0 lt
+
+-- what it has at the index of the slot s, behind the slots p
+pub slot-read : (part : Slot → ℕ) (p w : List Slot) (s : Slot) (old now : List ℕ) (i : ℕ)
     → now ≡ over (map part (p ++ s ∷ w)) old → length p ≡ i → getD now i 0 ≡ part s
 slot-read part p w s old now i e n =
     ap (λ l. getD l i 0) (e ∙ ap (λ l. over l old) (map-append part p (s ∷ w)))
@@ -102,6 +113,7 @@ module _ (g : Frame) (images : List ℕ) (clauses : List Clause) (ok : Searchabl
     pub split : w ≡ taken ∷ rest
     pub point : from .point ≡ taken .point
     pub depth : from .depth ≡ taken .depth
+    pub none : NoneSatisfies (pb .clauses) (tested p taken rest)
     pub first : FirstFalsified (pb .clauses) (taken .point) falsified
     pub place : falsified .clause ≡ getD clauses (number - 1) emptyClause
     pub stands : Stands pb (g .room) old p (taken ∷ rest) m₀ q
@@ -109,48 +121,30 @@ module _ (g : Frame) (images : List ℕ) (clauses : List Clause) (ok : Searchabl
 
   module _ {old : SlotSlices} {p : List Slot} {m₀ : SlotSlices} {q : Position} where
     -- before the last of the filled slots one waits
-    one-waits : q .at < q .filled → Stands pb (g .room) old p [] m₀ q → ⊥
+    pub one-waits : q .at < q .filled → Stands pb (g .room) old p [] m₀ q → ⊥
     one-waits lt st =
         let a : length (p ++ []) ≡ length p = ap length (append-nil p) in
         omega (arith, st .processed, st .number)
 
     module _ (x number : ℕ) (read : x ≡ nextPoint m₀ q)
-        (found : number ≡ numberOf (firstFalsified (numbered clauses) x)) (lt : q .at < q .filled) where
+        (found : number ≡ numberFor clauses x) (lt : q .at < q .filled) (unmet : Unmet pb (g .room) m₀ q) where
       -- the point read is the first waiting slot's
       point-of : (s : Slot) (w : List Slot) → Stands pb (g .room) old p (s ∷ w) m₀ q → x ≡ s .point
       point-of s w st = read ∙ slot-read (λ (s : Slot). s .point) p w s (old .points) (m₀ .points) (q .at)
           (ap (λ (t : SlotSlices). t .points) (st .holds .held)) (st .processed)
 
-      -- W5: "it meets all rules: answer met .., with the choice, its changes .. and the number of slots filled"
-      pub step-met : (w : List Slot) (d : ℕ) → number ≡ 0 → d ≡ distance pointDigits x (g .target)
-          → Stands pb (g .room) old p w m₀ q
-          → Ended pb (g .room) old p w (satisfiable (nextPoint m₀ q) d (q .filled)) m₀
-      step-met [] d z far st = absurd (one-waits lt st)
-      step-met (s ∷ w) d z far st =
-          let same = point-of s w st in
-          let below : s .point < 2 ^ g .lookup .variables =
-          st .invariants .filled .below s (Memᴰ·append-right p (here s w)) in
-          let near : d ≡ distance (g .lookup .variables) (s .point) (g .target) =
-          far ∙ ap (λ y. distance pointDigits y (g .target)) same
-          ∙ distance-wider (g .lookup .variables) pointDigits (s .point) (g .target) below (ok .ready .target-below)
-          (ok .permuting .few) in
-          let all = st .number in
-          let e : satisfiable (s .point) (distance (g .lookup .variables) (s .point) (g .target)) (length (p ++ s ∷ w))
-          ≡ satisfiable (nextPoint m₀ q) d (q .filled) = cc in
-          record {
-            slots = p ++ s ∷ w;
-            holds = st .holds;
-            walks = subst (λ r. Walks pb (g .room) (state p (s ∷ w)) r (p ++ s ∷ w)) e
-                (met (subst (SatisfiesAll (pb .clauses)) same (number-none x clauses number found z)));
-          }
+      -- it was tested, so it falsifies a clause
+      pub taken-fails : (w : List Slot) → Stands pb (g .room) old p w m₀ q → number ≡ 0 → ⊥
+      taken-fails [] st z = one-waits lt st
+      taken-fails (s ∷ w) st z = unmet old p w s st (s .point) (tested-first p w s)
+          (subst (SatisfiesAll (pb .clauses)) (point-of s w st) (number-none x clauses number found z))
 
-      pub taken-of : (w : List Slot) (d : ℕ) → (number ≡ 0 → ⊥) → d ≡ getD (m₀ .depths) (q .at) 0
-          → Stands pb (g .room) old p w m₀ q
+      pub taken-of : (w : List Slot) (d : ℕ) → d ≡ getD (m₀ .depths) (q .at) 0 → Stands pb (g .room) old p w m₀ q
           → Taken old p w m₀ q (record { point = x; depth = d }) number
-      taken-of [] d ne deep st = absurd (one-waits lt st)
-      taken-of (s ∷ w) d ne deep st =
+      taken-of [] d deep st = absurd (one-waits lt st)
+      taken-of (s ∷ w) d deep st =
           let same = point-of s w st in
-          let f = number-found x clauses number found ne in
+          let f = number-found x clauses number found (taken-fails (s ∷ w) st) in
           record {
             taken = s;
             rest = w;
@@ -159,6 +153,7 @@ module _ (g : Frame) (images : List ℕ) (clauses : List Clause) (ok : Searchabl
             point = same;
             depth = deep ∙ slot-read (λ (s : Slot). s .depth) p w s (old .depths) (m₀ .depths) (q .at)
                 (ap (λ (t : SlotSlices). t .depths) (st .holds .held)) (st .processed);
+            none = unmet old p w s st;
             first = subst (λ y. FirstFalsified (pb .clauses) y (f .0)) same (f .1);
             place = f .3;
             stands = st;
@@ -178,6 +173,12 @@ module _ (g : Frame) (images : List ℕ) (clauses : List Clause) (ok : Searchabl
           (sym (slot-read (λ (t : Slot). t .point) p w s (at .old .points)
           (m₀ .points) (q .at) (ap (λ (t : SlotSlices). t .points) (st .holds .held)) (st .processed)))
           (st .invariants .filled .below s (Memᴰ·append-right p (here s w)))
+
+  -- the number that the test has kept for it is one of a clause
+  pub turn-numbered : {m₀ : SlotSlices} {q : Position} {number : ℕ} → q .at < q .filled → Midway pb (g .room) m₀ q
+      → Unmet pb (g .room) m₀ q → number ≡ numberFor clauses (nextPoint m₀ q) → number ≡ 0 → ⊥
+  turn-numbered {m₀} {q} {number} lt at unmet found = taken-fails (nextPoint m₀ q) number refl found lt unmet (at .back)
+      (at .stands)
 
   -- ---- the slot that is taken, and its flips
 
@@ -274,25 +275,83 @@ module _ (g : Frame) (images : List ℕ) (clauses : List Clause) (ok : Searchabl
                 ∙ sym (add-one (q .at));
             number = f .counted;
             invariants = invariants-step pb (g .room) p (t .rest) (t .taken) (t .falsified) (t .first)
-                (t .stands .invariants) (f .fills);
+                (t .stands .invariants) (t .none) (f .fills);
           };
-          onward = λ r l u. goes-on (t .first) (f .fills) u;
+          onward = λ r l u. goes-on (t .none) (t .first) (f .fills) u;
         })
 
-    -- W8: "answer no room, with d the depth of the point being processed and slots filled"
+    -- Q03.4: "On 'no room' the number carried is the depth being processed plus one"
     pub step-stuck : {filled′ : ℕ} {m : SlotSlices} → Flipped false filled′ m
-        → Ended pb (g .room) old p w (unknown (from .depth) filled′) m
+        → Ended pb (g .room) old p w (unknown (from .depth + 1) filled′) m
     step-stuck {filled′} {m} f =
-        let a = t .depth in
-        let b = f .counted in
-        let e : unknown (t .taken .depth) (length (known ++ f .waiting)) ≡ unknown (from .depth) filled′ = cc in
-        subst (λ u. Ended pb (g .room) old p u (unknown (from .depth) filled′) m) (sym (t .split))
+        let a : suc (t .taken .depth) ≡ from .depth + 1 = ap suc (sym (t .depth)) ∙ sym (add-one (from .depth)) in
+        let e : unknown (suc (t .taken .depth)) (length (known ++ f .waiting)) ≡ unknown (from .depth + 1) filled′ =
+        ap₂ unknown a (f .counted) in
+        subst (λ u. Ended pb (g .room) old p u (unknown (from .depth + 1) filled′) m) (sym (t .split))
         (record {
           slots = known ++ f .waiting;
           holds = f .holds;
           walks = subst (λ r. Walks pb (g .room) (state p (t .taken ∷ t .rest)) r (known ++ f .waiting)) e
-              (stuck (t .first) (f .fills));
+              (stuck (t .none) (t .first) (f .fills));
         })
+
+    -- the slots that were filled stand where they stood, and those filled since are deeper than the one taken
+    pub step-keeps : {filled′ : ℕ} {m : SlotSlices} → Flipped true filled′ m → Kept m₀ q filled′ m
+    step-keeps {filled′} {m} f =
+        record {
+          points = λ i lt. same (λ (s : Slot). s .point) refl (old .points) (m .points) (m₀ .points)
+              (ap (λ (k : SlotSlices). k .points) (f .holds .held)) (ap (λ (k : SlotSlices). k .points) before) i lt;
+          depths = λ i lt. same (λ (s : Slot). s .depth) refl (old .depths) (m .depths) (m₀ .depths)
+              (ap (λ (k : SlotSlices). k .depths) (f .holds .held)) (ap (λ (k : SlotSlices). k .depths) before) i lt;
+          deeper = deeper;
+        }
+      where
+        added : Added (t .taken .depth) (t .rest) (f .waiting)
+        added = fills-adds (pb .permutations) (g .room) known (t .taken .point) (t .taken .depth) (f .fills)
+
+        before : m₀ ≡ filledWith (p ++ t .taken ∷ t .rest) old
+        before = t .stands .holds .held
+
+        -- those of before, with the number stored, and the new ones
+        split : known ++ f .waiting ≡ (known ++ t .rest) ++ added .new
+        split = ap (λ l. known ++ l) (added .extends) ∙ sym (append-assoc known (t .rest) (added .new))
+
+        long : length (known ++ t .rest) ≡ q .filled
+        long = length-moved p (t .rest) (withNumber (t .taken) (t .falsified)) (t .taken) ∙ t .stands .number
+
+        grown : length (known ++ f .waiting) ≡ length (known ++ t .rest) + length (added .new)
+        grown = ap length split ∙ length-append (known ++ t .rest) (added .new)
+
+        same : (part : Slot → ℕ) → part (withNumber (t .taken) (t .falsified)) ≡ part (t .taken)
+            → (behind now now₀ : List ℕ) → now ≡ over (map part (known ++ f .waiting)) behind
+            → now₀ ≡ over (map part (p ++ t .taken ∷ t .rest)) behind → (i : ℕ) → i < q .filled
+            → getD now i 0 ≡ getD now₀ i 0
+        same part alike behind now now₀ e e₀ i lt =
+            slot-at part (known ++ f .waiting) behind now e i (omega (arith, grown, long))
+            ∙ ap (λ l. part (slotAt l i)) split
+            ∙ ap part (List·getD-append (known ++ t .rest) (added .new) (slot 0 0 0) i (omega (arith, long)))
+            ∙ getD-moved part p (t .rest) (withNumber (t .taken) (t .falsified)) (t .taken) (slot 0 0 0) alike i
+            ∙ sym (slot-at part (p ++ t .taken ∷ t .rest) behind now₀ e₀ i (omega (arith, t .stands .number)))
+
+        deeper : (i : ℕ) → q .filled ≤ i → i < filled′ → getD (m₀ .depths) (q .at) 0 < getD (m .depths) i 0
+        deeper i lo hi =
+            let at : getD (m .depths) i 0 ≡ slotAt (known ++ f .waiting) i .depth =
+            slot-at (λ (s : Slot). s .depth) (known ++ f .waiting) (old .depths) (m .depths)
+            (ap (λ (k : SlotSlices). k .depths) (f .holds .held)) i (omega (arith, f .counted)) in
+            let new : slotAt (known ++ f .waiting) i ≡ slotAt (added .new) (i - q .filled) =
+            ap (λ l. slotAt l i) split
+            ∙ ap (λ (j : ℕ). slotAt ((known ++ t .rest) ++ added .new) j)
+            (let z : i ≡ length (known ++ t .rest) + (i - q .filled) = omega (arith, long) in z)
+            ∙ getD-append-add (known ++ t .rest) (added .new) (i - q .filled) (slot 0 0 0) in
+            let deep : slotAt (added .new) (i - q .filled) .depth ≡ suc (t .taken .depth) =
+            added .deeper (slotAt (added .new) (i - q .filled))
+            (getD-in (added .new) (i - q .filled) (slot 0 0 0) (omega (arith, grown, long, f .counted))) in
+            let own : getD (m₀ .depths) (q .at) 0 ≡ t .taken .depth =
+            slot-read (λ (s : Slot). s .depth) p (t .rest) (t .taken) (old .depths) (m₀ .depths) (q .at)
+            (ap (λ (k : SlotSlices). k .depths) before) (t .stands .processed) in
+            let whole : getD (m .depths) i 0 ≡ suc (t .taken .depth) =
+            at ∙ ap (λ (s : Slot). s .depth) new ∙ deep in
+            omega (arith, own, whole)
 
   -- ---- what the code knows when the flips are to be tried: it has read the slot that is next, and its point falsifies
   -- the clause c first
@@ -300,8 +359,8 @@ module _ (g : Frame) (images : List ℕ) (clauses : List Clause) (ok : Searchabl
   pub record Read (m₀ : SlotSlices) (q : Position) (from : Visit) (number s : ℕ) (c : Clause) : Type 0 where
     pub point-read : from .point ≡ nextPoint m₀ q
     pub depth-read : from .depth ≡ getD (m₀ .depths) (q .at) 0
-    pub number-read : number ≡ numberOf (firstFalsified (numbered clauses) (from .point))
-    pub unsatisfied : number ≡ 0 → ⊥
+    pub number-read : number ≡ numberFor clauses (from .point)
+    pub unmet : Unmet pb (g .room) m₀ q
     pub clause-read : c ≡ getD clauses (number - 1) emptyClause
     pub listed-read : s ≡ listed c
 
@@ -309,8 +368,8 @@ module _ (g : Frame) (images : List ℕ) (clauses : List Clause) (ok : Searchabl
       (a : Read m₀ q from number s c) where
     taken-read : {old : SlotSlices} {p w : List Slot} → Stands pb (g .room) old p w m₀ q
         → Taken old p w m₀ q from number
-    taken-read {w = w} st = taken-of (from .point) number (a .point-read) (a .number-read) lt w (from .depth)
-        (a .unsatisfied) (a .depth-read) st
+    taken-read {w = w} st = taken-of (from .point) number (a .point-read) (a .number-read) lt (a .unmet) w
+        (from .depth) (a .depth-read) st
 
     pub read-shallow : Midway pb (g .room) m₀ q → from .depth < maxSlots
     read-shallow at = taken-shallow (taken-read (at .stands)) lt
@@ -336,7 +395,7 @@ module _ (g : Frame) (images : List ℕ) (clauses : List Clause) (ok : Searchabl
           };
           most = ok .most;
           shallow = read-shallow at;
-          linked = l .linked;
+          linked = le-of-eq (sym (l .linked));
         }
 
     pub read-below : Midway pb (g .room) m₀ q → s < 2 ^ g .lookup .variables
@@ -356,6 +415,10 @@ module _ (g : Frame) (images : List ℕ) (clauses : List Clause) (ok : Searchabl
       read-goes e old p w st = step-goes (taken-read st)
           (subst (λ b. Flipped (taken-read st) b filled′ m) e (flipped-read st))
 
-      pub read-stuck : enough ≡ false → Steps pb (g .room) m₀ q (Ends (Unknown (from .depth) filled′)) m
+      pub read-keeps : enough ≡ true → Midway pb (g .room) m₀ q → Kept m₀ q filled′ m
+      read-keeps e at = step-keeps (taken-read (at .stands))
+          (subst (λ b. Flipped (taken-read (at .stands)) b filled′ m) e (flipped-read (at .stands)))
+
+      pub read-stuck : enough ≡ false → Steps pb (g .room) m₀ q (Ends (Unknown (from .depth + 1) filled′)) m
       read-stuck e old p w st = step-stuck (taken-read st)
           (subst (λ b. Flipped (taken-read st) b filled′ m) e (flipped-read st))

@@ -1,8 +1,9 @@
 -- The flips of one slot: while they are filled the invariants stay, and once all are looked at each is covered by the
 -- filled slots. Assumes nothing.
-use mathlib.Core.List.{List, [], _∷_, _++_, append-assoc, List·Memᴰ·tail, Memᴰ·append-left, Memᴰ·append-right}
+use mathlib.Core.List.{List, [], _∷_, _++_, append-assoc, List·Memᴰ·tail, List·Memᴰ·append-cases, Memᴰ·append-left}
+use mathlib.Core.List.{Memᴰ·append-right}
 use mathlib.Core.Logic.{_⊎_, inl, inr, ⊎-elim}
-use mathlib.Core.Path.{_≡_, refl, _∙_, subst}
+use mathlib.Core.Path.{_≡_, refl, sym, _∙_, subst}
 use Prim.Native.Nat.{ℕ, suc, _+_, _≤_, _<_, suc-le-suc}
 use native.Mathlib.Nat.{le-refl, le-trans, lt-of-lt-of-le, le-step}
 use native.Mathlib.Omega.{arith}
@@ -24,7 +25,7 @@ use Rattle.search_theory.specs.Laws.Invariants.{Invariants, Expanding}
 use Rattle.search_theory.specs.Walk.{Slot, slot, pointsIn, withNumber, Expansion, complete, full, Fills, no-more}
 use Rattle.search_theory.specs.Walk.{skipped, filled-next, no-room, tested}
 use Rattle.search_theory.specs.Laws.LevelLaws.{level-failed}
-use Rattle.search_theory.specs.Laws.WalkLaws.{waitingIn}
+use Rattle.search_theory.specs.Laws.WalkLaws.{waitingIn, Added, fills-adds}
 
 -- ---- the flips of the slot q, whose clause's variables are among vs
 
@@ -94,22 +95,19 @@ module _ (pb : Problem) (capacity : ℕ) (known : List Slot) (q : Slot) (moved :
       fills-expanding f (λ u m. listed u (List·Memᴰ·tail m)) (one-more w v (listed v (here v vs)) c h e)
   fills-expanding (no-room c h) listed e = e
 
+  adds : {vs : List ℕ} {w : List Slot} {r : Expansion} → fills vs w r → Added (q .depth) w (waitingIn r)
+  adds f = fills-adds (pb .permutations) capacity known (q .point) (q .depth) f
+
   -- what waited waits still
   pub fills-grow : {vs : List ℕ} {w : List Slot} {r : Expansion} → fills vs w r → (t : Slot) → t ∈ w → t ∈ waitingIn r
-  fills-grow no-more t m = m
-  fills-grow (skipped c f) t m = fills-grow f t m
-  fills-grow (filled-next {v = v} c h f) t m = fills-grow f t (Memᴰ·append-left (child v ∷ []) m)
-  fills-grow (no-room c h) t m = m
+  fills-grow f t m = let a = adds f in subst (λ l. t ∈ l) (sym (a .extends)) (Memᴰ·append-left (a .new) m)
 
   -- what waits waited before, or is one deeper than q
   pub fills-new : {vs : List ℕ} {w : List Slot} {r : Expansion} → fills vs w r → (t : Slot) → t ∈ waitingIn r
       → (t ∈ w) ⊎ (t .depth ≡ suc (q .depth))
-  fills-new no-more t m = inl m
-  fills-new (skipped c f) t m = fills-new f t m
-  fills-new (filled-next {w = w} c h f) t m =
-      ⊎-elim (each-snoc (λ t. (t ∈ w) ⊎ (t .depth ≡ suc (q .depth))) w (λ t k. inl k) (inr refl) t) inr
-      (fills-new f t m)
-  fills-new (no-room c h) t m = inl m
+  fills-new {w = w} f t m =
+      let a = adds f in
+      ⊎-elim inl (λ k. inr (a .deeper t k)) (List·Memᴰ·append-cases w (subst (λ l. t ∈ l) (a .extends) m))
 
   -- a point that is covered by the filled slots is so by slots at most one deeper than q, whatever is filled later
   still-covered : {w u : List Slot} {y : ℕ} → Expanding pb capacity known q w → ((t : Slot) → t ∈ w → t ∈ u)

@@ -1,7 +1,7 @@
 -- The search as computed is the search as the sentence has it: what `walk` gives is what `Walks` says, and `Walks` says
 -- one thing only. Assumes nothing.
 use mathlib.Core.Bool.{Bool, true, false, true≢false}
-use mathlib.Core.List.{List, [], _∷_, _++_}
+use mathlib.Core.List.{List, [], _∷_, _++_, append-nil, append-assoc}
 use mathlib.Core.Option.{Option, some, none}
 use mathlib.Core.Path.{_≡_, refl, sym, ap, ap₂, _∙_, subst}
 use Prim.Native.Nat.{ℕ, zero, suc, _+_, _≤_, _<_}
@@ -12,7 +12,9 @@ use lib.ListN.{length, length-append}
 use borrow.Author.Tests.{lt-ltb, le-ltb, ltb-true, ltb-false}
 use Rattle.math.specs.Bits.{flip}
 use Rattle.math.specs.Laws.ListLaws.{not-true-false}
+use Rattle.math.specs.Laws.PartLaws.{each-nil, each-cons}
 use Rattle.math.specs.Laws.QueueLaws.{length-snoc, length-moved}
+use Rattle.math.specs.Lists.{_∈_}
 use Rattle.points.specs.Laws.PointLaws.{first-sound, first-complete, first-none}
 use Rattle.points.specs.Laws.SmallestLaws.{smallest-some, smallest-none, none-smallest, smallest-same}
 use Rattle.points.specs.Points.{distance, variables, Numbered, firstFalsified, NoneSatisfies, smallest}
@@ -37,6 +39,12 @@ covered-not es ps y h = not-true-false (covered es ps y) (λ e. h (covered-sound
 abbrev pub waitingIn : Expansion → List Slot
 waitingIn (complete w) = w
 waitingIn (full w) = w
+
+-- the slots u are the slots w and new ones behind them, each one deeper than d
+pub record Added (d : ℕ) (w u : List Slot) : Type 0 where
+  pub new : List Slot
+  pub extends : u ≡ w ++ new
+  pub deeper : (t : Slot) → t ∈ new → t .depth ≡ suc d
 
 -- ---- the flips of one point
 
@@ -103,6 +111,24 @@ module _ (es : List Permutation) (capacity : ℕ) (known : List Slot) (x d : ℕ
       let last = length-append w (filledBy es capacity known x d (flip x v) ∷ []) in
       fills-room f (let one : length (known ++ more w v) ≤ capacity = omega arith in one)
   fills-room (no-room c le) h = h
+
+  nothing : (w : List Slot) → Added d w w
+  nothing w = record { new = []; extends = sym (append-nil w); deeper = each-nil (λ u. u .depth ≡ suc d) }
+
+  -- flips fill slots behind those that wait
+  pub fills-adds : {vs : List ℕ} {w : List Slot} {r : Expansion} → Fills es capacity known x d vs w r
+      → Added d w (waitingIn r)
+  fills-adds {w = w} no-more = nothing w
+  fills-adds (skipped c f) = fills-adds f
+  fills-adds (filled-next {v = v} {w = w} c h f) =
+      let a = fills-adds f in
+      let t = filledBy es capacity known x d (flip x v) in
+      record {
+        new = t ∷ a .new;
+        extends = a .extends ∙ append-assoc w (t ∷ []) (a .new);
+        deeper = each-cons (λ u. u .depth ≡ suc d) refl (a .deeper);
+      }
+  fills-adds {w = w} (no-room c h) = nothing w
 
 -- ---- the search
 
