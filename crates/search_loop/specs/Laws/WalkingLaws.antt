@@ -9,6 +9,7 @@ use native.Mathlib.Nat.{le-trans, le-of-eq}
 use native.Mathlib.Omega.{arith}
 use lib.Dec.{ltb}
 use lib.ListN.{length, length-append}
+use lib.Seq.{length-take-le}
 use borrow.Author.Tests.{ltb-true, lt-ltb}
 use Rattle.points.specs.Points.{Clause}
 use Rattle.math.specs.Laws.ListLaws.{and-split, and-join}
@@ -23,14 +24,23 @@ use Rattle.search_expansion.specs.declared.Frame.{Frame}
 use Rattle.search_expansion.specs.Laws.Filling.{Headed}
 use Rattle.search_expansion.specs.Laws.Memory.{Holds}
 use Rattle.search_step.specs.Laws.Stepping.{replyOfConclusion, framed, Linked, StillLinked, position, nextPoint, Midway}
-use Rattle.search_step.specs.Laws.Stepping.{After, Steps}
-use Rattle.search_loop.specs.Laws.Exploring.{Walking, Exploring, Concludes}
+use Rattle.search_step.specs.Laws.Stepping.{After, Steps, StillThere}
+use Rattle.search_loop.specs.Laws.Exploring.{Walking, Exploring, Concludes, Numbers, Explores}
+use Rattle.search_loop.specs.declared.Stage.{Stage}
+use Rattle.search_loop.specs.declared.Stage.the-variants.{Concluded}
+use Rattle.search_loop.specs.Laws.TestedLaws.{AtHand, numbers-on}
 use Rattle.search_theory.specs.Walk.{state, Walks, none-left}
 
 -- no more slots are filled than there are
 pub midway-room : {pb : Problem} {capacity : ℕ} {m : SlotSlices} {q : Position} → Midway pb capacity m q
     → q .filled ≤ capacity
 midway-room at = le-trans (le-of-eq (sym (at .stands .number))) (at .stands .invariants .filled .room)
+
+-- nor more than have heads, of which there are half as many as links behind them
+pub linked-few : {g : Frame} {m : SlotSlices} {links : List ℕ} {filled : ℕ} → Linked g m links filled
+    → filled ≤ length (m .points) → filled ≤ g .lookup .heads
+linked-few {m = m} {filled = filled} l enough =
+    omega (arith, l .indexed .room, l .linked, length-take-le filled (m .points) enough)
 
 module _ (pb : Problem) (capacity : ℕ) where
   pub walking-begins : (m : SlotSlices) (q : Position) → Walking pb capacity m q m q
@@ -95,32 +105,46 @@ module _ (pb : Problem) (capacity : ℕ) where
 -- ---- the loop with its index
 
 module _ {g : Frame} {images : List ℕ} {clauses : List Clause} {m₀ : SlotSlices} {q₀ : Position} where
-  pub exploring-begins : {links : List ℕ} → Linked g m₀ links (q₀ .filled)
-      → Exploring g images clauses m₀ q₀ m₀ links q₀
-  exploring-begins l = record {
+  pub exploring-begins : {links : List ℕ} (found : List ℕ) → Linked g m₀ links (q₀ .filled)
+      → Numbers clauses m₀ q₀ found → Exploring g images clauses m₀ q₀ m₀ links found q₀
+  exploring-begins found l n = record {
     walking = walking-begins (framed g images clauses) (g .room) m₀ q₀;
     indexed = l .indexed;
+    numbers = n;
   }
 
-  module _ {m : SlotSlices} {links : List ℕ} {q : Position} (e : Exploring g images clauses m₀ q₀ m links q) where
+  module _ {m : SlotSlices} {links found : List ℕ} {q : Position}
+      (e : Exploring g images clauses m₀ q₀ m links found q) where
     -- the links are as many as they were
     pub exploring-linked : {links₀ : List ℕ} → Linked g m₀ links₀ (q₀ .filled) → length links ≡ length links₀
         → Linked g m links (q .filled)
-    exploring-linked l same = record { indexed = e .indexed; linked = le-trans (l .linked) (le-of-eq (sym same)) }
+    exploring-linked l same = record { indexed = e .indexed; linked = same ∙ l .linked }
 
     pub exploring-midway : Midway (framed g images clauses) (g .room) m₀ q₀
         → Midway (framed g images clauses) (g .room) m q
     exploring-midway at = walking-midway (framed g images clauses) (g .room) (e .walking) at
 
-    pub exploring-goes-on : {step : Step} {m′ : SlotSlices} {links′ : List ℕ}
+    -- the level of q is tested, with the numbers kept then
+    pub exploring-goes-on : {step : Step} {m′ : SlotSlices} {links′ kept : List ℕ}
+        → Midway (framed g images clauses) (g .room) m q → q .at < q .filled → AtHand clauses m q kept
         → Steps (framed g images clauses) (g .room) m q step m′ → StillLinked g m′ links′ step
-        → (filled : ℕ) → step ≡ Goes filled
-        → Exploring g images clauses m₀ q₀ m′ links′ (position (q .at + 1) filled)
-    exploring-goes-on {m′ = m′} {links′ = links′} s still filled same =
+        → StillThere m q step m′ → (filled : ℕ) → step ≡ Goes filled
+        → Exploring g images clauses m₀ q₀ m′ links′ kept (position (q .at + 1) filled)
+    exploring-goes-on {m′ = m′} {links′ = links′} {kept = kept} at lt tests s still there filled same =
         record {
           walking = walking-goes-on (framed g images clauses) (g .room) (e .walking) s filled same;
           indexed = subst (StillLinked g m′ links′) same still;
+          numbers = numbers-on clauses kept at lt tests (subst (λ r. StillThere m q r m′) same there);
         }
+
+-- an answer, as the loop returns it
+pub explores-answer : (g : Frame) (images : List ℕ) (clauses : List Clause) {m₀ m : SlotSlices} {q₀ : Position}
+    (found : List ℕ) (stage : Stage) (x y : ℕ) (a : Conclusion) → stage ≡ Concluded a → x ≡ y
+    → Concludes (framed g images clauses) (g .room) m₀ q₀ (replyOfConclusion y a) m
+    → Explores g images clauses m₀ q₀ stage x m found
+explores-answer g images clauses {m₀} {m} {q₀} found stage x y a e same h =
+    subst (λ s. Explores g images clauses m₀ q₀ s x m found) (sym e)
+    (subst (λ z. Concludes (framed g images clauses) (g .room) m₀ q₀ (replyOfConclusion z a) m) (sym same) h)
 
 -- whether one more step might fill more slots, `most`, than there are heads: if so there are more slots than heads
 pub outgrown-pauses : (g : Frame) (most : ℕ) (outgrown : Bool)
