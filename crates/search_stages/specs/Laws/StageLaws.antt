@@ -1,22 +1,24 @@
--- Laws of a stage: its links become an index of the filled points, it pauses at once where they are too few, and the
--- stage behind a paused one answers for both. Assumes nothing.
+-- Laws of a stage: its links become an index of the filled points, the numbers found are carried into it, and the stage
+-- behind a paused one answers for both. Assumes nothing.
 use mathlib.Core.List.{List, [], _∷_, _++_}
-use mathlib.Core.Path.{_≡_, refl, sym, subst}
-use Prim.Native.Nat.{ℕ, _^_, _≤_, _<_}
-use native.Mathlib.Nat.{le-trans, le-of-eq}
+use mathlib.Core.Path.{_≡_, refl, sym, ap, _∙_, subst}
+use Prim.Native.Nat.{ℕ, _+_, _*_, _^_, _≤_, _<_}
+use native.Mathlib.Nat.{le-trans, le-of-eq, lt-of-lt-of-le}
 use native.Mathlib.Omega.{arith}
-use lib.ListN.{length, take}
+use mathlib.Core.Bool.{true}
+use lib.ListN.{length, getD, take, drop, replicate, length-replicate, List·getD-append}
+use lib.Seq.{length-take-le, getD-take}
 use Rattle.points.specs.Points.{Clause}
 use Rattle.math.specs.Laws.ListLaws.{map-out}
-use Rattle.math.specs.Lists.{_∈_, Distinct}
+use Rattle.math.specs.Lists.{_∈_, Distinct, over}
 use Rattle.point_slices.specs.Slices.{SlotSlices}
 use Rattle.formula.specs.Limits.{maxSlots}
 use Rattle.formula.specs.Problem.{Problem}
 use Rattle.formula.specs.Reply.{Reply}
 use Rattle.search_theory.specs.Laws.InvariantLaws.{invariants-start}
 use Rattle.search_theory.specs.Walk.{Slot, slot, pointsIn}
-use Rattle.check_distinct.specs.Laws.Indexing.{Indexable, Links, Sifts}
-use Rattle.check_distinct.specs.Laws.IndexingLaws.{links-indexable, sifts-full}
+use Rattle.check_distinct.specs.Laws.Indexing.{Indexable, Links, Sifts, suits}
+use Rattle.check_distinct.specs.Laws.IndexingLaws.{links-indexable, sifts-full, zeros-links}
 use Rattle.search_expansion.specs.declared.Frame.{Frame}
 use Rattle.search_expansion.specs.Laws.FillingLaws.{held-points}
 use Rattle.search_expansion.specs.Laws.Memory.{Holds, Lends}
@@ -26,8 +28,8 @@ use Rattle.search_step.specs.declared.Conclusion.{Conclusion}
 use Rattle.search_step.specs.declared.Position.{Position}
 use Rattle.search_step.specs.Laws.Stepping.{replyOfConclusion, framed, Searchable, Linked, position, Stands, Midway}
 use Rattle.search_step.specs.Laws.Stepping.{Ended}
-use Rattle.search_loop.specs.Laws.Exploring.{Walking, Explores, Concludes}
-use Rattle.search_loop.specs.Laws.WalkingLaws.{walking-begins, walking-midway, walking-answers, midway-room}
+use Rattle.search_loop.specs.Laws.Exploring.{Walking, Numbers, Explores, Concludes}
+use Rattle.search_loop.specs.Laws.WalkingLaws.{walking-midway, walking-answers, midway-room}
 use Rattle.search_stages.specs.declared.Answer.{Answer}
 
 -- F10: what the code's answer says in document 01's terms
@@ -56,6 +58,35 @@ headedBy heads g =
       room = g .room;
       target = g .target;
     }
+
+-- what a stage is handed by the one before it: the numbers of the slots filled, of which there are at most `heads`
+pub record Carried (clauses : List Clause) (m : SlotSlices) (q : Position) (earlier : List ℕ) (heads : ℕ) : Type 0
+  where
+    pub enough : q .filled ≤ length earlier
+    pub room : q .filled ≤ heads
+    pub numbers : Numbers clauses m q earlier
+
+-- the numbers are at hand in the stage's own array
+pub numbers-carried : (clauses : List Clause) (m : SlotSlices) (q : Position) (earlier blank found : List ℕ) {heads : ℕ}
+    → Carried clauses m q earlier heads → found ≡ over (take (q .filled) earlier) blank
+    → Numbers clauses m q found
+unfolding over
+numbers-carried clauses m q earlier blank found c e k j before from to le =
+    ap (λ l. getD l k 0) e
+    ∙ List·getD-append (take (q .filled) earlier) (drop (length (take (q .filled) earlier)) blank) 0 k
+    (lt-of-lt-of-le to (le-of-eq (sym (length-take-le (q .filled) earlier (c .enough)))))
+    ∙ getD-take (q .filled) earlier k 0 to
+    ∙ c .numbers k j before from to le
+
+-- the links of a stage, all 0, suit as many heads as there is room for numbers
+pub stage-blank : (heads : ℕ) (found : List ℕ) → suits heads heads (3 * heads) ≡ true → length found ≡ heads
+    → Links (length found) (length found) (replicate (3 * heads) 0)
+    × (length (replicate {A = ℕ} (3 * heads) 0) ≡ length found + 2 * length found)
+stage-blank heads found fits long =
+    let zeros = length-replicate {A = ℕ} (3 * heads) 0 in (
+      subst (λ (h : ℕ). Links h h (replicate (3 * heads) 0)) (sym long) (zeros-links heads heads (3 * heads) fits),
+      omega (arith, zeros, long),
+    )
 
 module _ (g : Frame) (images : List ℕ) (clauses : List Clause) (ok : Searchable g images clauses) where
   abbrev pb : Problem
@@ -96,31 +127,28 @@ module _ (g : Frame) (images : List ℕ) (clauses : List Clause) (ok : Searchabl
 
     pub stage-linked : {first : ℕ} {links′ : List ℕ}
         → Sifts heads (g .lookup .variables) (q .filled) (m .points) first links′
-        → length links′ ≡ length links → Linked (headedBy heads g) m links′ (q .filled)
-    stage-linked s same =
+        → length links ≡ heads + 2 * heads → length links′ ≡ length links
+        → Linked (headedBy heads g) m links′ (q .filled)
+    stage-linked s all same =
         record {
           indexed = sifts-full enough narrow
               (subst Distinct (sym indexed-points) (at .stands .invariants .filled .distinct)) s;
-          linked = le-trans (blank .room) (le-of-eq (sym same));
+          linked = same ∙ all;
         }
 
   -- ---- stages behind one another
 
   module _ (heads : ℕ) (m : SlotSlices) (q : Position) where
-    -- too few links: the stage pauses where it is
-    pub stage-outgrown : Midway pb (g .room) m q → heads < q .filled
-        → Explores (headedBy heads g) images clauses m q (Paused q) 0 m
-    stage-outgrown at lt = (walking-begins pb (g .room) m q, le-trans lt (midway-room at))
-
-    module _ (stage : Stage) (x : ℕ) (m′ : SlotSlices) (e : Explores (headedBy heads g) images clauses m q stage x m′)
-      where
+    module _ (stage : Stage) (x : ℕ) (m′ : SlotSlices) (found : List ℕ)
+        (e : Explores (headedBy heads g) images clauses m q stage x m′ found) where
         pub stage-answered : (a : Conclusion) → stage ≡ Concluded a
             → Concludes pb (g .room) m q (replyOfConclusion x a) m′
-        stage-answered a same = subst (λ (s : Stage). Explores (headedBy heads g) images clauses m q s x m′) same e
+        stage-answered a same = subst (λ (s : Stage). Explores (headedBy heads g) images clauses m q s x m′ found) same e
 
         module _ (q′ : Position) (same : stage ≡ Paused q′) where
-          paused : Walking pb (g .room) m q m′ q′ × (heads < g .room)
-          paused = subst (λ (s : Stage). Explores (headedBy heads g) images clauses m q s x m′) same e
+          paused : Walking pb (g .room) m q m′ q′ × (heads < g .room) × (q′ .filled ≤ heads)
+              × Numbers clauses m′ q′ found
+          paused = subst (λ (s : Stage). Explores (headedBy heads g) images clauses m q s x m′ found) same e
 
           pub stage-midway : Midway pb (g .room) m q → Midway pb (g .room) m′ q′
           stage-midway at = walking-midway pb (g .room) (paused .0) at
@@ -128,6 +156,15 @@ module _ (g : Frame) (images : List ℕ) (clauses : List Clause) (ok : Searchabl
           pub stage-followed : {r : Reply} {m″ : SlotSlices} → Concludes pb (g .room) m′ q′ r m″
               → Concludes pb (g .room) m q r m″
           stage-followed next = walking-answers pb (g .room) (paused .0) next
+
+          -- the stage behind it has more heads, and is handed the numbers
+          pub stage-carries : (more : ℕ) → heads ≤ length found → heads ≤ more → Carried clauses m′ q′ found more
+          stage-carries more long le =
+              record {
+                enough = le-trans (paused .2) long;
+                room = le-trans (paused .2) le;
+                numbers = paused .3;
+              }
 
           -- with a head for each slot lent there is no pause
           pub stage-roomy : g .room ≤ heads → ⊥

@@ -1,0 +1,41 @@
+-- `search_stages::carry` meets its contract: the first i numbers are there, the others as they were. Assumes nothing.
+use mathlib.Core.Path.{_≡_}
+use Prim.Native.Nat.{_-_}
+use lib.ListN.{length}
+use borrow.Author.Needs.{needs}
+use Rattle.math.specs.Laws.OverLaws.{Copying, copying-begins, copying-goes-on, copying-ends}
+use Rattle.search_stages.proofs.carry.Statement.{statement}
+use Rattle.search_stages.proofs.carry.Tie as tie
+
+abbrev Inv-loop : tie.InvT-loop
+Inv-loop earlier found₀ count i₀ found i = Copying count earlier found₀ i found × (length found ≡ length found₀)
+
+abbrev μ-loop : tie.MeasureT-loop
+μ-loop earlier found₀ count i₀ found i = count - i
+
+loop-holds : tie.Need-loop-holds Inv-loop μ-loop
+loop-holds c = search (needs, copying-begins)
+
+number-at-requires : tie.Need-number-at-requires Inv-loop μ-loop
+number-at-requires c κs = search needs
+
+put-number-requires : tie.Need-put-number-requires Inv-loop μ-loop
+put-number-requires c κs = search needs
+
+loop-again : tie.Need-loop-again Inv-loop μ-loop
+loop-again c = (search (needs, copying-goes-on), search needs)
+
+pub carry-spec : {M : Type 1} → statement M
+carry-spec =
+    tie.close
+    (tie.spec
+    Inv-loop
+    μ-loop
+    loop-holds
+    number-at-requires
+    put-number-requires
+    (λ c. search needs)
+    (λ c. search needs)
+    loop-again
+    (λ c. search needs)
+    (λ c. search (needs, copying-ends)))
