@@ -2,15 +2,16 @@
 -- sentence a worked case is an instance, and what the sentence then says of it. Assumes nothing.
 use mathlib.Core.Bool.{true}
 use mathlib.Core.List.{[], _∷_, List·Memᴰ·head, List·Memᴰ·tail, List·Memᴰ·not-nil}
-use mathlib.Core.Path.{_≡_, refl}
-use Prim.Native.Nat.{ℕ}
+use mathlib.Core.Path.{_≡_, refl, sym, subst}
+use Prim.Native.Nat.{ℕ, _≤_, _-_}
+use native.Mathlib.Omega.{arith}
 use lib.Dec.{lit≤}
 use lib.ListN.{replicate}
 use Rattle.math.specs.Bits.{bit, flip}
-use Rattle.math.specs.Lists.{_∈_, over}
-use Rattle.points.specs.Points.{numberedFrom}
+use Rattle.math.specs.Lists.{_∈_, over, range}
+use Rattle.points.specs.Points.{Numbered, Satisfies, by-no, SatisfiesAll, numberedFrom, distance}
 use Rattle.point_slices.specs.Slices.{SlotSlices, wholeClauses, wholeSlots}
-use Rattle.formula.specs.Limits.{maxVariables, maxSlots, capacity}
+use Rattle.formula.specs.Limits.{maxVariables, maxImages, maxSlots, capacity}
 use Rattle.formula.specs.Laws.ReplyLaws.{satisfiable-not-refused, unsatisfiable-not-refused, unknown-not-refused}
 use Rattle.formula.specs.Laws.ReplyLaws.{unsatisfiable-not-unknown}
 use Rattle.formula.specs.Problem.{problemOf, Unsatisfiable}
@@ -106,6 +107,31 @@ plain-B = refl
 
 pub smallest-B : SmallestIn OnSheet (problemIn (sheetOf caseB)) 1 2
 smallest-B = claim .smallest (sheetOf caseB) (places 5) 2 1 3 answered-B plain-B
+
+-- with exchanges it may be another: n 2, the rule (−1 −2), wish 11 and exchange 2 1. 01 fills a slot and covers 10,
+-- which is smaller
+abbrev sheetExchanged : Sheet
+sheetExchanged = by-value (record {
+  variables = 2;
+  clauses = 1;
+  target = 3;
+  permutations = 1;
+  images = 2 ∷ 1 ∷ replicate (maxImages - 2) 0;
+}) (wholeClauses (0 ∷ []) (3 ∷ []))
+
+pub answered-exchanged : SearchAnswers sheetExchanged (places 4) (satisfiable 2 1 2)
+unfolding searchReply capacity bit flip
+answered-exchanged = record { readable = tt; reply = refl; accepted = satisfiable-not-refused }
+
+pub exchanged-larger : SmallestIn OnSheet (problemIn sheetExchanged) 1 2 → ⊥
+unfolding problemOf numberedFrom distance range bit
+exchanged-larger least =
+    let two : 2 ≤ 1 = least 1 tt (record { within = lit≤ tt; satisfying = meets }) refl in
+    omega arith
+  where
+    meets : SatisfiesAll (problemIn sheetExchanged .clauses) 1
+    meets c (List·Memᴰ·head e) = subst (λ (r : Numbered). Satisfies (r .clause) 1) (sym e) (by-no 1 refl refl)
+    meets c (List·Memᴰ·tail m) = absurd (List·Memᴰ·not-nil m)
 
 -- 9: B with its rules in the other order has the same rules, so whatever choice is handed back for it, with however
 -- many slots, is 010
