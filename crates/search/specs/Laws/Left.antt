@@ -18,7 +18,7 @@ use Rattle.search.specs.Laws.Accepted.{no-faults, answered}
 use Rattle.search.specs.Laws.Theorems.{slots-reported}
 use Rattle.search.specs.Search.{searchReply, searchSlots, searchSlices}
 
--- the slots l stand in front, k of them, one of their parts in each slice; "Slots beyond those filled are unchanged."
+-- the slots l stand in front, one of their parts in each slice; "Slots beyond those filled are unchanged."
 pub record Left (part : Slot → ℕ) (l : List Slot) (filled : ℕ) (old new : List ℕ) : Type 0 where
   pub front : take filled new ≡ map part l
   pub behind : drop filled new ≡ drop filled old
