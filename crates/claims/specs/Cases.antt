@@ -144,35 +144,25 @@ caseA-swap =
       certificate = some (record { size = 70; permutationsAt = 32; pointsAt = 34; numbersAt = 58 });
     }
 
--- V3: "A, P = 3, no exchange: no room, d 1."
+-- V3: "A, P = 3, no exchange: no room"; Q03.5: "case A with P = 3 carries 2"
 abbrev pub caseA-3 : Case
 caseA-3 = record {
   formula = bare 2 4 0;
   clauses = clausesA;
   lent = 3;
-  reply = unknown 1 3;
+  reply = unknown 2 3;
   slots = none;
   certificate = none;
 }
 
--- V4: "B: n 3, rules (1 2) (−1 3), wish 000: met by 010, changes 1, slots 4."
+-- V4: "B: n 3, rules (1 2) (−1 3), wish 000: met by 010, changes 1"; Q03.5: "Case B, the program's example too, now
+-- fills 3 slots, with P = 3 it is met"
 abbrev pub caseB : Case
 caseB = record {
   formula = bare 3 2 0;
   clauses = wholeClauses (3 ∷ 4 ∷ []) (0 ∷ 1 ∷ []);
-  lent = 4;
-  reply = satisfiable 2 1 4;
-  slots = none;
-  certificate = none;
-}
-
--- V4: "P = 3: no room, d 1."
-abbrev pub caseB-3 : Case
-caseB-3 = record {
-  formula = bare 3 2 0;
-  clauses = wholeClauses (3 ∷ 4 ∷ []) (0 ∷ 1 ∷ []);
   lent = 3;
-  reply = unknown 1 3;
+  reply = satisfiable 2 1 3;
   slots = none;
   certificate = none;
 }
@@ -220,8 +210,7 @@ case-both = record {
 }
 
 abbrev pub cases : List Family
-cases = orMore caseA ∷ orMore caseA-swap ∷ one caseA-3 ∷ orMore caseB ∷ one caseB-3 ∷ case-none ∷ case-empty ∷ case-both
-    ∷ []
+cases = orMore caseA ∷ orMore caseA-swap ∷ one caseA-3 ∷ orMore caseB ∷ case-none ∷ case-empty ∷ case-both ∷ []
 
 -- ---- a text that says a case
 

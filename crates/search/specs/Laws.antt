@@ -3,5 +3,6 @@ pub mod WalkAnswers
 pub mod Accepted
 pub mod Inputs
 pub mod Theorems
+pub mod Left
 pub mod SearchLaws
 pub mod Corollary

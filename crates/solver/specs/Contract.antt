@@ -1,6 +1,6 @@
 -- What the solver promises: its answer and every lent slice as it returns, by the definitions of reader, search,
 -- writer and checker, and the claim's sentences about that. Assumes nothing.
-use mathlib.Core.List.{List}
+use mathlib.Core.List.{List, []}
 use mathlib.Core.Logic.{_↔_}
 use mathlib.Core.Option.{Option, some, none}
 use mathlib.Core.Path.{_≡_}
@@ -12,7 +12,7 @@ use Rattle.formula.specs.Limits.{maxSlots, capacity}
 use Rattle.formula.specs.Problem.{Unsatisfiable}
 use Rattle.formula.specs.Reply.{Reply, refused, satisfiable, unsatisfiable, unknown, written, accepted, pointIn}
 use Rattle.checker.specs.Checker.{checkReply}
-use Rattle.claims.specs.Claim.{Sheet, formulaIn, slicesIn, problemIn, Meets, AtLeast}
+use Rattle.claims.specs.Claim.{Sheet, formulaIn, slicesIn, problemIn, Meets, AtLeast, SmallestIn, InSlots, OnSheet}
 use Rattle.solver.specs.Solver.{sheetReply, sheetSlices, certificateReply, certificateOutput}
 use Rattle.solver.specs.declared.Settled.{Settled}
 use Rattle.solver.specs.declared.Solution.{Solution}
@@ -68,6 +68,12 @@ pub record Promises (s : Sheet) (slots : SlotSlices) (t : SolverReply) (out₀ o
   pub enough-room : (b filled : ℕ) → 2 ^ problemIn s .variables ≤ maxSlots
       → 2 ^ problemIn s .variables ≤ length (slots .points) → 2 ^ problemIn s .variables ≤ length (slots .falsified)
       → 2 ^ problemIn s .variables ≤ length (slots .depths) → t .reply ≡ unknown b filled → ⊥
+  -- Q03.2: "Among the nearest choices in the slots the one smallest as a number is now handed back."
+  pub smallest-in-slots : (x d filled : ℕ) → t .reply ≡ satisfiable x d filled
+      → InSlots s slots filled x × SmallestIn (InSlots s slots filled) (problemIn s) d x
+  -- Q03.6: "Without exchanges a choice handed back is the smallest of all nearest choices on the whole sheet."
+  pub smallest : (x d filled : ℕ) → t .reply ≡ satisfiable x d filled → problemIn s .permutations ≡ []
+      → SmallestIn OnSheet (problemIn s) d x
 
 -- G.a: what the solver promises for a sheet: its answer and every lent slice as it returns, by the definitions, and the
 -- claim's sentences

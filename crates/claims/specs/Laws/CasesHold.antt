@@ -4,7 +4,7 @@ use mathlib.Core.Bool.{true, _&&_}
 use mathlib.Core.List.{List, [], _∷_, List·Memᴰ·head, List·Memᴰ·tail, List·Memᴰ·not-nil}
 use mathlib.Core.Path.{_≡_, refl, sym, ap, _∙_, subst}
 use Prim.Native.Nat.{ℕ, zero, suc, _^_, _≤_, _<_, zero-le, suc-le-suc}
-use native.Mathlib.Nat.{le-trans, not-suc-le-zero}
+use native.Mathlib.Nat.{le-trans, le-of-eq, not-suc-le-zero}
 use lib.Dec.{leb, ltb, lit≤}
 use lib.ListN.{length}
 use borrow.Author.Tests.{leb-true, ltb-true, lt-ltb}
@@ -13,7 +13,8 @@ use Rattle.math.specs.Laws.ListLaws.{and-split, and-join}
 use Rattle.math.specs.Laws.SetLaws.{members-none}
 use Rattle.math.specs.Lists.{_∈_, over}
 use Rattle.points.specs.Laws.PointLaws.{no-names, both-ways}
-use Rattle.points.specs.Points.{Satisfies, Numbered, FirstFalsified, emptyClause, variables, listed}
+use Rattle.points.specs.Points.{Satisfies, SatisfiesAll, Numbered, FirstFalsified, emptyClause, variables, listed}
+use Rattle.points.specs.Points.{Smallest, NoneSatisfies}
 use Rattle.point_slices.specs.Slices.{ClauseSlices, wholeClauses, wholeSlots}
 use Rattle.point_theory.specs.Laws.Distance.{distance-self}
 use Rattle.formula.specs.Laws.RefusalLaws.{fits-complete}
@@ -24,8 +25,10 @@ use Rattle.formula.specs.Problem.{problemOf}
 use Rattle.formula.specs.Refusals.{Fits, fits, formulaFault, permutationFault, symmetryFault}
 use Rattle.formula.specs.Reply.{Reply, refused, satisfiable, unknown, accepted, no-fault, first}
 use Rattle.search_theory.specs.Filled.{filledWith}
+use Rattle.search_theory.specs.Laws.LevelLaws.{tested-first}
 use Rattle.search_theory.specs.Laws.WalkLaws.{walks-walked}
-use Rattle.search_theory.specs.Walk.{Slot, slot, start, Fills, no-more, complete, Walks, met, goes-on, none-left, walked}
+use Rattle.search_theory.specs.Walk.{Slot, slot, start, Fills, no-more, complete, tested, Walks, met, goes-on}
+use Rattle.search_theory.specs.Walk.{none-left, walked}
 use Rattle.search.specs.Laws.Accepted.{more-answers}
 use Rattle.search.specs.Search.{slotFault, searchFault}
 use Rattle.search.specs.Search.{searchReply, searchSlots}
@@ -35,7 +38,7 @@ use Rattle.checker.specs.Checker.{checkReply}
 use Rattle.dimacs_format.specs.Laws.Example.{satisfiable-text}
 use Rattle.dimacs_format.specs.Reader.{readReply, readFormula, readClauses}
 use Rattle.claims.specs.Cases.{Case, sizesOf, certificateIn, Given, Holds, withSlots, AllHold, bare, anySheet}
-use Rattle.claims.specs.Cases.{clausesA, caseA, caseA-swap, caseA-3, caseB, caseB-3, case-none, case-empty}
+use Rattle.claims.specs.Cases.{clausesA, caseA, caseA-swap, caseA-3, caseB, case-none, case-empty}
 use Rattle.claims.specs.Cases.{case-both, cases, Yields}
 
 hold-A-swap : Holds caseA-swap
@@ -53,10 +56,6 @@ hold-A-3 = record { answered = refl; filled = tt; certified = tt }
 hold-B : Holds caseB
 unfolding searchReply bit flip
 hold-B = record { answered = refl; filled = tt; certified = tt }
-
-hold-B-3 : Holds caseB-3
-unfolding searchReply bit flip
-hold-B-3 = record { answered = refl; filled = tt; certified = tt }
 
 -- ---- the cases for every n, wish and number of slots
 
@@ -113,6 +112,25 @@ one-fits n s some few low =
     below x (List·Memᴰ·head e) = subst (λ (y : ℕ). y < 2 ^ n) (sym e) low
     below x (List·Memᴰ·tail m) = absurd (List·Memᴰ·not-nil m)
 
+-- at first the wish is tested alone
+tested-wish : (target y : ℕ) → y ∈ tested [] (slot target 0 0) [] → y ≡ target
+unfolding tested
+tested-wish target y (List·Memᴰ·head e) = e
+tested-wish target y (List·Memᴰ·tail m) = absurd (List·Memᴰ·not-nil m)
+
+wish-met : (cs : List Numbered) (target : ℕ) → SatisfiesAll cs target
+    → Smallest cs (tested [] (slot target 0 0) []) target
+wish-met cs target meets =
+    record {
+      among = tested-first [] [] (slot target 0 0);
+      satisfying = meets;
+      least = λ y m sat. le-of-eq (sym (tested-wish target y m));
+    }
+
+wish-unmet : (cs : List Numbered) (target : ℕ) → (SatisfiesAll cs target → ⊥)
+    → NoneSatisfies cs (tested [] (slot target 0 0) [])
+wish-unmet cs target fails y m sat = fails (subst (SatisfiesAll cs) (tested-wish target y m) sat)
+
 -- "C = 0": the wish meets all rules, and differs from itself in no name
 hold-none : (n target lent : ℕ) → anySheet n target lent ≡ true → Holds (case-none .case n target lent)
 unfolding problemOf
@@ -128,7 +146,7 @@ hold-none n target lent h =
             negative-length = refl;
             positive-below = λ x m. absurd (List·Memᴰ·not-nil m);
             negative-below = λ x m. absurd (List·Memᴰ·not-nil m);
-          }) (s .target-below) (s .some-slot) (met (λ c m. absurd (List·Memᴰ·not-nil m)))
+          }) (s .target-below) (s .some-slot) (met (wish-met [] target (λ c m. absurd (List·Memᴰ·not-nil m))))
           ∙ ap (λ (d : ℕ). satisfiable target d 1) (distance-self n target);
       filled = tt;
       certified = tt;
@@ -152,12 +170,13 @@ hold-empty n target lent h =
       falsified = no-names target;
       earlier = λ c m. absurd (List·Memᴰ·not-nil m);
     } in
+    let unmet = wish-unmet (rule ∷ []) target (λ sat. no-names target (sat rule (List·Memᴰ·head refl))) in
     let flips : Fills [] lent (slot target 1 0 ∷ []) target 0 (variables n emptyClause) [] (complete []) =
     subst (λ vs. Fills [] lent (slot target 1 0 ∷ []) target 0 vs [] (complete [])) (sym (no-variables n)) no-more in
     record {
       answered = bare-answers n 1 target lent (wholeClauses (0 ∷ []) (0 ∷ []))
           (one-fits n 0 (s .some-variable) (s .few-variables) (le-trans (suc-le-suc zero-le) (s .target-below)))
-          (s .target-below) (s .some-slot) (goes-on first flips none-left);
+          (s .target-below) (s .some-slot) (goes-on unmet first flips none-left);
       filled = tt;
       certified = tt;
     }
@@ -169,7 +188,8 @@ hold-both n target lent h =
     let t = and-split (ltb target 2) (leb 1 lent) h in
     record {
       answered = bare-answers 1 1 target lent (wholeClauses (1 ∷ []) (1 ∷ []))
-          (one-fits 1 1 (lit≤ tt) (lit≤ tt) (lit≤ tt)) (ltb-true target 2 (t .0)) (leb-true 1 lent (t .1)) (met meets)
+          (one-fits 1 1 (lit≤ tt) (lit≤ tt) (lit≤ tt)) (ltb-true target 2 (t .0)) (leb-true 1 lent (t .1))
+          (met (wish-met (record { number = 1; clause = record { positive = 1; negative = 1 } } ∷ []) target meets))
           ∙ ap (λ (d : ℕ). satisfiable target d 1) (distance-self 1 target);
       filled = tt;
       certified = tt;
@@ -205,7 +225,7 @@ cases-hold =
     let a = more-holds caseA unsatisfiable-not-refused unsatisfiable-not-unknown hold-A in
     let swap = more-holds caseA-swap unsatisfiable-not-refused unsatisfiable-not-unknown hold-A-swap in
     let b = more-holds caseB satisfiable-not-refused satisfiable-not-unknown hold-B in
-    (a, (swap, (only hold-A-3, (b, (only hold-B-3, (hold-none, (hold-empty, (hold-both, tt))))))))
+    (a, (swap, (only hold-A-3, (b, (hold-none, (hold-empty, (hold-both, tt)))))))
   where
     only : {c : Case} → Holds c → (n target lent : ℕ) → true ≡ true → Holds c
     only h n target lent e = h

@@ -25,15 +25,16 @@ use Rattle.formula.specs.Laws.RefusalLaws.{formula-passes, permutation-passes, 
 use Rattle.formula.specs.Refusals.{clausesFault, formulaFault, permutationFault, symmetryFault, roomFault}
 use Rattle.formula.specs.Reply.{Reply, refused, unsatisfiable, written, accepted, no-fault, fault, first, faultAt}
 use Rattle.formula.specs.Reply.{unless, unlessKept, Fault}
-use Rattle.formula.specs.Laws.ReplyLaws.{first-skips, first-stops, test-passed, passes-below, not-refused}
+use Rattle.formula.specs.Laws.ReplyLaws.{first-skips, first-stops, test-passed, passes-below}
 use Rattle.formula.specs.Laws.ReplyLaws.{unsatisfiable-not-refused}
-use Rattle.search.specs.Laws.Accepted.{rows, answered}
+use Rattle.search.specs.Laws.Accepted.{rows, no-faults, answered}
+use Rattle.search.specs.Laws.Left.{search-left}
 use Rattle.search_theory.specs.Laws.Promised.{ClosedSlots}
 use Rattle.search.specs.Laws.WalkAnswers.{WalkAnswers}
 use Rattle.search.specs.Search.{searchFault, searchReply, searchSlots, searchSlices}
 use Rattle.search.specs.Laws.Theorems.{search-closed, slots-filled}
 use Rattle.search_theory.specs.Filled.{filledWith}
-use Rattle.search_theory.specs.Walk.{Slot, slot, walked}
+use Rattle.search_theory.specs.Walk.{Slot, slot}
 use Rattle.certificate.specs.Certificate.{filePoints, fileNumbers}
 use Rattle.certificate.specs.Laws.RowLaws.{points-pass, point-passes-take, clause-of, numbered-own, number-passes}
 use Rattle.certificate.specs.Laws.RowLaws.{OwnNumbers}
@@ -73,9 +74,7 @@ module _ (f : Formula) (clauses : ClauseSlices) (slots : SlotSlices) where
     answer = answered f clauses lent (unsatisfiable filled) reply unsatisfiable-not-refused
 
     passed : searchFault f clauses lent ≡ no-fault
-    unfolding searchReply
-    passed = not-refused (searchFault f clauses lent) (walked pb lent .reply) (unsatisfiable filled) reply
-        unsatisfiable-not-refused
+    passed = no-faults f clauses lent (unsatisfiable filled) reply unsatisfiable-not-refused
 
     closed : ClosedSlots pb l
     closed = search-closed f clauses lent filled reply .0
@@ -92,8 +91,7 @@ module _ (f : Formula) (clauses : ClauseSlices) (slots : SlotSlices) where
     slots′ = filledWith l slots
 
     after-is : searchSlices f clauses slots ≡ slots′
-    unfolding searchSlices
-    after-is = ap (λ t. unlessKept t slots′ slots) passed
+    after-is = search-left f clauses slots (unsatisfiable filled) reply unsatisfiable-not-refused
 
     abbrev after : (Slot → ℕ) → List ℕ → List ℕ
     after part old = over (map part l) old

@@ -10,14 +10,15 @@ use Rattle.solver.specs.Solver.{blank}
 use Rattle.program_text.specs.Report.{reportOf}
 use Rattle.program.specs.Program.{printed}
 
--- `s SATISFIABLE`, `v -1 2 -3 0` and `c changes 1 slots 4` on three lines
+-- `s SATISFIABLE`, `v -1 2 -3 0` and `c changes 1 slots 3` on three lines
 abbrev pub satisfiable-printed : List ℕ
 satisfiable-printed =
     115 ∷ 32 ∷ 83 ∷ 65 ∷ 84 ∷ 73 ∷ 83 ∷ 70 ∷ 73 ∷ 65 ∷ 66 ∷ 76 ∷ 69 ∷ 10
     ∷ 118 ∷ 32 ∷ 45 ∷ 49 ∷ 32 ∷ 50 ∷ 32 ∷ 45 ∷ 51 ∷ 32 ∷ 48 ∷ 10
-    ∷ 99 ∷ 32 ∷ 99 ∷ 104 ∷ 97 ∷ 110 ∷ 103 ∷ 101 ∷ 115 ∷ 32 ∷ 49 ∷ 32 ∷ 115 ∷ 108 ∷ 111 ∷ 116 ∷ 115 ∷ 32 ∷ 52 ∷ 10 ∷ []
+    ∷ 99 ∷ 32 ∷ 99 ∷ 104 ∷ 97 ∷ 110 ∷ 103 ∷ 101 ∷ 115 ∷ 32 ∷ 49 ∷ 32 ∷ 115 ∷ 108 ∷ 111 ∷ 116 ∷ 115 ∷ 32 ∷ 51 ∷ 10 ∷ []
 
--- P2: "For `p cnf 3 2`, `c wish 000`, `1 2 0`, `-1 3 0` on four lines it prints just"
+-- P2: "For `p cnf 3 2`, `c wish 000`, `1 2 0`, `-1 3 0` on four lines it prints just"; Q03.5: "Case B, the program's
+-- example too, now fills 3 slots"
 pub prints-example : printed satisfiable-text ≡ satisfiable-printed
 unfolding printed blank readReply readFormula readClauses searchReply
 prints-example = refl

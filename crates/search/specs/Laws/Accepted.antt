@@ -97,13 +97,19 @@ module _ (f : Formula) (clauses : ClauseSlices) (lent : ℕ) where
       (first-join row12 (slotFault other ∷ []) (r .2)
       (first-join (slotFault other) [] (slot-complete other (λ z. omega arith)) first-none)))
 
+  -- where the reply is no refusal, no row refuses
+  pub no-faults : (r : Reply) → searchReply f clauses lent ≡ r → ((code place : ℕ) → r ≡ refused code place → ⊥)
+      → searchFault f clauses lent ≡ no-fault
+  unfolding searchReply
+  no-faults r e ok = not-refused (searchFault f clauses lent) (walked (problemOf f clauses) lent .reply) r e ok
+
   -- a reply that is no refusal is the search's
   pub answered : (r : Reply) → searchReply f clauses lent ≡ r
       → ((code place : ℕ) → r ≡ refused code place → ⊥) → WalkAnswers f clauses lent r
   unfolding searchReply searchSlots
   answered r e ok =
       let pb = problemOf f clauses in
-      let s = not-refused (searchFault f clauses lent) (walked pb lent .reply) r e ok in
+      let s = no-faults r e ok in
       let room = lent-of-faults s in
       record {
         ready = ready-of-faults s;
@@ -120,7 +126,7 @@ module _ (f : Formula) (clauses : ClauseSlices) (lent : ℕ) where
   unfolding searchReply searchSlots
   more-answers more le r e ok known =
       let pb = problemOf f clauses in
-      let passed = not-refused (searchFault f clauses lent) (walked pb lent .reply) r e ok in
+      let passed = no-faults r e ok in
       let some = le-trans (lent-of-faults passed) le in
       let w = walks-walked pb more some (walks-more le known (answered r e ok .walks)) in (
         unless-none (searchFault f clauses more) (some-passes more some passed) (walked pb more .reply) ∙ w .0,

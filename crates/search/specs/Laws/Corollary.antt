@@ -1,29 +1,25 @@
 -- The sentences of demand 3 about the builder's result, in terms of what a call of `search` returns and leaves in the
 -- lent slices: each follows from the call's contract, the record `Searched`. Assumes nothing.
-use mathlib.Core.List.{List, [], map}
-use mathlib.Core.Path.{_≡_, refl, sym, ap, _∙_}
+use mathlib.Core.List.{List, []}
+use mathlib.Core.Path.{_≡_, refl, sym, ap, _∙_, subst}
 use Prim.Native.Nat.{ℕ, _≤_, _^_}
-use lib.ListN.{length, take, drop, length-map}
-use Rattle.math.specs.Lists.{over}
-use Rattle.math.specs.Laws.PartLaws.{over-front, over-rest}
+use lib.ListN.{length}
 use Rattle.point_slices.specs.Slices.{ClauseSlices, SlotSlices}
 use Rattle.formula.specs.declared.Formula.{Formula}
 use Rattle.formula.specs.Limits.{maxSlots, capacity}
 use Rattle.formula.specs.Problem.{problemOf, Unsatisfiable as NoneSatisfies}
 use Rattle.formula.specs.Reply.{Reply, refused, satisfiable, unsatisfiable, unknown, parsed, written, opened, accepted}
-use Rattle.formula.specs.Reply.{no-fault}
-use Rattle.formula.specs.Laws.ReplyLaws.{not-refused}
 use Rattle.search_theory.specs.Laws.Promised.{LowerBound, Nearest, HandedBack, SmallestFilled, SmallestNearest}
 use Rattle.search_theory.specs.Laws.Promised.{ClosedSlots, reported}
-use Rattle.search_theory.specs.Filled.{filledWith}
-use Rattle.search_theory.specs.Walk.{Slot, walked}
-use Rattle.search.specs.Laws.Accepted.{answered}
-use Rattle.search.specs.Search.{searchFault, searchReply, searchSlots, searchSlices}
+use Rattle.search_theory.specs.Walk.{Slot}
+use Rattle.search.specs.Laws.Left.{Left, search-reported, search-points-left, search-falsified-left}
+use Rattle.search.specs.Laws.Left.{search-depths-left}
+use Rattle.search.specs.Search.{searchReply, searchSlots}
 use Rattle.search.specs.Contract.{replyOfOutcome, replyOfFound, Searched}
 use Rattle.search.specs.declared.Found.{Found}
 use Rattle.search.specs.declared.Outcome.{Outcome}
 use Rattle.search.specs.declared.Outcome.the-variants.{Satisfiable, Unsatisfiable, Unknown, Refused}
-use Rattle.search.specs.Laws.Theorems.{slots-reported, search-nearest, search-slot, search-exactly, search-closed}
+use Rattle.search.specs.Laws.Theorems.{search-nearest, search-slot, search-exactly, search-closed}
 use Rattle.search.specs.Laws.Theorems.{search-smallest-filled, search-smallest, search-bound, search-room-lent}
 
 -- ---- an outcome is known by its reply
@@ -48,29 +44,7 @@ outcome-back x (Refused code place) = refl
 same-outcome : (x : ℕ) (r q : Outcome) → replyOfOutcome x r ≡ replyOfOutcome x q → r ≡ q
 same-outcome x r q e = sym (outcome-back x r) ∙ ap outcomeOf e ∙ outcome-back x q
 
--- ---- the slices as the search leaves them
-
--- the slots l stand in front, k of them, one of their parts in each slice; "Slots beyond those filled are unchanged."
-pub record Left (part : Slot → ℕ) (l : List Slot) (filled : ℕ) (old new : List ℕ) : Type 0 where
-  pub front : take filled new ≡ map part l
-  pub behind : drop filled new ≡ drop filled old
-
-left-of : (part : Slot → ℕ) (l : List Slot) (filled : ℕ) (old new : List ℕ) → filled ≡ length l
-    → new ≡ over (map part l) old
-    → Left part l filled old new
-left-of part l filled old new e h =
-    let n : length (map part l) ≡ filled = length-map l part ∙ sym e in
-    record {
-      front = ap (take filled) h ∙ over-front filled (map part l) old n;
-      behind = ap (drop filled) h
-          ∙ over-rest filled (map part l) old n;
-    }
-
-kept-slices : (f : Formula) (clauses : ClauseSlices) (slots : SlotSlices)
-    → searchFault f clauses (capacity slots) ≡ no-fault
-    → searchSlices f clauses slots ≡ filledWith (searchSlots f clauses (capacity slots)) slots
-unfolding searchSlices
-kept-slices f clauses slots h = rw h
+-- ---- the call
 
 module _ (f : Formula) (clauses : ClauseSlices) (slots₀ : SlotSlices) (r : Found) (slots₁ : SlotSlices)
     (call : Searched f clauses slots₀ r slots₁) where
@@ -93,36 +67,31 @@ module _ (f : Formula) (clauses : ClauseSlices) (slots₀ : SlotSlices) (r : Fou
     not-refusal : (code place : ℕ) → replyOfFound r ≡ refused code place → ⊥
     not-refusal code place e = ok code place (same-outcome (r .point) (r .answer) (Refused code place) e)
 
-    clean : searchFault f clauses lent ≡ no-fault
-    unfolding searchReply
-    clean =
-        not-refused (searchFault f clauses lent) (walked (problemOf f clauses) lent .reply) (replyOfFound r)
-        (sym (call .reply)) not-refusal
-
     -- the number reported is that of the slots filled
     pub outcome-reported : reported (replyOfFound r) ≡ length slotsOf
-    outcome-reported =
-        let a = answered f clauses lent (replyOfFound r) (sym (call .reply)) not-refusal in
-        slots-reported (problemOf f clauses) lent (a .ready) (a .room) (a .walks)
-
-    held : slots₁ ≡ filledWith slotsOf slots₀
-    held = call .slots ∙ kept-slices f clauses slots₀ clean
+    outcome-reported = search-reported f clauses slots₀ (replyOfFound r) (sym (call .reply)) not-refusal
 
     -- and each slice holds its part of them
     pub points-left : Left (λ (s : Slot). s .point) slotsOf (reported (replyOfFound r)) (slots₀ .points)
         (slots₁ .points)
-    points-left = left-of (λ (s : Slot). s .point) slotsOf (reported (replyOfFound r)) (slots₀ .points)
-        (slots₁ .points) outcome-reported (ap (λ (m : SlotSlices). m .points) held)
+    points-left =
+        subst (λ (m : SlotSlices). Left (λ (s : Slot). s .point) slotsOf (reported (replyOfFound r)) (slots₀ .points)
+        (m .points)) (sym (call .slots))
+        (search-points-left f clauses slots₀ (replyOfFound r) (sym (call .reply)) not-refusal)
 
     pub falsified-left : Left (λ (s : Slot). s .falsified) slotsOf (reported (replyOfFound r)) (slots₀ .falsified)
         (slots₁ .falsified)
-    falsified-left = left-of (λ (s : Slot). s .falsified) slotsOf (reported (replyOfFound r)) (slots₀ .falsified)
-        (slots₁ .falsified) outcome-reported (ap (λ (m : SlotSlices). m .falsified) held)
+    falsified-left =
+        subst (λ (m : SlotSlices). Left (λ (s : Slot). s .falsified) slotsOf (reported (replyOfFound r))
+        (slots₀ .falsified) (m .falsified)) (sym (call .slots))
+        (search-falsified-left f clauses slots₀ (replyOfFound r) (sym (call .reply)) not-refusal)
 
     pub depths-left : Left (λ (s : Slot). s .depth) slotsOf (reported (replyOfFound r)) (slots₀ .depths)
         (slots₁ .depths)
-    depths-left = left-of (λ (s : Slot). s .depth) slotsOf (reported (replyOfFound r)) (slots₀ .depths)
-        (slots₁ .depths) outcome-reported (ap (λ (m : SlotSlices). m .depths) held)
+    depths-left =
+        subst (λ (m : SlotSlices). Left (λ (s : Slot). s .depth) slotsOf (reported (replyOfFound r)) (slots₀ .depths)
+        (m .depths)) (sym (call .slots))
+        (search-depths-left f clauses slots₀ (replyOfFound r) (sym (call .reply)) not-refusal)
 
     -- D3.3: "Unless 'no room' is said, 'cannot be met' is said exactly when none of the 2^n choices meets the rules."
     pub outcome-exactly : ((b filled : ℕ) → r .answer ≡ Unknown b filled → ⊥)

@@ -70,7 +70,7 @@ unfolding replyTo afterReading
 read-then (goes d) new a e ok = (refl, e)
 read-then (refuses code place) new a e ok = absurd (ok code place (sym e))
 
-answered : (s : Sheet) (slots : SlotSlices) (a : Reply) → sheetReply s (capacity slots) ≡ a → NoRefusal a
+pub answered : (s : Sheet) (slots : SlotSlices) (a : Reply) → sheetReply s (capacity slots) ≡ a → NoRefusal a
     → SearchAnswers s slots a
 unfolding sheetReply readReply
 answered (from-text text clauses) slots a e ok =
@@ -185,6 +185,10 @@ module _ (s : Sheet) (slots : SlotSlices) (t : SolverReply) (out₀ out₁ : Lis
         bound = λ b filled e. claim .bound s slots b filled (answers (unknown b filled) e unknown-not-refused);
         enough-room = λ b filled few p q r e. claim .enough-room s slots b filled few p q r
             (answers (unknown b filled) e unknown-not-refused);
+        smallest-in-slots = λ x d filled e. claim .smallest-in-slots s slots x d filled
+            (answers (satisfiable x d filled) e satisfiable-not-refused);
+        smallest = λ x d filled e. claim .smallest s slots x d filled
+            (answers (satisfiable x d filled) e satisfiable-not-refused);
       }
 
 -- ---- the certificate of the slots that a search left
