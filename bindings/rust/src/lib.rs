@@ -8,7 +8,7 @@
 //!
 //! let sheet = b"p cnf 3 2\nc wish 000\n1 2 0\n-1 3 0\n";
 //! let answer = solve(sheet, &mut Slots::new(4096)).unwrap();
-//! assert_eq!(answer, Solution::Satisfiable { point: 0b010, distance: 1, filled: 4 });
+//! assert_eq!(answer, Solution::Satisfiable { point: 0b010, distance: 1, filled: 3 });
 //! ```
 mod sys;
 
@@ -228,7 +228,7 @@ pub fn write_sheet_to(f: &Formula, out: &mut [u8]) -> Result<usize, Refusal> {
 /// use jugbowo::{read, search, Outcome, Slots};
 /// let f = read(b"p cnf 1 2\n1 0\n-1 0\n").unwrap();
 /// assert_eq!(search(&f, &mut Slots::new(2)), Ok(Outcome::Unsatisfiable { filled: 2 }));
-/// assert_eq!(search(&f, &mut Slots::new(1)), Ok(Outcome::Unknown { bound: 0, filled: 1 }));
+/// assert_eq!(search(&f, &mut Slots::new(1)), Ok(Outcome::Unknown { bound: 1, filled: 1 }));
 /// ```
 pub fn search(f: &Formula, slots: &mut Slots) -> Result<Outcome, Refusal> {
     let mut reply = [0; WORDS];
