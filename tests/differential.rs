@@ -518,8 +518,9 @@ impl Case {
         }
     }
 
-    // 2026-03, by trying every choice: "Among the nearest choices in the slots the one smallest as a number is now handed
-    // back" and "Without exchanges a choice handed back is the smallest of all nearest choices on the whole sheet".
+    // 2026-03, by trying every choice: "Among the nearest choices in the slots the one smallest as a number is now
+    // handed back" and "Without exchanges a choice handed back is the smallest of all nearest choices on the whole
+    // sheet".
     fn smallest(&mut self, s: &reference::Sheet, choice: u64, slots: &[Slot]) {
         let nearest = reference::nearest_choices(s);
         let filled: Vec<u64> = slots.iter().map(|t| t.point).filter(|x| nearest.contains(x)).collect();
@@ -533,8 +534,8 @@ impl Case {
         }
     }
 
-    // 2026-03: "the same house choice each time, however the client ordered the rules": without exchanges, and where the
-    // sheet is met again. The slots filled may be others, and with them whether there is room.
+    // 2026-03: "the same house choice each time, however the client ordered the rules": without exchanges, and where
+    // the sheet is met again. The slots filled may be others, and with them whether there is room.
     fn reordered(&mut self, s: &reference::Sheet, slots: usize, (choice, changes): (u64, u32)) {
         let other = lent(&shuffled(&mut self.random, s));
         let (mut points, mut numbers, mut depths) = (vec![5; slots], vec![5; slots], vec![5; slots]);

@@ -1,8 +1,8 @@
 // The search at the sizes where it goes from one index to a larger one, beside the implementation of reference.rs:
 // numbers of slots around 128, 512 and 8,192, less the variables that one step may flip, and the most. A search pauses
 // there, and what was found where a level was opened has to be known behind the pause: so there are sheets whose levels
-// end at such a number, and before and behind it. Replies, slots and what lies behind them are compared. Prints how many
-// searches were compared; exit status 1 if one differs.
+// end at such a number, and before and behind it. Replies, slots and what lies behind them are compared. Prints how
+// many searches were compared; exit status 1 if one differs.
 mod lending;
 mod library;
 mod reference;
