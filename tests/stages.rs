@@ -166,6 +166,20 @@ fn random(compared: &mut Compared) {
     }
 }
 
+// Levels of two points each, 65 deep: document 002's example made longer, and without its last clause, so that it is
+// met at its end.
+fn chains(compared: &mut Compared) {
+    let (n, k) = (64, 33);
+    let steps = |from: i32, to: i32| (from..to).map(|i| sheets::clause(&[-i, i + 1])).collect::<Vec<_>>();
+    let two = |a: i32, b: i32| vec![sheets::clause(&[a, b])];
+    let open = [two(1, 2), steps(2, k), two(-k, 1), two(-1, k + 1), steps(k + 1, n)].concat();
+    let closed = [&open[..], &two(-n, -1)].concat();
+    for (name, rules) in [("a chain that is met", open), ("a chain that is closed", closed)] {
+        let s = wishing(n as u32, 0, &rules, &[]);
+        around(128, n as usize).into_iter().chain([MOST]).for_each(|room| compared.search(name, &s, room));
+    }
+}
+
 // PH(7, 6), with its swaps and without.
 fn pigeon_holes(compared: &mut Compared) {
     let variables = HOLES * (HOLES + 1);
@@ -185,6 +199,7 @@ fn main() {
     borders(&mut compared);
     most(&mut compared);
     random(&mut compared);
+    chains(&mut compared);
     let answers: Vec<String> = compared.answers.iter().map(|(answer, count)| format!("{answer} {count}")).collect();
     println!("stages: searches compared: {}; {} differ", answers.join(", "), compared.differing);
     std::process::exit((compared.differing > 0) as i32);
