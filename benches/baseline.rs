@@ -38,7 +38,7 @@ pub struct Clauses<'a> {
 pub enum Answer {
     Satisfiable { point: u64, changes: u32, filled: usize },
     Unsatisfiable { filled: usize },
-    Unknown { depth: u32, filled: usize },
+    Unknown { bound: u32, filled: usize },
 }
 
 // ---- the reader
@@ -206,7 +206,7 @@ pub fn read(text: &[u8], positive: &mut [u64], negative: &mut [u64]) -> Result<F
 
 // A permutation as masks to rotate: variables that move equally far move together. `sends` has the digit to which
 // each variable goes.
-struct Permutation {
+pub struct Permutation {
     turns: Vec<(u64, u32)>,
     sends: [u64; 64],
 }
@@ -263,7 +263,7 @@ impl Clauses<'_> {
         self.positive.iter().copied().zip(self.negative.iter().copied())
     }
 
-    fn variables(&self, clause: usize) -> u64 {
+    pub fn variables(&self, clause: usize) -> u64 {
         self.positive[clause] | self.negative[clause]
     }
 
@@ -281,7 +281,7 @@ impl Clauses<'_> {
     }
 
     // Refusals 11 and 12 for permutations of n variables.
-    fn kept_by(&self, count: u32, n: u32, images: &[u8]) -> Result<Vec<Permutation>, Refusal> {
+    pub fn kept_by(&self, count: u32, n: u32, images: &[u8]) -> Result<Vec<Permutation>, Refusal> {
         if count as usize > PERMUTATIONS {
             return Err((11, 17));
         }
@@ -301,7 +301,7 @@ impl Clauses<'_> {
 
     // The lowest clause that a point falsifies, from 0. Most points falsify one of the first, so these are tried one by
     // one; the others eight at a time, which compilers turn into vectors.
-    fn lowest(&self, point: u64) -> Option<usize> {
+    pub fn lowest(&self, point: u64) -> Option<usize> {
         let one = |i: &usize| falsifies(point, self.positive[*i], self.negative[*i]);
         let count = self.positive.len();
         let mut at = count.min(16);
@@ -315,6 +315,20 @@ impl Clauses<'_> {
             at += 8;
         }
         (at..count).find(one)
+    }
+
+    // 2026-03: the points of a level, tested before one of them is processed: the smallest that satisfies all clauses,
+    // if one does. `lowest` takes the lowest clause that each falsifies, so that none is scanned again.
+    fn test(&self, level: &[u64], lowest: &mut Vec<u32>) -> Option<u64> {
+        let mut smallest = None;
+        lowest.clear();
+        for &point in level {
+            match self.lowest(point) {
+                Some(clause) => lowest.push(clause as u32),
+                None => smallest = Some(smallest.map_or(point, |other| point.min(other))),
+            }
+        }
+        smallest
     }
 }
 
@@ -445,16 +459,20 @@ pub fn write_sheet(formula: &Formula, clauses: Clauses, out: &mut [u8]) -> Resul
 // ---- the search
 
 // The points that are known, and the images of one point at hand once they are asked for.
-struct Known {
-    points: HashSet<u64>,
+pub struct Known {
+    pub points: HashSet<u64>,
     permutations: Vec<Permutation>,
     images: [u64; PERMUTATIONS],
-    made: bool,
+    pub made: bool,
 }
 
 impl Known {
+    pub fn new(points: HashSet<u64>, permutations: Vec<Permutation>) -> Known {
+        Known { points, permutations, images: [0; PERMUTATIONS], made: false }
+    }
+
     // Whether a point with one variable flipped is covered: the image of a flip is the image with another flip.
-    fn covers(&mut self, point: u64, variable: usize) -> bool {
+    pub fn covers(&mut self, point: u64, variable: usize) -> bool {
         if self.points.contains(&(point ^ 1 << variable)) {
             return true;
         }
@@ -467,7 +485,7 @@ impl Known {
 }
 
 // The variables of a set, ascending, from 0.
-fn each(mut set: u64) -> impl Iterator<Item = usize> {
+pub fn each(mut set: u64) -> impl Iterator<Item = usize> {
     std::iter::from_fn(move || {
         let lowest = (set != 0).then(|| set.trailing_zeros() as usize);
         set &= set.wrapping_sub(1);
@@ -488,34 +506,47 @@ pub fn search(
     if room == 0 {
         return Err((13, 0));
     }
+    let known = Known::new(HashSet::with_capacity(room.min(256)), permutations);
     let (points, numbers, depths) = (&mut points[..room], &mut numbers[..room], &mut depths[..room]);
-    let mut known =
-        Known { points: HashSet::with_capacity(room.min(256)), permutations, images: [0; PERMUTATIONS], made: false };
-    known.points.insert(formula.target);
-    (points[0], numbers[0], depths[0]) = (formula.target, 0, 0);
-    let (mut filled, mut next) = (1, 0);
-    while next < filled {
-        let (point, depth) = (points[next], depths[next]);
-        let Some(clause) = clauses.lowest(point) else {
-            return Ok(Answer::Satisfiable { point, changes: (point ^ formula.target).count_ones(), filled });
-        };
-        numbers[next] = clause as u32 + 1;
-        known.made = false;
-        for variable in each(clauses.variables(clause)) {
-            if known.covers(point, variable) {
-                continue;
-            }
-            if filled == room {
-                return Ok(Answer::Unknown { depth, filled });
-            }
-            let flipped = point ^ 1 << variable;
-            (points[filled], numbers[filled], depths[filled]) = (flipped, 0, depth + 1);
-            known.points.insert(flipped);
-            filled += 1;
+    Ok(walk(formula.target, clauses, known, points, numbers, depths))
+}
+
+// The walk over slots of three slices of one length, level by level.
+fn walk(
+    target: u64,
+    clauses: Clauses,
+    mut known: Known,
+    points: &mut [u64],
+    numbers: &mut [u32],
+    depths: &mut [u32],
+) -> Answer {
+    known.points.insert(target);
+    (points[0], numbers[0], depths[0]) = (target, 0, 0);
+    let (mut level, mut filled, mut lowest) = (0, 1, Vec::new());
+    while level < filled {
+        if let Some(point) = clauses.test(&points[level..filled], &mut lowest) {
+            return Answer::Satisfiable { point, changes: (point ^ target).count_ones(), filled };
         }
-        next += 1;
+        for (next, &clause) in (level..filled).zip(&lowest) {
+            let (point, depth) = (points[next], depths[next]);
+            numbers[next] = clause + 1;
+            known.made = false;
+            for variable in each(clauses.variables(clause as usize)) {
+                if known.covers(point, variable) {
+                    continue;
+                }
+                if filled == points.len() {
+                    return Answer::Unknown { bound: depth + 1, filled };
+                }
+                let flipped = point ^ 1 << variable;
+                (points[filled], numbers[filled], depths[filled]) = (flipped, 0, depth + 1);
+                known.points.insert(flipped);
+                filled += 1;
+            }
+        }
+        level += lowest.len();
     }
-    Ok(Answer::Unsatisfiable { filled })
+    Answer::Unsatisfiable { filled }
 }
 
 // ---- certificates
@@ -608,7 +639,7 @@ pub fn check(formula: &Formula, clauses: Clauses, file: &[u8]) -> Result<(), Ref
         return Err((16, 0));
     }
     let numbers = numbers.chunks_exact(4).map(number_of);
-    let mut known = Known { points: distinct(&points, n)?, permutations, images: [0; PERMUTATIONS], made: false };
+    let mut known = Known::new(distinct(&points, n)?, permutations);
     falsified(&points, numbers.clone(), clauses)?;
     for (k, (&point, number)) in points.iter().zip(numbers).enumerate() {
         known.made = false;

@@ -30,6 +30,6 @@ pub fn told(answer: &Answer) -> [u64; 4] {
     match *answer {
         Answer::Satisfiable { point, changes, filled } => [SATISFIABLE, point, changes.into(), filled as u64],
         Answer::Unsatisfiable { filled } => [UNSATISFIABLE, filled as u64, 0, 0],
-        Answer::Unknown { depth, filled } => [UNKNOWN, depth.into(), filled as u64, 0],
+        Answer::Unknown { bound, filled } => [UNKNOWN, bound.into(), filled as u64, 0],
     }
 }

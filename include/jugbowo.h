@@ -14,11 +14,12 @@
  *
  *   JUGBOWO_REFUSED        number, place      a numbered refusal (docs/REFUSALS.md); all lent slices but `reply` are
  *                                             as they were
- *   JUGBOWO_SATISFIABLE    point, distance, filled     the nearest satisfying point, in how many variables it differs
- *                                                      from the target
+ *   JUGBOWO_SATISFIABLE    point, distance, filled     the nearest satisfying point, of several that are as near the
+ *                                                      smallest as a number (jugbowo_search), and in how many variables
+ *                                                      it differs from the target
  *   JUGBOWO_UNSATISFIABLE  filled             no point satisfies the clauses; the filled slots are a stable set
  *   JUGBOWO_UNKNOWN        bound, filled      no room; every satisfying point differs from the target in at least
- *                                             `bound` variables
+ *                                             `bound` variables: the depth being processed plus one, at most 65,536
  *   JUGBOWO_PARSED                            the text is read
  *   JUGBOWO_WRITTEN        bytes              the certificate, or the text, takes the first so many bytes of the output
  *   JUGBOWO_OPENED                            the file's contents are in order
@@ -98,7 +99,13 @@ uint32_t jugbowo_write_sheet(uint32_t variables, uint32_t clauses, uint64_t targ
 /* Searches from the target for the nearest satisfying point. Takes a formula with exactly `clauses` places in both
  * clause slices; fills slots from the front of the three slot slices, of which the shortest counts, at most 65,536.
  * Slots beyond those filled are left alone. Answers: refusals 10 to 13, satisfiable, unsatisfiable or unknown. Stack:
- * 24 KiB, 1 MiB. */
+ * 24 KiB, 1 MiB.
+ *
+ * All unprocessed points of a depth are tested before one of them is processed. Of the nearest satisfying points in the
+ * slots the one smallest as a number is handed back; the slots filled so far stay filled, those of its depth with
+ * clause 0. Without permutations it is the smallest of all nearest satisfying points, and so the same in whichever
+ * order the clauses stand. How many slots are filled, and with that whether there is room, depends on this order, and
+ * with permutations the point does too. */
 uint32_t jugbowo_search(uint32_t variables, uint32_t clauses, uint64_t target, uint32_t permutations,
                         const uint8_t *images, size_t images_len,
                         const uint64_t *positive, size_t positive_len,

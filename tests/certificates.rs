@@ -326,10 +326,11 @@ fn other_answers(count: &mut Count) {
     let a = text(2, &formula_a(), &[]);
     let b = b"p cnf 3 2\nc wish 000\n1 2 0\n-1 3 0\n";
     let cases = [
-        ("A with 3 slots", &a[..], 3, [UNKNOWN, 1, 3, 0]),
+        ("A with 3 slots", &a[..], 3, [UNKNOWN, 2, 3, 0]),
         ("A with no slot", &a, 0, [REFUSED, 13, 0, 0]),
-        ("B", b, 8, [SATISFIABLE, 2, 1, 4]),
-        ("B with 3 slots", b, 3, [UNKNOWN, 1, 3, 0]),
+        ("B", b, 8, [SATISFIABLE, 2, 1, 3]),
+        ("B with 3 slots", b, 3, [SATISFIABLE, 2, 1, 3]),
+        ("B with 2 slots", b, 2, [UNKNOWN, 1, 2, 0]),
         ("a variable above n", b"p cnf 2 1\n-3 0\n", 8, [REFUSED, 6, 10, 0]),
         ("a permutation that does not keep the clauses", b"p cnf 2 1\nc exch 2 1\n1 0\n", 8, [REFUSED, 12, 1, 0]),
     ];

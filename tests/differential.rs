@@ -8,6 +8,7 @@ mod lending;
 mod library;
 mod reference;
 use lending::{lent, words};
+use library::{SATISFIABLE, UNKNOWN};
 use reference::{Reply, Slot};
 
 // Random numbers (xorshift), the same on every machine.
@@ -106,8 +107,32 @@ fn closed(rules: &mut Vec<(u64, u64)>, listed: &[Vec<u8>]) {
 
 fn sheet(r: &mut Random) -> reference::Sheet {
     let names = *r.pick(&[1, 2, 2, 3, 3, 4, 4, 5, 6, 7, 8, 10, 12, 20, 63, 64]);
-    let mut rules: Vec<(u64, u64)> =
-        (0..r.below(if names > 12 { 6 } else { 3 * u64::from(names) + 2 })).map(|_| rule(r, names)).collect();
+    let rules = (0..r.below(if names > 12 { 6 } else { 3 * u64::from(names) + 2 })).map(|_| rule(r, names)).collect();
+    let wish = r.next() & u64::MAX >> (64 - names);
+    with_exchanges(r, names, wish, rules)
+}
+
+// A sheet on which several choices are as near to the wish, as a rule: most of what its rules list is not what is
+// wished.
+fn near_sheet(r: &mut Random) -> reference::Sheet {
+    let names = 2 + r.below(11) as u32;
+    let wish = r.next() & u64::MAX >> (64 - names);
+    let mut listed = || {
+        let mut both = (0, 0);
+        for _ in 0..2 + r.below(4) {
+            let bit = 1u64 << r.below(u64::from(names));
+            let side = if (wish & bit == 0) != r.chance(5) { &mut both.0 } else { &mut both.1 };
+            *side |= bit;
+        }
+        both
+    };
+    let rules = (0..2 * u64::from(names)).map(|_| listed()).collect::<Vec<_>>();
+    let count = 1 + r.below(rules.len() as u64) as usize;
+    with_exchanges(r, names, wish, rules[..count].to_vec())
+}
+
+// A sheet of these rules and of exchanges, with such further rules that the exchanges keep them, as a rule.
+fn with_exchanges(r: &mut Random, names: u32, wish: u64, mut rules: Vec<(u64, u64)>) -> reference::Sheet {
     let listed: Vec<Vec<u8>> = (0..*r.pick(&[0u64, 0, 1, 1, 2, 3, 16]))
         .map(|_| if r.chance(3) { r.permutation(names) } else { exchanged(r, names) })
         .collect();
@@ -116,11 +141,10 @@ fn sheet(r: &mut Random) -> reference::Sheet {
     }
     let mut bytes = listed.concat();
     bytes.resize(1024, if r.chance(4) { 7 } else { 0 });
-    let below = if names == 64 { u64::MAX } else { (1 << names) - 1 };
     reference::Sheet {
         names,
         rules: rules.len() as u32,
-        wish: r.next() & below,
+        wish,
         exchanges: listed.len() as u32,
         bytes,
         yes: rules.iter().map(|x| x.0).collect(),
@@ -164,6 +188,16 @@ fn exchanged(r: &mut Random, n: u32) -> Vec<u8> {
     let (a, b) = (r.below(u64::from(n)) as usize, r.below(u64::from(n)) as usize);
     e.swap(a, b);
     e
+}
+
+// The same sheet with its rules in another order.
+fn shuffled(r: &mut Random, s: &reference::Sheet) -> reference::Sheet {
+    let mut rules = s.both();
+    for i in (1..rules.len()).rev() {
+        rules.swap(i, r.below(i as u64 + 1) as usize);
+    }
+    let (yes, no) = rules.into_iter().unzip();
+    reference::Sheet { yes, no, ..s.clone() }
 }
 
 // One thing of a sheet by value changed, so that a refusal is near.
@@ -425,7 +459,7 @@ impl Case {
 
     // A search over three slices, compared; the sheet, the reply and the slots.
     fn builder(&mut self) -> (reference::Sheet, Reply, Vec<Slot>) {
-        let mut s = sheet(&mut self.random);
+        let mut s = if self.random.chance(3) { near_sheet(&mut self.random) } else { sheet(&mut self.random) };
         if self.random.chance(4) {
             bend(&mut self.random, &mut s);
         }
@@ -443,44 +477,74 @@ impl Case {
             1,
         );
         self.saw("search", &reply);
-        let (wanted, slots) = reference::walk(&s, lengths.iter().copied().min().unwrap_or(0));
-        let k = slots.len();
+        let room = lengths.iter().copied().min().unwrap_or(0);
+        let (wanted, slots) = reference::walk(&s, room);
         self.same("reply", reply.to_vec(), [&words(&wanted)[..], &[3]].concat());
-        self.same(
-            "points",
-            left_points,
-            [&slots.iter().map(|t| t.point).collect::<Vec<_>>()[..], &points[k..]].concat(),
-        );
-        self.same(
-            "rule numbers",
-            left_numbers,
-            [&slots.iter().map(|t| t.rule).collect::<Vec<_>>()[..], &numbers[k..]].concat(),
-        );
-        self.same(
-            "depths",
-            left_depths,
-            [&slots.iter().map(|t| t.depth).collect::<Vec<_>>()[..], &depths[k..]].concat(),
-        );
+        self.left("points", left_points, slots.iter().map(|t| t.point), &points);
+        self.left("rule numbers", left_numbers, slots.iter().map(|t| t.rule), &numbers);
+        self.left("depths", left_depths, slots.iter().map(|t| t.depth), &depths);
         if s.names <= 12 && !matches!(wanted, Reply::Refused(..)) {
-            self.promises(&s, &wanted, lengths.iter().copied().min().unwrap_or(0));
+            self.promises(&s, &wanted, &slots, room);
+        }
+        if let (Reply::Met { choice, changes, .. }, 0) = (&wanted, s.exchanges) {
+            self.reordered(&s, room, (*choice, *changes));
         }
         (s, wanted, slots)
     }
 
-    // Demand 3, by trying every choice.
-    fn promises(&mut self, s: &reference::Sheet, reply: &Reply, slots: usize) {
+    // What a slice holds afterwards: so many new entries, and behind them what was there before.
+    fn left<T>(&mut self, what: &str, got: Vec<T>, new: impl ExactSizeIterator<Item = T>, before: &[T])
+    where
+        T: PartialEq + Copy + std::fmt::Debug,
+    {
+        let behind = before[new.len()..].to_vec();
+        self.same(what, got, new.chain(behind).collect());
+    }
+
+    // Demand 3, by trying every choice; `slots` are those filled of so many lent.
+    fn promises(&mut self, s: &reference::Sheet, reply: &Reply, slots: &[Slot], lent: usize) {
         let nearest = reference::nearest(s);
         match *reply {
             Reply::Met { choice, changes, .. } => {
-                self.holds("met, and nearest", reference::satisfies(s, choice) && nearest == Some(changes))
+                self.holds("met, and nearest", reference::satisfies(s, choice) && nearest == Some(changes));
+                self.smallest(s, choice, slots);
             }
             Reply::Unmet { .. } => self.holds("none meets the rules", nearest.is_none()),
-            Reply::NoRoom { depth, .. } => self.holds(
+            Reply::NoRoom { least, .. } => self.holds(
                 "a lower bound, and not enough slots",
-                nearest.is_none_or(|d| d >= depth) && slots < 1 << s.names,
+                nearest.is_none_or(|d| d >= least) && lent < 1 << s.names,
             ),
             Reply::Refused(..) => {}
         }
+    }
+
+    // 2026-03, by trying every choice: "Among the nearest choices in the slots the one smallest as a number is now
+    // handed back" and "Without exchanges a choice handed back is the smallest of all nearest choices on the whole
+    // sheet".
+    fn smallest(&mut self, s: &reference::Sheet, choice: u64, slots: &[Slot]) {
+        let nearest = reference::nearest_choices(s);
+        let filled: Vec<u64> = slots.iter().map(|t| t.point).filter(|x| nearest.contains(x)).collect();
+        self.same("smallest in the slots", Some(&choice), filled.iter().min());
+        if s.exchanges == 0 {
+            self.same("smallest on the whole sheet", Some(&choice), nearest.first());
+        }
+        if nearest.len() > 1 {
+            let what = if s.exchanges == 0 { "met, several as near" } else { "met, several as near, exchanges" };
+            self.seen.push((what, SATISFIABLE, 0));
+        }
+    }
+
+    // 2026-03: "the same house choice each time, however the client ordered the rules": without exchanges, and where
+    // the sheet is met again. The slots filled may be others, and with them whether there is room.
+    fn reordered(&mut self, s: &reference::Sheet, slots: usize, (choice, changes): (u64, u32)) {
+        let other = lent(&shuffled(&mut self.random, s));
+        let (mut points, mut numbers, mut depths) = (vec![5; slots], vec![5; slots], vec![5; slots]);
+        let mut reply = [3; 4];
+        library::search(&other, &mut points, &mut numbers, &mut depths, &mut reply);
+        self.saw("search, rules shuffled", &reply);
+        let bounded = reply[0] == UNKNOWN && reply[1] <= u64::from(changes);
+        let again = reply[..3] == [SATISFIABLE, choice, u64::from(changes)];
+        self.holds("the same choice with the rules in another order, or no room", again || bounded);
     }
 
     // The writer and the checker, on what a search left or on something near it.

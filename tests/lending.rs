@@ -22,6 +22,6 @@ pub fn words(reply: &Reply) -> Vec<u64> {
         Reply::Refused(number, place) => vec![0, u64::from(number), place as u64, 0],
         Reply::Met { choice, changes, slots } => vec![1, choice, u64::from(changes), slots as u64],
         Reply::Unmet { slots } => vec![2, slots as u64, 0, 0],
-        Reply::NoRoom { depth, slots } => vec![3, u64::from(depth), slots as u64, 0],
+        Reply::NoRoom { least, slots } => vec![3, u64::from(least), slots as u64, 0],
     }
 }

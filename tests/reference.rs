@@ -2,7 +2,7 @@
 // sentences: names are numbers from 1, a rule is a list of literals as the text has them, sets are the standard
 // library's. It shares nothing with the library but the forms in which things are lent.
 #![allow(dead_code)] // a program uses some of them
-use std::collections::{BTreeSet, HashMap, HashSet};
+use std::collections::{BTreeSet, HashSet};
 
 pub type Refusal = (u32, u128);
 
@@ -22,7 +22,7 @@ pub struct Sheet {
 pub enum Reply {
     Met { choice: u64, changes: u32, slots: usize },
     Unmet { slots: usize },
-    NoRoom { depth: u32, slots: usize },
+    NoRoom { least: u32, slots: usize },
     Refused(u32, u128),
 }
 
@@ -353,6 +353,18 @@ fn names_of(rule: (u64, u64), n: u32) -> Vec<u64> {
     (0..n).map(|i| 1u64 << i).filter(|bit| (rule.0 | rule.1) & bit != 0).collect()
 }
 
+// 2026-03: "on first taking a point of a new depth (0 included)": the slot processed before it, if any, is shallower.
+fn opens(slots: &[Slot], next: usize) -> bool {
+    next == 0 || slots[next - 1].depth < slots[next].depth
+}
+
+// 2026-03: "tests all unprocessed points of that depth", and of those that meet the rules "the one smallest as a
+// number", if there is one. `next` is the first slot that is not processed.
+fn tested(rules: &[(u64, u64)], slots: &[Slot], next: usize) -> Option<u64> {
+    let level = slots[next..].iter().filter(|s| s.depth == slots[next].depth);
+    level.map(|s| s.point).filter(|&point| rules.iter().all(|&r| meets(r, point))).min()
+}
+
 // The walk: the reply, and the slots as they are filled.
 pub fn walk(sheet: &Sheet, lent: usize) -> (Reply, Vec<Slot>) {
     if let Err((number, place)) = sheet.tested() {
@@ -367,10 +379,11 @@ pub fn walk(sheet: &Sheet, lent: usize) -> (Reply, Vec<Slot>) {
     let mut set: HashSet<u64> = HashSet::from([sheet.wish]);
     let mut next = 0;
     while next < slots.len() {
+        if let Some(choice) = opens(&slots, next).then(|| tested(&rules, &slots, next)).flatten() {
+            return (Reply::Met { choice, changes: sheet.changes(choice), slots: slots.len() }, slots);
+        }
         let Slot { point, depth, .. } = slots[next];
-        let Some(unmet) = rules.iter().position(|&r| !meets(r, point)) else {
-            return (Reply::Met { choice: point, changes: sheet.changes(point), slots: slots.len() }, slots);
-        };
+        let unmet = rules.iter().position(|&r| !meets(r, point)).expect("a point of a tested level fails a rule");
         slots[next].rule = unmet as u32 + 1;
         for bit in names_of(rules[unmet], sheet.names) {
             let flipped = point ^ bit;
@@ -378,7 +391,8 @@ pub fn walk(sheet: &Sheet, lent: usize) -> (Reply, Vec<Slot>) {
                 continue;
             }
             if slots.len() == room {
-                return (Reply::NoRoom { depth, slots: slots.len() }, slots);
+                // 2026-03: "the number carried is the depth being processed plus one"
+                return (Reply::NoRoom { least: depth + 1, slots: slots.len() }, slots);
             }
             slots.push(Slot { point: flipped, rule: 0, depth: depth + 1 });
             set.insert(flipped);
@@ -511,7 +525,7 @@ pub fn printed(text: &[u8]) -> String {
     match walk(&sheet, 4096).0 {
         Reply::Refused(number, place) => refused((number, place)),
         Reply::Unmet { slots } => format!("s UNSATISFIABLE\nc slots {slots}\n"),
-        Reply::NoRoom { depth, slots } => format!("s UNKNOWN\nc room {depth} {slots}\n"),
+        Reply::NoRoom { least, slots } => format!("s UNKNOWN\nc room {least} {slots}\n"),
         Reply::Met { choice, changes, slots } => {
             let name = |i: u32| if choice >> (i - 1) & 1 == 1 { format!("{i} ") } else { format!("-{i} ") };
             let names: String = (1..=sheet.names).map(name).collect();
@@ -520,14 +534,17 @@ pub fn printed(text: &[u8]) -> String {
     }
 }
 
-// Every choice tried: how many changes the nearest one that meets the rules has, if there is one. For few names.
-pub fn nearest(sheet: &Sheet) -> Option<u32> {
+// Every choice tried: the nearest of those that meet the rules, ascending. For few names.
+pub fn nearest_choices(sheet: &Sheet) -> Vec<u64> {
     let rules = sheet.both();
-    let distances: HashMap<u64, u32> = (0..1u64 << sheet.names)
-        .filter(|&x| rules.iter().all(|&r| meets(r, x)))
-        .map(|x| (x, sheet.changes(x)))
-        .collect();
-    distances.values().copied().min()
+    let meeting: Vec<u64> = (0..1u64 << sheet.names).filter(|&x| rules.iter().all(|&r| meets(r, x))).collect();
+    let fewest = meeting.iter().map(|&x| sheet.changes(x)).min();
+    meeting.into_iter().filter(|&x| Some(sheet.changes(x)) == fewest).collect()
+}
+
+// How many changes each of them has, if there is one.
+pub fn nearest(sheet: &Sheet) -> Option<u32> {
+    nearest_choices(sheet).first().map(|&x| sheet.changes(x))
 }
 
 pub fn satisfies(sheet: &Sheet, choice: u64) -> bool {

@@ -52,10 +52,12 @@ fn worked(count: &mut Count) {
     let filled = joined(&[0, 1, 3], &[1, 2, 4], &[0, 1, 2]);
     count.expect("A with exchange 2 1: its slots", slots == [filled, vec![held(3), held(4)]].concat());
     searched(count, "A, P = 4", &case_a(&[]), 4, [UNSATISFIABLE, 4, 0, 0]);
-    searched(count, "A, P = 3", &case_a(&[]), 3, [UNKNOWN, 1, 3, 0]);
+    searched(count, "A, P = 3", &case_a(&[]), 3, [UNKNOWN, 2, 3, 0]);
     searched(count, "A, P = 70,000", &case_a(&[]), 70000, [UNSATISFIABLE, 4, 0, 0]);
-    searched(count, "B", &case_b(), 4096, [SATISFIABLE, 2, 1, 4]);
-    searched(count, "B, P = 3", &case_b(), 3, [UNKNOWN, 1, 3, 0]);
+    searched(count, "B", &case_b(), 4096, [SATISFIABLE, 2, 1, 3]);
+    let slots = searched(count, "B, P = 3", &case_b(), 3, [SATISFIABLE, 2, 1, 3]);
+    count.expect("B, P = 3: its slots", slots == joined(&[0, 1, 2], &[1, 0, 0], &[0, 1, 1]));
+    searched(count, "B, P = 2", &case_b(), 2, [UNKNOWN, 1, 2, 0]);
     searched(count, "B, P = 0", &case_b(), 0, [REFUSED, 13, 0, 0]);
     searched(count, "A, P = 0", &case_a(&[]), 0, [REFUSED, 13, 0, 0]);
     searched(count, "PH(4, 3) with its swaps", &sheet(12, &pigeons(3), &swaps(3)), 70000, [UNSATISFIABLE, 54, 0, 0]);

@@ -32,16 +32,19 @@ static void solved(const char *name, const char *text, size_t slots, const uint6
 
 static void answers(void) {
     const uint64_t a[] = {JUGBOWO_CERTIFIED, 4, 80, 0}, swapped[] = {JUGBOWO_CERTIFIED, 3, 70, 0},
-                   room[] = {JUGBOWO_UNKNOWN, 1, 3, 0};
-    const uint64_t b[] = {JUGBOWO_SATISFIABLE, 2, 1, 4}, wish[] = {JUGBOWO_SATISFIABLE, 0, 0, 1},
+                   room[] = {JUGBOWO_UNKNOWN, 2, 3, 0}, less[] = {JUGBOWO_UNKNOWN, 1, 2, 0};
+    const uint64_t b[] = {JUGBOWO_SATISFIABLE, 2, 1, 3}, wish[] = {JUGBOWO_SATISFIABLE, 0, 0, 1},
                    empty[] = {JUGBOWO_CERTIFIED, 1, 44, 0};
+    const uint64_t smallest[] = {JUGBOWO_SATISFIABLE, 1, 1, 3};
     const uint64_t large[] = {JUGBOWO_REFUSED, 3, 0, 0}, none[] = {JUGBOWO_REFUSED, 13, 0, 0};
     solved("A", "p cnf 2 4\n" CLAUSES_A, 4096, a);
     solved("A with exchange 2 1", "p cnf 2 4\nc exch 2 1\n" CLAUSES_A, 4096, swapped);
     solved("A, P = 3", "p cnf 2 4\n" CLAUSES_A, 3, room);
     solved("A, P = 4", "p cnf 2 4\n" CLAUSES_A, 4, a);
     solved("B", TEXT_B, 4096, b);
-    solved("B, P = 3", TEXT_B, 3, room);
+    solved("B, P = 3", TEXT_B, 3, b);
+    solved("B, P = 2", TEXT_B, 2, less);
+    solved("two as near", "p cnf 2 1\nc wish 11\n-1 -2 0\n", 3, smallest);
     solved("C = 0", "p cnf 1 0\n", 1, wish);
     solved("one empty rule", "p cnf 1 1\n0\n", 1, empty);
     solved("rule (1 -1)", "p cnf 1 1\n1 -1 0\n", 1, wish);
@@ -99,7 +102,7 @@ static void structs(void) {
            jugbowo_check(2, 4, 0, 0, images, 0, positive, 4, negative, 4, out, 70, reply, 4) == 1 &&
                reply[0] == JUGBOWO_ACCEPTED);
     expect("B in slots", jugbowo_search_slots(3, 2, 0, 0, images, 0, yes, 2, no, 2, slots, 5, reply, 4) == 1 &&
-                             reply[0] == JUGBOWO_SATISFIABLE && reply[1] == 2 && reply[2] == 1 && reply[3] == 4);
+                             reply[0] == JUGBOWO_SATISFIABLE && reply[1] == 2 && reply[2] == 1 && reply[3] == 3);
     expect("no place to reply in slots",
            jugbowo_search_slots(3, 2, 0, 0, images, 0, yes, 2, no, 2, slots, 5, reply, 3) == 0);
 }
@@ -166,7 +169,7 @@ static void sheets(void) {
 
 /* What the program prints for case B: with no room, one byte short, and exactly fitting. */
 static void printed(void) {
-    const char *wanted = "s SATISFIABLE\nv -1 2 -3 0\nc changes 1 slots 4\n";
+    const char *wanted = "s SATISFIABLE\nv -1 2 -3 0\nc changes 1 slots 3\n";
     const uint8_t *text = (const uint8_t *)TEXT_B;
     const size_t size = strlen(wanted), length = strlen(TEXT_B);
     uint8_t out[64], before[64];

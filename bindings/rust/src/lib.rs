@@ -1,14 +1,14 @@
 //! A style sheet is a CNF formula of at most 64 yes/no variables with a target point. This library hands back the
-//! satisfying point nearest to the target, or a certificate that no point satisfies the clauses, or says that it had
-//! no room to tell. Its answers are proved; what each promise says is in the repository's README. These functions
-//! only lend memory to it.
+//! satisfying point nearest to the target, of several that are as near the smallest as a number ([`search`]), or a
+//! certificate that no point satisfies the clauses, or says that it had no room to tell. Its answers are proved; what
+//! each promise says is in the repository's README. These functions only lend memory to it.
 //!
 //! ```
 //! use jugbowo::{solve, Slots, Solution};
 //!
 //! let sheet = b"p cnf 3 2\nc wish 000\n1 2 0\n-1 3 0\n";
 //! let answer = solve(sheet, &mut Slots::new(4096)).unwrap();
-//! assert_eq!(answer, Solution::Satisfiable { point: 0b010, distance: 1, filled: 4 });
+//! assert_eq!(answer, Solution::Satisfiable { point: 0b010, distance: 1, filled: 3 });
 //! ```
 mod sys;
 
@@ -125,7 +125,8 @@ impl Slots {
 }
 
 /// What a search finds. With `Unsatisfiable` the first `filled` slots are a stable set, of which [`certificate`]
-/// makes a file.
+/// makes a file. With `Unknown` every satisfying point differs from the target in at least `bound` variables: the depth
+/// that was being processed plus one, at most 65,536.
 #[derive(Clone, Copy, PartialEq, Eq, Debug)]
 pub enum Outcome {
     Satisfiable { point: u64, distance: u32, filled: usize },
@@ -228,7 +229,20 @@ pub fn write_sheet_to(f: &Formula, out: &mut [u8]) -> Result<usize, Refusal> {
 /// use jugbowo::{read, search, Outcome, Slots};
 /// let f = read(b"p cnf 1 2\n1 0\n-1 0\n").unwrap();
 /// assert_eq!(search(&f, &mut Slots::new(2)), Ok(Outcome::Unsatisfiable { filled: 2 }));
-/// assert_eq!(search(&f, &mut Slots::new(1)), Ok(Outcome::Unknown { bound: 0, filled: 1 }));
+/// assert_eq!(search(&f, &mut Slots::new(1)), Ok(Outcome::Unknown { bound: 1, filled: 1 }));
+/// ```
+///
+/// Of the nearest satisfying points in the slots the one smallest as a number is handed back. Without permutations it
+/// is the smallest of all nearest satisfying points, and so the same in whichever order the clauses stand. How many
+/// slots are filled, and with that whether there is room, depends on this order, and with permutations the point does
+/// too.
+///
+/// ```
+/// use jugbowo::{read, search, Outcome, Slots};
+/// let mut f = read(b"p cnf 3 2\nc wish 111\n-1 -2 -3 0\n-1 -2 0\n").unwrap();
+/// assert_eq!(search(&f, &mut Slots::new(8)), Ok(Outcome::Satisfiable { point: 0b101, distance: 1, filled: 4 }));
+/// f.clauses.reverse();
+/// assert_eq!(search(&f, &mut Slots::new(8)), Ok(Outcome::Satisfiable { point: 0b101, distance: 1, filled: 3 }));
 /// ```
 pub fn search(f: &Formula, slots: &mut Slots) -> Result<Outcome, Refusal> {
     let mut reply = [0; WORDS];
