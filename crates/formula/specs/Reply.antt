@@ -9,7 +9,7 @@ pub data Reply : Type 0 where
   satisfiable : ℕ → ℕ → ℕ → Reply
   -- "cannot be met, with slots filled"
   unsatisfiable : ℕ → Reply
-  -- "no room, with d the depth of the point being processed and slots filled"
+  -- Q03.4: "On 'no room' the number carried is the depth being processed plus one"; W8: "and slots filled"
   unknown : ℕ → ℕ → Reply
   -- the text is read
   parsed : Reply

@@ -14,6 +14,12 @@ ghost use Rattle.point_slices.specs.Laws.Contracts.{lentClauses};
 ghost use Rattle.point_slices.specs.Slices.{pointsOf};
 ghost use Rattle.search_level.specs.Laws.Testing.{opensAt, Best, Better, Testable, Scans, Found, Tests};
 
+// Where a search stands: the index of the slot that is next, and how many are filled.
+pub struct Position {
+    pub at: usize,
+    pub filled: usize,
+}
+
 // What a test comes to: whether a point satisfies all clauses, and the smallest that does.
 pub struct Level {
     pub met: bool,
@@ -87,18 +93,20 @@ pub fn test_level(
     points: &[u64],
     depths: &[Depth],
     found: &mut [u32],
-    at: usize,
-    filled: usize,
+    position: Position,
 ) -> Level
-    requires { ⌜ Testable (lentClauses (now positive) (now negative)) (pointsOf (now points)) (now found) at filled
-        × Found (lentClauses (now positive) (now negative)) (pointsOf (now points)) (now depths) at filled (now found)
-        ⌝ }
+    requires { ⌜ Testable (lentClauses (now positive) (now negative)) (pointsOf (now points)) (now found)
+        (position .at) (position .filled)
+        × Found (lentClauses (now positive) (now negative)) (pointsOf (now points)) (now depths) (position .at)
+        (position .filled) (now found) ⌝ }
     ensures { λ r. ⌜ Tests (lentClauses (now (positive .entry)) (now (negative .entry)))
-        (pointsOf (now (points .entry))) (now (depths .entry)) at filled (r .met) (r .point) (now (found .exit)) ⌝ }
+        (pointsOf (now (points .entry))) (now (depths .entry)) (position .at) (position .filled) (r .met) (r .point)
+        (now (found .exit)) ⌝ }
 {
+    let at = position.at;
     let opening = opens(depths, at);
     if opening {
-        return test_slots(positive, negative, points, found, at, filled);
+        return test_slots(positive, negative, points, found, at, position.filled);
     }
     Level {
         met: false,

@@ -8,9 +8,9 @@ use points::Depth;
 use points::Point;
 use search_expansion::Frame;
 use search_level::Level;
+use search_level::Position;
 use search_level::test_level;
 use search_step::Conclusion;
-use search_step::Position;
 use search_step::Step;
 use search_step::Turn;
 use search_step::process;
@@ -28,7 +28,7 @@ ghost use Rattle.point_slices.specs.Slices.{pointsOf};
 ghost use Rattle.search_level.specs.Laws.Testing.{Found};
 ghost use Rattle.search_step.specs.declared.Conclusion.the-variants.{Satisfiable, Unsatisfiable};
 ghost use Rattle.search_step.specs.Laws.Stepping.{framed, Searchable, Linked, Midway};
-ghost use Rattle.search_loop.specs.declared.Stage.the-variants.{Concluded};
+ghost use Rattle.search_loop.specs.declared.Stage.the-variants.{Concluded, Paused};
 ghost use Rattle.search_loop.specs.Laws.Exploring.{Explores};
 
 // What exploring comes to: the search's answer, or where it paused, since the index might be too small for one more
@@ -56,6 +56,14 @@ fn outgrown(g: Frame, filled: usize) -> bool
     } else {
         false
     }
+}
+
+// A search that stands at a position, beside a point.
+fn paused(position: Position, point: Point) -> Explored
+    ensures { λ r. ⌜ (r .stage ≡ Paused position) × (r .point ≡ point) ⌝ }
+{
+    let stage = Stage::Paused(position);
+    Explored { stage, point }
 }
 
 // A search that is at its end, beside a point.
@@ -115,20 +123,20 @@ pub fn explore(
         (slotSlices (now (points .entry)) (now (falsified .entry)) (now (depths .entry))) from (r .stage) (r .point)
         (slotSlices (now (points .exit)) (now (falsified .exit)) (now (depths .exit))) (now (found .exit)) ⌝ }
 {
+    let by = g.lookup;
     let mut moved = [0u64; Formula::MAX_PERMUTATIONS as usize];
     let mut seen = points::EMPTY;
     let mut position = from;
     while position.at < position.filled {
         if outgrown(g, position.filled) {
-            let stage = Stage::Paused(position);
-            return Explored { stage, point: seen };
+            return paused(position, seen);
         }
-        let level = test_level(positive, negative, points, depths, found, position.at, position.filled);
+        let level = test_level(positive, negative, points, depths, found, position);
         if level.met {
             return handed_back(g, level, position.filled);
         }
         let x = point_at(points, position.at);
-        move_images(g.lookup.variables, g.lookup.permutations, images, &mut moved, seen, x);
+        move_images(by.variables, by.permutations, images, &mut moved, seen, x);
         seen = x;
         let number = number_at(found, position.at);
         let turn = Turn { position, number };
@@ -144,13 +152,10 @@ pub fn explore(
             &moved,
             turn,
         );
+        let next = position.at + 1;
         match step {
-            Step::Ends(answer) => {
-                return concluded(answer, x);
-            }
-            Step::Goes { filled } => {
-                position = Position { at: position.at + 1, filled };
-            }
+            Step::Ends(answer) => return concluded(answer, x),
+            Step::Goes { filled } => position = Position { at: next, filled },
         }
     }
     exhausted(position.filled, seen)

@@ -11,11 +11,11 @@ use points::Point;
 use search_expansion::Frame;
 use search_expansion::Visit;
 use search_expansion::fill;
+use search_level::Position;
 use search_loop::Explored;
 use search_loop::Stage;
 use search_loop::explore;
 use search_step::Conclusion;
-use search_step::Position;
 ghost use mathlib.Core.List.{[], _∷_};
 ghost use mathlib.Core.Path.{_≡_};
 ghost use Prim.Native.Nat.{_+_, _*_, _≤_};
@@ -217,9 +217,29 @@ fn resume(
         Stage::Concluded(conclusion) => Answer { conclusion, point },
         Stage::Paused(at) => {
             if g.room <= MANY_HEADS {
-                return resume(g, images, positive, negative, points, falsified, depths, &found, at);
+                return resume(
+                    g,
+                    images,
+                    positive,
+                    negative,
+                    points,
+                    falsified,
+                    depths,
+                    &found,
+                    at,
+                );
             }
-            finish(g, images, positive, negative, points, falsified, depths, &found, at)
+            finish(
+                g,
+                images,
+                positive,
+                negative,
+                points,
+                falsified,
+                depths,
+                &found,
+                at,
+            )
         }
     }
 }
@@ -266,7 +286,17 @@ fn proceed(
     let point = explored.point;
     match stage {
         Stage::Concluded(conclusion) => Answer { conclusion, point },
-        Stage::Paused(at) => resume(g, images, positive, negative, points, falsified, depths, &found, at),
+        Stage::Paused(at) => resume(
+            g,
+            images,
+            positive,
+            negative,
+            points,
+            falsified,
+            depths,
+            &found,
+            at,
+        ),
     }
 }
 
@@ -313,6 +343,16 @@ pub fn start(
     let point = explored.point;
     match stage {
         Stage::Concluded(conclusion) => Answer { conclusion, point },
-        Stage::Paused(at) => proceed(g, images, positive, negative, points, falsified, depths, &found, at),
+        Stage::Paused(at) => proceed(
+            g,
+            images,
+            positive,
+            negative,
+            points,
+            falsified,
+            depths,
+            &found,
+            at,
+        ),
     }
 }

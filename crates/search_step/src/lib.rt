@@ -5,6 +5,7 @@ use points::Depth;
 use search_expansion::Frame;
 use search_expansion::Visit;
 use search_expansion::expand;
+use search_level::Position;
 ghost use mathlib.Core.Path.{_≡_};
 ghost use Prim.Native.Nat.{_+_, _<_};
 ghost use Rattle.point_slices.specs.Laws.Contracts.{lentClauses};
@@ -14,12 +15,6 @@ ghost use Rattle.search_expansion.specs.Laws.Memory.{Lends};
 ghost use Rattle.search_level.specs.Laws.Testing.{numberFor};
 ghost use Rattle.search_step.specs.Laws.Stepping.{framed, Searchable, Linked, nextPoint, Next, StillLinked};
 ghost use Rattle.search_step.specs.Laws.Stepping.{StillThere, Midway, Unmet, Steps};
-
-// Where a search stands: the index of the slot that is next, and how many are filled.
-pub struct Position {
-    pub at: usize,
-    pub filled: usize,
-}
 
 // A slot that is taken: where the search stands, and the number of the clause that its point falsifies first.
 pub struct Turn {

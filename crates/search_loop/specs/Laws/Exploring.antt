@@ -9,7 +9,7 @@ use Rattle.search_theory.specs.Walk.{Slot}
 use Rattle.search_expansion.specs.declared.Frame.{Frame}
 use Rattle.search_expansion.specs.Laws.Filling.{SlotsIndexed}
 use Rattle.search_level.specs.Laws.Testing.{Found}
-use Rattle.search_step.specs.declared.Position.{Position}
+use Rattle.search_level.specs.declared.Position.{Position}
 use Rattle.search_step.specs.Laws.Stepping.{replyOfConclusion, framed, Stands, GoesOn, Ended}
 use Rattle.search_loop.specs.declared.Stage.{Stage}
 use Rattle.search_loop.specs.declared.Stage.the-variants.{Concluded, Paused}

@@ -26,7 +26,7 @@ use Rattle.search_theory.specs.Walk.{Slot, slot, pointsIn, opens, tested, state
 use Rattle.search_expansion.specs.declared.Frame.{Frame}
 use Rattle.search_expansion.specs.Laws.FillingLaws.{held-points}
 use Rattle.search_level.specs.Laws.Testing.{numberFor, between, opensAt, Best, NumberFound, Tests}
-use Rattle.search_step.specs.declared.Position.{Position}
+use Rattle.search_level.specs.declared.Position.{Position}
 use Rattle.search_step.specs.Laws.Stepping.{framed, Searchable, position, Stands, Midway, Unmet, Ended, Kept}
 use Rattle.search_step.specs.Laws.SteppingLaws.{slot-at, slot-read, one-waits}
 use Rattle.search_loop.specs.Laws.Exploring.{Concludes, Numbers}

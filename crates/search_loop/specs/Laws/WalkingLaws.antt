@@ -17,7 +17,7 @@ use Rattle.point_slices.specs.Slices.{SlotSlices}
 use Rattle.formula.specs.Problem.{Problem}
 use Rattle.formula.specs.Reply.{Reply, unsatisfiable}
 use Rattle.search_step.specs.declared.Conclusion.{Conclusion}
-use Rattle.search_step.specs.declared.Position.{Position}
+use Rattle.search_level.specs.declared.Position.{Position}
 use Rattle.search_step.specs.declared.Step.{Step}
 use Rattle.search_step.specs.declared.Step.the-variants.{Ends, Goes}
 use Rattle.search_expansion.specs.declared.Frame.{Frame}
@@ -27,7 +27,7 @@ use Rattle.search_step.specs.Laws.Stepping.{replyOfConclusion, framed, Linked, 
 use Rattle.search_step.specs.Laws.Stepping.{After, Steps, StillThere}
 use Rattle.search_loop.specs.Laws.Exploring.{Walking, Exploring, Concludes, Numbers, Explores}
 use Rattle.search_loop.specs.declared.Stage.{Stage}
-use Rattle.search_loop.specs.declared.Stage.the-variants.{Concluded}
+use Rattle.search_loop.specs.declared.Stage.the-variants.{Concluded, Paused}
 use Rattle.search_loop.specs.Laws.TestedLaws.{AtHand, numbers-on}
 use Rattle.search_theory.specs.Walk.{state, Walks, none-left}
 
@@ -145,6 +145,13 @@ pub explores-answer : (g : Frame) (images : List ℕ) (clauses : List Clause) {m
 explores-answer g images clauses {m₀} {m} {q₀} found stage x y a e same h =
     subst (λ s. Explores g images clauses m₀ q₀ s x m found) (sym e)
     (subst (λ z. Concludes (framed g images clauses) (g .room) m₀ q₀ (replyOfConclusion z a) m) (sym same) h)
+
+-- a pause
+pub explores-pause : (g : Frame) (images : List ℕ) (clauses : List Clause) {m₀ m : SlotSlices} {q₀ : Position}
+    (found : List ℕ) (stage : Stage) (x : ℕ) (q : Position) → stage ≡ Paused q
+    → Explores g images clauses m₀ q₀ (Paused q) x m found → Explores g images clauses m₀ q₀ stage x m found
+explores-pause g images clauses {m₀} {m} {q₀} found stage x q e h =
+    subst (λ s. Explores g images clauses m₀ q₀ s x m found) (sym e) h
 
 -- whether one more step might fill more slots, `most`, than there are heads: if so there are more slots than heads
 pub outgrown-pauses : (g : Frame) (most : ℕ) (outgrown : Bool)

@@ -25,7 +25,7 @@ use Rattle.search_expansion.specs.Laws.Memory.{Holds, Lends}
 use Rattle.search_loop.specs.declared.Stage.{Stage}
 use Rattle.search_loop.specs.declared.Stage.the-variants.{Concluded, Paused}
 use Rattle.search_step.specs.declared.Conclusion.{Conclusion}
-use Rattle.search_step.specs.declared.Position.{Position}
+use Rattle.search_level.specs.declared.Position.{Position}
 use Rattle.search_step.specs.Laws.Stepping.{replyOfConclusion, framed, Searchable, Linked, position, Stands, Midway}
 use Rattle.search_step.specs.Laws.Stepping.{Ended}
 use Rattle.search_loop.specs.Laws.Exploring.{Walking, Numbers, Explores, Concludes}
@@ -141,38 +141,38 @@ module _ (g : Frame) (images : List ℕ) (clauses : List Clause) (ok : Searchabl
   module _ (heads : ℕ) (m : SlotSlices) (q : Position) where
     module _ (stage : Stage) (x : ℕ) (m′ : SlotSlices) (found : List ℕ)
         (e : Explores (headedBy heads g) images clauses m q stage x m′ found) where
-        pub stage-answered : (a : Conclusion) → stage ≡ Concluded a
-            → Concludes pb (g .room) m q (replyOfConclusion x a) m′
-        stage-answered a same = subst (λ (s : Stage). Explores (headedBy heads g) images clauses m q s x m′ found) same e
+      pub stage-answered : (a : Conclusion) → stage ≡ Concluded a
+          → Concludes pb (g .room) m q (replyOfConclusion x a) m′
+      stage-answered a same = subst (λ (s : Stage). Explores (headedBy heads g) images clauses m q s x m′ found) same e
 
-        module _ (q′ : Position) (same : stage ≡ Paused q′) where
-          paused : Walking pb (g .room) m q m′ q′ × (heads < g .room) × (q′ .filled ≤ heads)
-              × Numbers clauses m′ q′ found
-          paused = subst (λ (s : Stage). Explores (headedBy heads g) images clauses m q s x m′ found) same e
+      module _ (q′ : Position) (same : stage ≡ Paused q′) where
+        paused : Walking pb (g .room) m q m′ q′ × (heads < g .room) × (q′ .filled ≤ heads)
+            × Numbers clauses m′ q′ found
+        paused = subst (λ (s : Stage). Explores (headedBy heads g) images clauses m q s x m′ found) same e
 
-          pub stage-midway : Midway pb (g .room) m q → Midway pb (g .room) m′ q′
-          stage-midway at = walking-midway pb (g .room) (paused .0) at
+        pub stage-midway : Midway pb (g .room) m q → Midway pb (g .room) m′ q′
+        stage-midway at = walking-midway pb (g .room) (paused .0) at
 
-          pub stage-followed : {r : Reply} {m″ : SlotSlices} → Concludes pb (g .room) m′ q′ r m″
-              → Concludes pb (g .room) m q r m″
-          stage-followed next = walking-answers pb (g .room) (paused .0) next
+        pub stage-followed : {r : Reply} {m″ : SlotSlices} → Concludes pb (g .room) m′ q′ r m″
+            → Concludes pb (g .room) m q r m″
+        stage-followed next = walking-answers pb (g .room) (paused .0) next
 
-          -- the stage behind it has more heads, and is handed the numbers
-          pub stage-carries : (more : ℕ) → heads ≤ length found → heads ≤ more → Carried clauses m′ q′ found more
-          stage-carries more long le =
-              record {
-                enough = le-trans (paused .2) long;
-                room = le-trans (paused .2) le;
-                numbers = paused .3;
-              }
+        -- the stage behind it has more heads, and is handed the numbers
+        pub stage-carries : (more : ℕ) → heads ≤ length found → heads ≤ more → Carried clauses m′ q′ found more
+        stage-carries more long le =
+            record {
+              enough = le-trans (paused .2) long;
+              room = le-trans (paused .2) le;
+              numbers = paused .3;
+            }
 
-          -- with a head for each slot lent there is no pause
-          pub stage-roomy : g .room ≤ heads → ⊥
-          stage-roomy all = let lt = paused .1 in omega arith
+        -- with a head for each slot lent there is no pause
+        pub stage-roomy : g .room ≤ heads → ⊥
+        stage-roomy all = let lt = paused .1 in omega arith
 
-          -- so none with a head for each slot that can be lent
-          pub stage-last : maxSlots ≤ heads → ⊥
-          stage-last all = stage-roomy (le-trans (ok .most) all)
+        -- so none with a head for each slot that can be lent
+        pub stage-last : maxSlots ≤ heads → ⊥
+        stage-last all = stage-roomy (le-trans (ok .most) all)
 
   -- ---- the first stage: the target stands in the first slot
 

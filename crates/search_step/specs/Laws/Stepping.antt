@@ -12,7 +12,7 @@ use Rattle.formula.specs.Reply.{Reply, satisfiable, unsatisfiable, unknown}
 use Rattle.search_step.specs.declared.Conclusion.{Conclusion}
 use Rattle.search_step.specs.declared.Conclusion.the-variants.{Satisfiable, Unsatisfiable, Unknown}
 use Rattle.search_expansion.specs.declared.Frame.{Frame}
-use Rattle.search_step.specs.declared.Position.{Position}
+use Rattle.search_level.specs.declared.Position.{Position}
 use Rattle.search_step.specs.declared.Step.{Step}
 use Rattle.search_step.specs.declared.Step.the-variants.{Ends, Goes}
 use Rattle.search_expansion.specs.Laws.Filling.{listedIn, SlotsIndexed}

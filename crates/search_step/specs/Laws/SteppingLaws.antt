@@ -25,7 +25,7 @@ use Rattle.formula.specs.Problem.{Problem}
 use Rattle.formula.specs.Reply.{unknown}
 use Rattle.search_expansion.specs.declared.Frame.{Frame}
 use Rattle.search_expansion.specs.declared.Visit.{Visit}
-use Rattle.search_step.specs.declared.Position.{Position}
+use Rattle.search_level.specs.declared.Position.{Position}
 use Rattle.search_step.specs.declared.Conclusion.the-variants.{Unknown}
 use Rattle.search_step.specs.declared.Step.the-variants.{Ends, Goes}
 use Rattle.permutation_coverage.specs.Laws.Coverage.{Imaged}
