@@ -1,5 +1,6 @@
--- K3: the one claim: the third demand whole, over sheet, search, written certificate and checker together. It cites the
--- very definitions that the entry points' contracts cite. Definitions alone; Theorem shows it. Assumes nothing.
+-- K3: the one claim: the third demand whole, and what request 2026-03 promises, over sheet, search, written
+-- certificate and checker together. It cites the very definitions that the entry points' contracts cite. Definitions
+-- alone; Theorem shows it. Assumes nothing.
 use mathlib.Core.List.{List, [], map}
 use mathlib.Core.Logic.{_↔_}
 use mathlib.Core.Path.{_≡_}
@@ -69,7 +70,7 @@ pub record Meets (pb : Problem) (x : ℕ) : Type 0 where
 abbrev pub AtLeast : Problem → ℕ → Type 0
 AtLeast pb d = (y : ℕ) → Meets pb y → d ≤ distance (pb .variables) y (pb .target)
 
--- x is the smallest, as a number, of the nearest choices that are in the set S: those that meet the rules with d changes
+-- no nearest choice in the set S, one that meets the rules with d changes, is smaller as a number than x
 abbrev pub SmallestIn : (ℕ → Type 0) → Problem → ℕ → ℕ → Type 0
 SmallestIn S pb d x = (y : ℕ) → S y → Meets pb y → distance (pb .variables) y (pb .target) ≡ d → x ≤ y
 

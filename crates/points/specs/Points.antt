@@ -90,13 +90,13 @@ numberOf (some c) = c .number
 
 -- ---- the smallest of points that meet all rules
 
--- Q03.2: "the one smallest as a number": x, of the points l
+-- Q03.2: "the one smallest as a number": x, of those of the points l that meet all rules
 pub record Smallest (cs : List Numbered) (l : List ℕ) (x : ℕ) : Type 0 where
   pub among : x ∈ l
   pub satisfying : SatisfiesAll cs x
   pub least : (y : ℕ) → y ∈ l → SatisfiesAll cs y → x ≤ y
 
--- none of the points l does
+-- none of the points l meets all rules
 abbrev pub NoneSatisfies : List Numbered → List ℕ → Type 0
 NoneSatisfies cs l = (y : ℕ) → y ∈ l → SatisfiesAll cs y → ⊥
 

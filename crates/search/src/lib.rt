@@ -9,7 +9,7 @@ use permutation_coverage::Lookup;
 use points::Depth;
 use points::Point;
 use search_expansion::Frame;
-use search_stages::Answer;
+use search_indexed::Answer;
 use search_step::Conclusion;
 ghost use mathlib.Core.Path.{_≡_};
 ghost use Rattle.point_slices.specs.Slices.{clauseSlices, slotSlices};
@@ -17,7 +17,7 @@ ghost use lib.ListN.{length};
 ghost use Rattle.formula.specs.Limits.{maxImages, capacity};
 ghost use Rattle.formula.specs.Reply.{pointIn, no-fault};
 ghost use Rattle.formula.specs.Laws.Contracts.{formulaWith};
-ghost use Rattle.search_stages.specs.Laws.StageLaws.{replyOfAnswer};
+ghost use Rattle.search_indexed.specs.Laws.StageLaws.{replyOfAnswer};
 ghost use Rattle.search.specs.Search.{searchFault};
 ghost use Rattle.search.specs.Contract.{replyOfFound, Searched};
 

@@ -6,13 +6,10 @@ use point_slices::point_at;
 use point_slices::put_number;
 use points::Depth;
 use points::Point;
-ghost use mathlib.Core.List.{[], _∷_, _++_};
 ghost use mathlib.Core.Path.{_≡_};
-ghost use Prim.Native.Nat.{_≤_, _<_};
-ghost use lib.ListN.{length};
 ghost use Rattle.point_slices.specs.Laws.Contracts.{lentClauses};
 ghost use Rattle.point_slices.specs.Slices.{pointsOf};
-ghost use Rattle.search_level.specs.Laws.Testing.{opensAt, Best, Better, Testable, Scans, Found, Tests};
+ghost use Rattle.search_level.specs.Laws.Testing.{opensAt, Better, Testable, Scans, Found, Tests};
 
 // Where a search stands: the index of the slot that is next, and how many are filled.
 pub struct Position {

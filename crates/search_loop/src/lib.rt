@@ -38,7 +38,7 @@ pub enum Stage {
     Paused(Position),
 }
 
-// The same beside the point that is handed back, or processed last.
+// The same beside a point: the one handed back, where one is; else it tells nothing.
 pub struct Explored {
     pub stage: Stage,
     pub point: Point,
@@ -94,10 +94,10 @@ fn exhausted(filled: usize, point: Point) -> Explored
     concluded(Conclusion::Unsatisfiable { filled }, point)
 }
 
-// W4, W9, Q03.3: takes the slots one after the other, from a position on, until a level's test finds a point, a slot has
-// no room for its flips, none is left, or the index might be too small. At most `room` steps, each point tested once;
-// from one step to the next the images of the points are turned, one step for each permutation and each variable in
-// which the points differ. Its callers see to what it requires: they have stored the target, indexed the points and
+// W4, W9, Q03.3: takes the slots one after the other, from a position on, until a level's test finds a point, a slot
+// has no room for its flips, none is left, or the index might be too small. At most `room` steps, each point tested
+// once; from one step to the next the images of the points are turned, one step for each permutation and each variable
+// in which the points differ. Its callers see to what it requires: they have stored the target, indexed the points and
 // carried the numbers found.
 pub fn explore(
     g: Frame,

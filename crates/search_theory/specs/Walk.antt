@@ -1,5 +1,6 @@
--- Document 01, 'Walk': the search over a problem and a number of slots, first as a sentence (Walks), then computed
--- (walk). Slots stand in two lists, those processed and those that wait, each oldest first. Assumes nothing.
+-- Document 01, 'Walk', as request 2026-03 has it: the search over a problem and a number of slots, first as a sentence
+-- (Walks), then computed (walk). Slots stand in two lists, those processed and those that wait, each oldest first.
+-- Assumes nothing.
 use mathlib.Core.Bool.{Bool, true, false, cond}
 use mathlib.Core.List.{List, [], _∷_, _++_, map}
 use mathlib.Core.Option.{Option, some, none}
@@ -103,8 +104,8 @@ opens p s = all (λ (t : Slot). ltb (t .depth) (s .depth)) p
 abbrev pub asDeep : Slot → List Slot → List Slot
 asDeep s l = select (λ (t : Slot). eqb (t .depth) (s .depth)) l
 
--- Q03.3: "tests all unprocessed points of that depth before it processes any"; of a depth that is not new, the point
--- taken alone
+-- Q03.3: "tests all unprocessed points of that depth before it processes any"; where the depth is not new its points
+-- were tested before: the point taken alone
 unfoldable pub tested : List Slot → Slot → List Slot → List ℕ
 unfolding opens select
 tested p s w = pointsIn (cond (opens p s) (asDeep s (s ∷ w)) (s ∷ []))
@@ -151,6 +152,7 @@ module _ (pb : Problem) (capacity : ℕ) where
   unfolding distance bit
   answers x l = ends (satisfiable x (distance (pb .variables) x (pb .target)) (length l)) l
 
+  -- a slot, from the clause that its point falsifies first; there is one, as it is among the points tested
   unfoldable pub processedBy : List Slot → Slot → List Slot → Option Numbered → Stepped
   unfolding answers expanded expand variables
   processedBy p s w none = answers (s .point) (p ++ s ∷ w)

@@ -1,5 +1,4 @@
 -- `search_level::opens` meets its contract. Assumes nothing.
-use mathlib.Core.Path.{_≡_, refl, sym, ap, ap₂, _∙_}
 use borrow.Author.Needs.{needs}
 use Rattle.search_level.specs.Laws.TestingLaws.{opens-first, opens-later}
 use Rattle.search_level.proofs.opens.Statement.{statement}

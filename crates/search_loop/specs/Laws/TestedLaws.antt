@@ -1,21 +1,21 @@
--- Laws of a level's test where the search stands at a slot: a point that it finds is the answer, else none that is tested
--- satisfies, and the numbers that it keeps are at hand after the step. Assumes nothing.
+-- Laws of a level's test where the search stands at a slot: a point that it finds is the answer, else none that is
+-- tested satisfies, and the numbers that it keeps are at hand after the step. Assumes nothing.
 use mathlib.Core.Bool.{Bool, true, false, true≢false}
-use mathlib.Core.List.{List, [], _∷_, _++_, map, Memᴰ·append-right}
+use mathlib.Core.List.{List, [], _∷_, _++_, Memᴰ·append-right}
 use mathlib.Core.Logic.{⊎-elim}
 use mathlib.Core.Path.{_≡_, refl, sym, ap, ap₂, _∙_, subst}
 use Prim.Native.Nat.{ℕ, zero, suc, _+_, _≤_, _<_, _^_}
 use native.Mathlib.Decide.{decLt}
-use native.Mathlib.Nat.{le-refl, le-trans, le-of-eq}
+use native.Mathlib.Nat.{le-refl}
 use native.Mathlib.Omega.{arith}
 use lib.Dec.{ltb}
-use lib.ListN.{length, getD, take, drop, length-append, length-map, List·getD-append}
+use lib.ListN.{length, getD, drop, length-append, length-map, List·getD-append}
 use lib.Seq.{drop-at}
 use borrow.Author.Tests.{lt-ltb, ltb-true}
 use Rattle.math.specs.Laws.ListLaws.{true-or-false, same-tests, all-at, all-of, getD-in, in-getD, map-out}
 use Rattle.math.specs.Laws.SplitLaws.{map-append}
 use Rattle.math.specs.Lists.{_∈_}
-use Rattle.points.specs.Points.{Clause, pointDigits, distance, numbered, Smallest, NoneSatisfies}
+use Rattle.points.specs.Points.{Clause, pointDigits, distance, Smallest, NoneSatisfies}
 use Rattle.point_slices.specs.Slices.{SlotSlices}
 use Rattle.point_theory.specs.Laws.Distance.{distance-wider}
 use Rattle.formula.specs.Problem.{Problem}
@@ -25,7 +25,7 @@ use Rattle.search_theory.specs.Laws.LevelLaws.{tested-all, untested-fails}
 use Rattle.search_theory.specs.Walk.{Slot, slot, pointsIn, opens, tested, state, Walks, met}
 use Rattle.search_expansion.specs.declared.Frame.{Frame}
 use Rattle.search_expansion.specs.Laws.FillingLaws.{held-points}
-use Rattle.search_level.specs.Laws.Testing.{numberFor, between, opensAt, Best, NumberFound, Tests}
+use Rattle.search_level.specs.Laws.Testing.{numberFor, between, opensAt, NumberFound, Tests}
 use Rattle.search_level.specs.declared.Position.{Position}
 use Rattle.search_step.specs.Laws.Stepping.{framed, Searchable, position, Stands, Midway, Unmet, Ended, Kept}
 use Rattle.search_step.specs.Laws.SteppingLaws.{slot-at, slot-read, one-waits}
@@ -142,7 +142,8 @@ module _ (g : Frame) (images : List ℕ) (clauses : List Clause) (ok : Searchabl
     -- the points between the slot that is next and the last one filled are those of the slots that wait
     waiting-points : between (q .at) (q .filled) (m .points) ≡ pointsIn (s ∷ w)
     waiting-points =
-        ap (drop (q .at)) (held-points (q .filled) (st .holds) (st .number) ∙ map-append (λ (t : Slot). t .point) p (s ∷ w))
+        ap (drop (q .at)) (held-points (q .filled) (st .holds) (st .number)
+        ∙ map-append (λ (t : Slot). t .point) p (s ∷ w))
         ∙ drop-at (pointsIn p) (pointsIn (s ∷ w)) (q .at) (length-map p (λ (t : Slot). t .point) ∙ st .processed)
 
     -- at a new depth the test is one of all points that the walk tests
@@ -153,13 +154,15 @@ module _ (g : Frame) (images : List ℕ) (clauses : List Clause) (ok : Searchabl
     found-ends : {x d : ℕ} {found : List ℕ} → Tests clauses (m .points) (m .depths) (q .at) (q .filled) true x found
         → d ≡ distance pointDigits x (g .target)
         → Ended pb (g .room) old p (s ∷ w) (satisfiable x d (q .filled)) m
-    found-ends {x} {d} t far = ⊎-elim new (λ e. absurd (true≢false (t .unopened e))) (true-or-false (opensAt (m .depths) (q .at)))
+    found-ends {x} {d} t far =
+        ⊎-elim new (λ e. absurd (true≢false (t .unopened e))) (true-or-false (opensAt (m .depths) (q .at)))
       where
         new : opensAt (m .depths) (q .at) ≡ true → Ended pb (g .room) old p (s ∷ w) (satisfiable x d (q .filled)) m
         new e =
             let best : Smallest (pb .clauses) (tested p s w) x =
             subst (λ l. Smallest (pb .clauses) l x) (tested-points e) (t .opened e) in
-            let o = map-out (λ (t : Slot). t .point) (s ∷ w) (subst (λ l. x ∈ l) waiting-points (t .opened e .among)) in
+            let o = map-out (λ (t : Slot). t .point) (s ∷ w)
+            (subst (λ l. x ∈ l) waiting-points (t .opened e .among)) in
             let below : x < 2 ^ g .lookup .variables = subst (λ y. y < 2 ^ g .lookup .variables) (sym (o .2))
             (st .invariants .filled .below (o .0) (Memᴰ·append-right p (o .1))) in
             let near : distance (g .lookup .variables) x (g .target) ≡ d =
@@ -182,15 +185,15 @@ module _ (g : Frame) (images : List ℕ) (clauses : List Clause) (ok : Searchabl
         old-depth : opensAt (m .depths) (q .at) ≡ false → NoneSatisfies (pb .clauses) (tested p s w)
         old-depth e = untested-fails pb (g .room) p w s (st .invariants) (opens-read ∙ e)
 
-  module _ (m : SlotSlices) (q : Position) {level : Bool} {x : ℕ} {found : List ℕ}
-      (t : Tests clauses (m .points) (m .depths) (q .at) (q .filled) level x found) where
-    pub level-met : {d : ℕ} → q .at < q .filled → level ≡ true → d ≡ distance pointDigits x (g .target)
+  module _ (m : SlotSlices) (q : Position) {met : Bool} {x : ℕ} {found : List ℕ}
+      (t : Tests clauses (m .points) (m .depths) (q .at) (q .filled) met x found) where
+    pub level-met : {d : ℕ} → q .at < q .filled → met ≡ true → d ≡ distance pointDigits x (g .target)
         → Concludes pb (g .room) m q (satisfiable x d (q .filled)) m
     level-met lt e far old p [] st = absurd (one-waits g images clauses ok lt st)
     level-met lt e far old p (s ∷ w) st = found-ends st
         (subst (λ b. Tests clauses (m .points) (m .depths) (q .at) (q .filled) b x found) e t) far
 
-    pub level-unmet : level ≡ false → Unmet pb (g .room) m q
+    pub level-unmet : met ≡ false → Unmet pb (g .room) m q
     level-unmet e old p w s st = none-found st
         (subst (λ b. Tests clauses (m .points) (m .depths) (q .at) (q .filled) b x found) e t)
 

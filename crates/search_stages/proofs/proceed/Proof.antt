@@ -6,8 +6,8 @@ use lib.ListN.{length, length-replicate}
 use borrow.Author.Needs.{needs}
 use borrow.Author.Tests.{leb-true}
 use Rattle.search_expansion.specs.Laws.FillingLaws.{lends-still}
-use Rattle.search_stages.specs.Laws.StageLaws.{fewHeads, manyHeads, numbers-carried, stage-blank, stage-answered}
-use Rattle.search_stages.specs.Laws.StageLaws.{stage-midway, stage-carries, stage-followed}
+use Rattle.search_indexed.specs.Laws.StageLaws.{fewHeads, manyHeads, numbers-carried, stage-blank, stage-answered}
+use Rattle.search_indexed.specs.Laws.StageLaws.{stage-midway, stage-carries, stage-followed}
 use Rattle.search_stages.proofs.proceed.Statement.{statement}
 use Rattle.search_stages.proofs.proceed.Tie as tie
 

@@ -10,9 +10,9 @@ use Rattle.point_slices.specs.Slices.{slotSlices}
 use Rattle.search_expansion.specs.Laws.FillingLaws.{lends-still, lends-fewer, held-first}
 use Rattle.search_expansion.specs.Laws.Memory.{Holds, Lends}
 use Rattle.search_theory.specs.Walk.{slot}
-use Rattle.search_stages.specs.Laws.StageLaws.{tinyHeads, fewHeads, stage-blank, stage-answered}
-use Rattle.search_stages.specs.Laws.StageLaws.{stage-midway, stage-carries, stage-followed, begun-midway}
-use Rattle.search_stages.specs.Laws.StageLaws.{begun-ends}
+use Rattle.search_indexed.specs.Laws.StageLaws.{tinyHeads, fewHeads, stage-blank, stage-answered}
+use Rattle.search_indexed.specs.Laws.StageLaws.{stage-midway, stage-carries, stage-followed, begun-midway}
+use Rattle.search_indexed.specs.Laws.StageLaws.{begun-ends}
 use borrow.Author.Needs.{needs}
 use Rattle.search_stages.proofs.start.Statement.{statement}
 use Rattle.search_stages.proofs.start.Tie as tie

@@ -62,3 +62,9 @@ pub next-depth-carried : walked (problem 2 0 [] (clause 3 0 ∷ clause 2 1 ∷ c
     ≡ unknown 2 3
 unfolding walked numberedFrom
 next-depth-carried = refl
+
+-- Q03.3: "all unprocessed points of that depth", and not those of the first parent alone: the clauses (-1 -2), (-2 -3),
+-- (-1 -3) and the target 111. At depth 2 the first parent's points are 001 and 010; 100, of the second, is smaller
+pub second-parent : walked (problem 3 7 [] (clause 0 3 ∷ clause 0 6 ∷ clause 0 5 ∷ [])) 8 .reply ≡ satisfiable 1 2 6
+unfolding walked numberedFrom
+second-parent = refl

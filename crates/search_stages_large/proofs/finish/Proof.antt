@@ -1,14 +1,14 @@
--- `search_stages::finish` meets its contract: with a head for each slot that can be lent it does not pause. Assumes
+-- `search_stages_large::finish` meets its contract: with a head for each slot that can be lent it does not pause. Assumes
 -- nothing.
 use mathlib.Core.Path.{_≡_, refl, sym, _∙_}
 use native.Mathlib.Nat.{le-of-eq, le-trans}
 use Prim.Native.Nat.{ℕ}
 use lib.ListN.{length, length-replicate}
 use Rattle.formula.specs.Limits.{maxSlots}
-use Rattle.search_stages.specs.Laws.StageLaws.{numbers-carried, stage-blank, stage-answered, stage-last}
+use Rattle.search_indexed.specs.Laws.StageLaws.{numbers-carried, stage-blank, stage-answered, stage-last}
 use borrow.Author.Needs.{needs}
-use Rattle.search_stages.proofs.finish.Statement.{statement}
-use Rattle.search_stages.proofs.finish.Tie as tie
+use Rattle.search_stages_large.proofs.finish.Statement.{statement}
+use Rattle.search_stages_large.proofs.finish.Tie as tie
 
 carry-requires : tie.Need-carry-requires
 carry-requires c κs = (c .before .before .before .before .before .before .before .before .pre .3 .enough, c .before .before .before .before .before .before .before .before .pre .3 .room)

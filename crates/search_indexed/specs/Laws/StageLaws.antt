@@ -30,7 +30,7 @@ use Rattle.search_step.specs.Laws.Stepping.{replyOfConclusion, framed, Searchab
 use Rattle.search_step.specs.Laws.Stepping.{Ended}
 use Rattle.search_loop.specs.Laws.Exploring.{Walking, Numbers, Explores, Concludes}
 use Rattle.search_loop.specs.Laws.WalkingLaws.{walking-midway, walking-answers, midway-room}
-use Rattle.search_stages.specs.declared.Answer.{Answer}
+use Rattle.search_indexed.specs.declared.Answer.{Answer}
 
 -- F10: what the code's answer says in document 01's terms
 abbrev pub replyOfAnswer : Answer → Reply

@@ -1,4 +1,4 @@
--- `search_stages::resume` meets its contract: where it pauses, the last stage answers for both. It pauses only where
+-- `search_stages_large::resume` meets its contract: where it pauses, the last stage answers for both. It pauses only where
 -- more slots are lent than it has heads for, so that it never calls itself, and any measure will do. Assumes nothing.
 use mathlib.Core.Path.{_≡_, refl, sym, _∙_}
 use native.Mathlib.Nat.{le-of-eq, le-trans}
@@ -10,16 +10,16 @@ use borrow.Author.Needs.{needs}
 use borrow.Fn.Kinds.{In}
 use borrow.Fn.PlainCycle.{Measures, is, falls, and}
 use Rattle.search_expansion.specs.Laws.FillingLaws.{lends-still}
-use Rattle.search_stages.specs.Laws.StageLaws.{manyHeads, numbers-carried, stage-blank, stage-answered}
-use Rattle.search_stages.specs.Laws.StageLaws.{stage-midway, stage-followed, stage-carries, stage-roomy}
-use Rattle.search_stages.proofs.resume.Reads as resume
-use Rattle.search_stages.proofs.resume.Kinds as resume-kinds
-use Rattle.search_stages.proofs.carry.Reads as carry
-use Rattle.search_stages.proofs.explore_with.Reads as explore-with
-use Rattle.search_stages.proofs.finish.Reads as finish
-use Rattle.search_stages.proofs.+resume.Lts-resume as lts
-use Rattle.search_stages.proofs.+resume.{statement}
-use Rattle.search_stages.proofs.+resume.Tie.{close}
+use Rattle.search_indexed.specs.Laws.StageLaws.{manyHeads, numbers-carried, stage-blank, stage-answered}
+use Rattle.search_indexed.specs.Laws.StageLaws.{stage-midway, stage-followed, stage-carries, stage-roomy}
+use Rattle.search_stages_large.proofs.resume.Reads as resume
+use Rattle.search_stages_large.proofs.resume.Kinds as resume-kinds
+use Rattle.search_indexed.proofs.carry.Reads as carry
+use Rattle.search_indexed.proofs.explore_with.Reads as explore-with
+use Rattle.search_stages_large.proofs.finish.Reads as finish
+use Rattle.search_stages_large.proofs.+resume.Lts-resume as lts
+use Rattle.search_stages_large.proofs.+resume.{statement}
+use Rattle.search_stages_large.proofs.+resume.Tie.{close}
 
 abbrev μ-resume : Measures 7 resume-kinds.ps ℕ
 μ-resume κs a = 0

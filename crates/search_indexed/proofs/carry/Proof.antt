@@ -1,11 +1,11 @@
--- `search_stages::carry` meets its contract: the first i numbers are there, the others as they were. Assumes nothing.
+-- `search_indexed::carry` meets its contract: the first i numbers are there, the others as they were. Assumes nothing.
 use mathlib.Core.Path.{_≡_}
 use Prim.Native.Nat.{_-_}
 use lib.ListN.{length}
 use borrow.Author.Needs.{needs}
 use Rattle.math.specs.Laws.OverLaws.{Copying, copying-begins, copying-goes-on, copying-ends}
-use Rattle.search_stages.proofs.carry.Statement.{statement}
-use Rattle.search_stages.proofs.carry.Tie as tie
+use Rattle.search_indexed.proofs.carry.Statement.{statement}
+use Rattle.search_indexed.proofs.carry.Tie as tie
 
 abbrev Inv-loop : tie.InvT-loop
 Inv-loop earlier found₀ count i₀ found i = Copying count earlier found₀ i found × (length found ≡ length found₀)

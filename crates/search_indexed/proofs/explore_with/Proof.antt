@@ -1,10 +1,10 @@
--- `search_stages::explore_with` meets its contract: the links become an index of the filled points, and exploring goes
+-- `search_indexed::explore_with` meets its contract: the links become an index of the filled points, and exploring goes
 -- on with it. Assumes nothing.
 use native.Mathlib.Nat.{le-refl}
-use Rattle.search_stages.specs.Laws.StageLaws.{stage-indexable, stage-linked, searchable-headed}
+use Rattle.search_indexed.specs.Laws.StageLaws.{stage-indexable, stage-linked, searchable-headed}
 use borrow.Author.Needs.{needs}
-use Rattle.search_stages.proofs.explore_with.Statement.{statement}
-use Rattle.search_stages.proofs.explore_with.Tie as tie
+use Rattle.search_indexed.proofs.explore_with.Statement.{statement}
+use Rattle.search_indexed.proofs.explore_with.Tie as tie
 
 index-points-requires : tie.Need-index-points-requires
 index-points-requires c κs = let pre = c .before .before .before .before .before .before .before .before .before .before .pre in stage-indexable _ _ _ (pre .0) (pre .2) (pre .1) (pre .3) (pre .5)
