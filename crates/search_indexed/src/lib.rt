@@ -2,12 +2,12 @@
 // and the numbers found carried from one to the next. The stages stand in `search_stages` and `search_stages_large`.
 use check_distinct::index_points;
 use permutation_coverage::Lookup;
-use point_slices::number_at;
-use point_slices::put_number;
 use points::Depth;
 use points::Point;
 use search_expansion::Frame;
 use search_level::Position;
+use search_level::keep;
+use search_level::kept_at;
 use search_loop::Explored;
 use search_loop::explore;
 use search_step::Conclusion;
@@ -31,14 +31,14 @@ pub struct Answer {
 
 // The numbers found for the first `count` slots, from one stage to the next. One step a slot. The stages see to the
 // room.
-pub fn carry(earlier: &[u32], found: &mut [u32], count: usize)
+pub fn carry(earlier: &[u16], found: &mut [u16], count: usize)
     requires { ⌜ (count ≤ length (now earlier)) × (count ≤ length (now found)) ⌝ }
     ensures { λ _. ⌜ now (found .exit) ≡ over (take count (now (earlier .entry))) (now (found .entry)) ⌝ }
 {
     let mut i = 0;
     while i < count {
-        let number = number_at(earlier, i);
-        put_number(found, i, number);
+        let number = kept_at(earlier, i);
+        keep(found, i, number);
         i += 1;
     }
 }
@@ -54,7 +54,7 @@ pub fn explore_with(
     falsified: &mut [u32],
     depths: &mut [Depth],
     links: &mut [u32],
-    found: &mut [u32],
+    found: &mut [u16],
     from: Position,
 ) -> Explored
     requires { ⌜ Searchable g (now images) (lentClauses (now positive) (now negative))

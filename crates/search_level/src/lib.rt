@@ -3,10 +3,10 @@
 use point_slices::first_falsified;
 use point_slices::number_at;
 use point_slices::point_at;
-use point_slices::put_number;
 use points::Depth;
 use points::Point;
 ghost use mathlib.Core.Path.{_≡_};
+ghost use lib.ListN.{getD, set};
 ghost use Rattle.point_slices.specs.Laws.Contracts.{lentClauses};
 ghost use Rattle.point_slices.specs.Slices.{pointsOf};
 ghost use Rattle.search_level.specs.Laws.Testing.{opensAt, Better, Testable, Scans, Found, Tests};
@@ -21,6 +21,22 @@ pub struct Position {
 pub struct Level {
     pub met: bool,
     pub point: Point,
+}
+
+// The number kept for the slot of index i, 0 past the end. No clause has a number that 16 bits do not hold.
+pub fn kept_at(found: &[u16], i: usize) -> u16
+    ensures { λ r. ⌜ r ≡ getD (now (found .entry)) i 0 ⌝ }
+{
+    if i < found.len() { found[i] } else { 0 }
+}
+
+// Keeps a number for the slot of index i; past the end none is kept.
+pub fn keep(found: &mut [u16], i: usize, number: u16)
+    ensures { λ _. ⌜ now (found .exit) ≡ set (now (found .entry)) i number ⌝ }
+{
+    if i < found.len() {
+        found[i] = number;
+    }
 }
 
 // Whether the slot of index `at` is the first of its depth: depths ascend, so the one before it tells.
@@ -58,7 +74,7 @@ fn test_slots(
     positive: &[u64],
     negative: &[u64],
     points: &[u64],
-    found: &mut [u32],
+    found: &mut [u16],
     at: usize,
     filled: usize,
 ) -> Level
@@ -74,7 +90,7 @@ fn test_slots(
     while i < filled {
         let x = point_at(points, i);
         let number = first_falsified(positive, negative, x);
-        put_number(found, i, number as u32);
+        keep(found, i, number as u16);
         best = better(best, x, number);
         i += 1;
     }
@@ -89,7 +105,7 @@ pub fn test_level(
     negative: &[u64],
     points: &[u64],
     depths: &[Depth],
-    found: &mut [u32],
+    found: &mut [u16],
     position: Position,
 ) -> Level
     requires { ⌜ Testable (lentClauses (now positive) (now negative)) (pointsOf (now points)) (now found)

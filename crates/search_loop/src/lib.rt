@@ -2,13 +2,13 @@
 // every new depth the level is tested first.
 use formula::Formula;
 use permutation_coverage::move_images;
-use point_slices::number_at;
 use point_slices::point_at;
 use points::Depth;
 use points::Point;
 use search_expansion::Frame;
 use search_level::Level;
 use search_level::Position;
+use search_level::kept_at;
 use search_level::test_level;
 use search_step::Conclusion;
 use search_step::Step;
@@ -108,7 +108,7 @@ pub fn explore(
     falsified: &mut [u32],
     depths: &mut [Depth],
     links: &mut [u32],
-    found: &mut [u32],
+    found: &mut [u16],
     from: Position,
 ) -> Explored
     requires { ⌜ Searchable g (now images) (lentClauses (now positive) (now negative))
@@ -138,7 +138,7 @@ pub fn explore(
         let x = point_at(points, position.at);
         move_images(by.variables, by.permutations, images, &mut moved, seen, x);
         seen = x;
-        let number = number_at(found, position.at);
+        let number = kept_at(found, position.at) as u32;
         let turn = Turn { position, number };
         let step = process(
             g,

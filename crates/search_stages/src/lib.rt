@@ -37,7 +37,7 @@ fn proceed(
     points: &mut [u64],
     falsified: &mut [u32],
     depths: &mut [Depth],
-    earlier: &[u32],
+    earlier: &[u16],
     from: Position,
 ) -> Answer
     requires { ⌜ Searchable g (now images) (lentClauses (now positive) (now negative))
@@ -52,7 +52,7 @@ fn proceed(
         (slotSlices (now (points .exit)) (now (falsified .exit)) (now (depths .exit))) ⌝ }
 {
     let mut links = [0u32; 3 * FEW_HEADS];
-    let mut found = [0u32; FEW_HEADS];
+    let mut found = [0u16; FEW_HEADS];
     carry(earlier, &mut found, from.filled);
     let explored = explore_with(
         g,
@@ -110,7 +110,7 @@ pub fn start(
     fill(points, falsified, depths, 0, first);
     let from = Position { at: 0, filled: 1 };
     let mut links = [0u32; 3 * TINY_HEADS];
-    let mut found = [0u32; TINY_HEADS];
+    let mut found = [0u16; TINY_HEADS];
     let explored = explore_with(
         g,
         images,

@@ -29,13 +29,13 @@ point-at-requires c κs = search needs
 first-falsified-requires : tie.Need-first-falsified-requires Inv-loop μ-loop
 first-falsified-requires c κs = search needs
 
-cast-put-number : tie.Need-cast-put-number Inv-loop μ-loop
-cast-put-number c =
+cast-keep : tie.Need-cast-keep Inv-loop μ-loop
+cast-keep c =
     let a = c .before .before .before .before .before .before .before .before .before .args in
     omega (arith, c .before .first-falsified .ensures, falsified-le (lentClauses (a .positive .now) (a .negative .now)) (c .before .before .point-at .result) 0, c .before .before .before .before .before .before .before .before .before .pre .few-clauses)
 
-put-number-requires : tie.Need-put-number-requires Inv-loop μ-loop
-put-number-requires c κs = search needs
+keep-requires : tie.Need-keep-requires Inv-loop μ-loop
+keep-requires c κs = search needs
 
 better-requires : tie.Need-better-requires Inv-loop μ-loop
 better-requires c κs = search needs
@@ -44,7 +44,7 @@ loop-again : tie.Need-loop-again Inv-loop μ-loop
 loop-again c =
     let inv = c .before .before .before .before .before .before .before .before .loop .inv in
     let pre = c .before .before .before .before .before .before .before .before .before .before .before .before .before .pre in (
-      scans-on _ _ _ (inv .0) (inv .1) (omega (arith, pre .enough, c .before .before .before .before .before .before .before .loop-test .taken)) (omega (arith, pre .room, inv .3, c .before .before .before .before .before .before .before .loop-test .taken)) (c .before .before .before .before .before .before .point-at .ensures) (c .before .before .before .before .before .first-falsified .ensures) (c .before .before .before .put-number .ensures) (c .better .ensures),
+      scans-on _ _ _ (inv .0) (inv .1) (omega (arith, pre .enough, c .before .before .before .before .before .before .before .loop-test .taken)) (omega (arith, pre .room, inv .3, c .before .before .before .before .before .before .before .loop-test .taken)) (c .before .before .before .before .before .before .point-at .ensures) (c .before .before .before .before .before .first-falsified .ensures) (c .before .before .before .keep .ensures) (c .better .ensures),
       omega (arith, inv .1),
       omega (arith, c .before .before .before .before .before .before .before .loop-test .taken),
       search needs,
@@ -65,8 +65,8 @@ test-slots-spec =
     loop-holds
     point-at-requires
     first-falsified-requires
-    cast-put-number
-    put-number-requires
+    cast-keep
+    keep-requires
     better-requires
     (λ c. search needs)
     (λ c. search needs)

@@ -128,8 +128,8 @@ move-images-requires : tie.Need-move-images-requires Inv-loop μ-loop
 move-images-requires c κs =
     (c .before .before .before .before .before .before .before .before .before .before .before .before .before .before .before .before .before .before .before .before .before .before .before .before .pre .0 .permuting, c .before .before .before .before .before .before .before .before .before .before .before .before .before .before .loop .inv .4, subst (λ (y : ℕ). y < 2 ^ c .before .before .before .before .before .before .before .before .before .before .before .before .before .before .before .before .before .before .before .before .before .before .before .before .args .g .lookup .variables) (sym (c .before .point-at .ensures)) (next-narrow _ _ _ (c .before .before .before .before .before .before .before .before .before .before .before .before .before .before .before .before .before .before .before .before .before .before .before .before .pre .0) (c .before .before .before .before .before .before .before .before .before .before .before .before .if1 .taken) (midway (c .before .before .before .before .before .before .before .before .before .before .before .before .before .before))))
 
-number-at-requires : tie.Need-number-at-requires Inv-loop μ-loop
-number-at-requires c κs = search needs
+kept-at-requires : tie.Need-kept-at-requires Inv-loop μ-loop
+kept-at-requires c κs = search needs
 
 slice-aggregate-process : tie.Need-slice-aggregate-process Inv-loop μ-loop
 slice-aggregate-process c = sym (c .before .before .before .before .before .before .before .before .move-images .kept .1 .1 .1 .0 ∙ c .before .before .before .before .before .before .before .before .before .before .before .before .before .before .before .before .before .before .before .before .before .before .before .loop .inv .3)
@@ -147,7 +147,7 @@ process-requires c κs =
       headed-still (a .g) _ _ (c .before .before .before .before .before .before .before .before .before .before .before .before .before .before .before .before .before .before .before .before .outgrown .ensures) (c .before .before .before .before .before .before .before .before .before .before .before .before .before .before .before .before .before .before .before .if2 .left),
       subst (λ (y : ℕ). Imaged (a .g .lookup .variables) (a .g .lookup .permutations) (a .images .now) y (pointsOf (c .before .before .before .before .before .before .before .before .move-images .last .1 .1 .1 .0))) (c .before .before .before .before .before .before .before .before .before .before .point-at .ensures) (c .before .before .before .before .before .before .before .before .move-images .ensures),
       level-unmet _ _ _ (pre .0) _ (c .before .before .before .before .before .before .before .before .before .before .before .before .before .before .before .before .before .before .before .before .before .before .before .loop .position) (c .before .before .before .before .before .before .before .before .before .before .before .before .before .before .before .test-level .ensures) (c .before .before .before .before .before .before .before .before .before .before .before .before .if3 .left),
-      c .before .before .before .before .before .number-at .ensures ∙ next-number _ _ _ (pre .0) (slotSlices (c .before .before .before .before .before .before .before .before .before .before .before .before .before .before .before .before .before .before .before .before .before .before .before .loop .points) (c .before .before .before .before .before .before .before .before .before .before .before .before .before .before .before .before .before .before .before .before .before .before .before .loop .falsified) (c .before .before .before .before .before .before .before .before .before .before .before .before .before .before .before .before .before .before .before .before .before .before .before .loop .depths)) (c .before .before .before .before .before .before .before .before .before .before .before .before .before .before .before .before .before .before .before .before .before .before .before .loop .position) (c .before .before .before .before .before .before .before .before .before .before .before .before .before .before .before .test-level .ensures) (c .before .before .before .before .before .before .before .before .before .before .before .before .before .before .before .before .before .before .before .before .before .if1 .taken),
+      c .before .before .before .before .before .kept-at .ensures ∙ next-number _ _ _ (pre .0) (slotSlices (c .before .before .before .before .before .before .before .before .before .before .before .before .before .before .before .before .before .before .before .before .before .before .before .loop .points) (c .before .before .before .before .before .before .before .before .before .before .before .before .before .before .before .before .before .before .before .before .before .before .before .loop .falsified) (c .before .before .before .before .before .before .before .before .before .before .before .before .before .before .before .before .before .before .before .before .before .before .before .loop .depths)) (c .before .before .before .before .before .before .before .before .before .before .before .before .before .before .before .before .before .before .before .before .before .before .before .loop .position) (c .before .before .before .before .before .before .before .before .before .before .before .before .before .before .before .test-level .ensures) (c .before .before .before .before .before .before .before .before .before .before .before .before .before .before .before .before .before .before .before .before .before .if1 .taken),
     )
 
 -- the slices are as long as at the entry
@@ -240,7 +240,8 @@ explore-spec =
     point-at-requires
     slice-aggregate-move-images
     move-images-requires
-    number-at-requires
+    kept-at-requires
+    (λ c. search needs)
     slice-aggregate-process
     process-requires
     add-next
