@@ -1,15 +1,19 @@
 // How much of the stack calls take that need little of it: a small search with 4,096 slots, the check of a file that is
-// refused by 14, and writing a sheet, the largest too. Prints a line a case and a count; exit status 1 if one takes 64
-// KiB or more, or writing a sheet more than include/jugbowo.h says.
+// refused by 14, and writing a sheet, the largest too; and a search that fills all slots that there can be, in both
+// forms. Prints a line a case and a count; exit status 1 if one of the first two takes 64 KiB or more, or another more
+// than include/jugbowo.h says.
 mod depth;
 mod library;
 mod sheets;
-use library::{Count, REFUSED, SHEET_ROOM, UNSATISFIABLE, WRITTEN};
-use sheets::{formula_a, sheet};
+use library::{Count, Slot, REFUSED, SHEET_ROOM, UNSATISFIABLE, WRITTEN};
+use sheets::{cube, formula_a, sheet};
 
 const MOST: usize = 64 << 10;
 // What the header says of jugbowo_write_sheet.
 const MOST_WRITING: usize = 8 << 10;
+// What it says of jugbowo_search and jugbowo_search_slots.
+const MOST_SEARCHING: usize = 1 << 20;
+const MOST_OVER_SLOTS: usize = 2 << 20;
 
 // A call whose reply begins with these words and that takes less than so many bytes.
 fn takes_less(count: &mut Count, name: &str, words: &[u64], most: usize, task: &mut dyn FnMut(&mut [u64; 4]) -> u32) {
@@ -39,6 +43,19 @@ fn writing(count: &mut Count) {
     }
 }
 
+// A search with as many variables, permutations and slots as there can be, over three slices and over one of structs.
+fn searching(count: &mut Count) {
+    let large = sheet(64, &cube(48), &vec![(1..=64).collect(); 16]);
+    let (mut points, mut numbers, mut depths) = (vec![0; 65536], vec![0; 65536], vec![0; 65536]);
+    takes_less(count, "the largest search", &[UNSATISFIABLE, 65536], MOST_SEARCHING, &mut |reply| {
+        library::search(&large, &mut points, &mut numbers, &mut depths, reply)
+    });
+    let mut slots = vec![Slot { point: 0, falsified: 0, depth: 0 }; 65536];
+    takes_less(count, "the largest search over slots", &[UNSATISFIABLE, 65536], MOST_OVER_SLOTS, &mut |reply| {
+        library::search_slots(&large, &mut slots, reply)
+    });
+}
+
 fn main() {
     let mut count = Count::new();
     let s = sheet(2, &formula_a(), &[vec![2, 1]]);
@@ -50,5 +67,6 @@ fn main() {
         library::check(&s, &[0; 31], reply)
     });
     writing(&mut count);
+    searching(&mut count);
     count.finish("stack");
 }

@@ -1,5 +1,6 @@
--- Document 01, 'Sheets to try': the cases marked *, one list under one proposition (G.d: "Cases marked * are theorems,
--- gathered as a list under one proposition"). Points are written as numbers: name 1 is bit 0. Assumes nothing.
+-- Document 01, 'Sheets to try', as request 2026-03 has them: the cases marked *, one list under one proposition (G.d:
+-- "Cases marked * are theorems, gathered as a list under one proposition"). Points are written as numbers: name 1 is
+-- bit 0. Assumes nothing.
 use mathlib.Core.Bool.{Bool, true, _&&_}
 use mathlib.Core.List.{List, [], _∷_}
 use mathlib.Core.Option.{Option, some, none}

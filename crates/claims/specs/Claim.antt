@@ -82,7 +82,7 @@ InSlots s slots filled y = y ∈ take filled (searchSlices (formulaIn s) (slices
 abbrev pub OnSheet : ℕ → Type 0
 OnSheet y = Unit {0}
 
--- two problems with the same n, wish and set of rules, in whatever order
+-- two problems with the same n, wish and set of rules, in whatever order and however often each stands
 pub record SameRules (a b : Problem) : Type 0 where
   pub variables : a .variables ≡ b .variables
   pub target : a .target ≡ b .target
@@ -122,6 +122,7 @@ pub record Claim : Type 0 where
       → Unsatisfiable (problemOf f clauses)
   -- D3.7: "'No room' carries a number d, and every choice that meets the rules differs from the wish in at least d
   -- names."
+  -- Q03.4: "the depth being processed plus one, which every choice meeting the rules still reaches"
   pub bound : (s : Sheet) (slots : SlotSlices) (b filled : ℕ) → SearchAnswers s slots (unknown b filled)
       → AtLeast (problemIn s) b
   -- D3.8: "Where 2^n is at most 65,536 and at least 2^n slots are lent, it is never said."
@@ -138,7 +139,7 @@ pub record Claim : Type 0 where
       → problemIn s .permutations ≡ [] → SmallestIn OnSheet (problemIn s) d x
   -- Q03.1: "Editors of series want the same house choice each time, however the client ordered the rules.": without
   -- exchanges, where both sheets are met, with whatever slots
-  pub same-choice : (s t : Sheet) (slots lent : SlotSlices) (x d filled y e used : ℕ)
-      → SearchAnswers s slots (satisfiable x d filled) → SearchAnswers t lent (satisfiable y e used)
+  pub same-choice : (s t : Sheet) (slots₁ slots₂ : SlotSlices) (x d filled₁ y e filled₂ : ℕ)
+      → SearchAnswers s slots₁ (satisfiable x d filled₁) → SearchAnswers t slots₂ (satisfiable y e filled₂)
       → problemIn s .permutations ≡ [] → problemIn t .permutations ≡ [] → SameRules (problemIn s) (problemIn t)
       → (x ≡ y) × (d ≡ e)

@@ -28,7 +28,7 @@ const TINY_HEADS: usize = 128;
 
 const FEW_HEADS: usize = 512;
 
-// The second stage: up to 512 slots, 8 KiB of links and numbers.
+// The second stage: up to 512 slots, 7 KiB of links and numbers.
 fn proceed(
     g: Frame,
     images: &[u8],
@@ -84,7 +84,7 @@ fn proceed(
     }
 }
 
-// W3: stores the target in the first slot and searches from there; up to 128 slots in the first stage, 2 KiB of
+// W3: stores the target in the first slot and searches from there; up to 128 slots in the first stage, 1.75 KiB of
 // links and numbers. `search::search` sees to what it requires, by refusals 10 to 13.
 pub fn start(
     g: Frame,

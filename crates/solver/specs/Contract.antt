@@ -63,6 +63,7 @@ pub record Promises (s : Sheet) (slots : SlotSlices) (t : SolverReply) (out₀ o
       → Unsatisfiable (problemIn s)
   -- D3.7: "'No room' carries a number d, and every choice that meets the rules differs from the wish in at least d
   -- names."
+  -- Q03.4: "the depth being processed plus one, which every choice meeting the rules still reaches"
   pub bound : (b filled : ℕ) → t .reply ≡ unknown b filled → AtLeast (problemIn s) b
   -- D3.8: "Where 2^n is at most 65,536 and at least 2^n slots are lent, it is never said."
   pub enough-room : (b filled : ℕ) → 2 ^ problemIn s .variables ≤ maxSlots

@@ -21,7 +21,7 @@ abbrev μ-loop : tie.MeasureT-loop
 μ-loop positive negative points found₀ at filled best₀ i₀ found best i = filled - i
 
 loop-holds : tie.Need-loop-holds Inv-loop μ-loop
-loop-holds c = (scans-begin _ _ _ _ _ (le-trans (c .before .before .before .before .pre .some) (c .before .before .before .before .pre .enough)), search needs, c .before .before .before .before .pre .some, search needs)
+loop-holds c = (scans-begin _ _ _ _ _ (le-trans (c .before .before .before .before .pre .ordered) (c .before .before .before .before .pre .enough)), search needs, c .before .before .before .before .pre .ordered, search needs)
 
 point-at-requires : tie.Need-point-at-requires Inv-loop μ-loop
 point-at-requires c κs = search needs

@@ -26,7 +26,7 @@ abbrev pub Best : List Clause → List ℕ → Bool → ℕ → Type 0
 Best clauses l true x = Smallest (numbered clauses) l x
 Best clauses l false x = NoneSatisfies (numbered clauses) l
 
--- the best of any points, and of those and the point y
+-- whatever points have the best (met₀, x₀): with y, whose first falsified clause is `number`, theirs is (met, x)
 abbrev pub Better : Bool → ℕ → ℕ → ℕ → Bool → ℕ → Type 0
 Better met₀ x₀ y number met x = (clauses : List Clause) (l : List ℕ) → number ≡ numberFor clauses y
     → Best clauses l met₀ x₀ → Best clauses (l ++ y ∷ []) met x
@@ -35,10 +35,10 @@ Better met₀ x₀ y number met x = (clauses : List Clause) (l : List ℕ) → n
 abbrev pub NumberFound : List Clause → List ℕ → List ℕ → ℕ → Type 0
 NumberFound clauses points found i = getD found i 0 ≡ numberFor clauses (getD points i 0)
 
--- there are such slots, with a number each
+-- such slots lie within the slices, with room for a number each
 pub record Testable (clauses : List Clause) (points found : List ℕ) (at filled : ℕ) : Type 0 where
   pub few-clauses : length clauses ≤ maxClauses
-  pub some : at ≤ filled
+  pub ordered : at ≤ filled
   pub enough : filled ≤ length points
   pub room : filled ≤ length found
 

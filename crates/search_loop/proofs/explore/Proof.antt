@@ -89,7 +89,7 @@ test-level-requires : tie.Need-test-level-requires Inv-loop μ-loop
 test-level-requires c κs = (
   record {
     few-clauses = c .before .before .before .before .before .before .before .before .before .before .before .before .before .before .before .before .before .pre .0 .few-clauses;
-    some = le-of-lt (c .before .before .before .before .before .if1 .taken);
+    ordered = le-of-lt (c .before .before .before .before .before .if1 .taken);
     enough = le-trans (few (c .before .before .before .before .before .before .before)) (lends (c .before .before .before .before .before .before .before) .points-room);
     room = le-trans (headed (c .before .before .before .before .before .before .before)) (le-trans (c .before .before .before .before .before .before .before .before .before .before .before .before .before .before .before .before .before .pre .4) (le-of-eq (sym (c .before .before .before .before .before .before .before .loop .inv .2))));
   },
