@@ -1,5 +1,7 @@
 // The certificate (01: 'Certificate'): its bytes, the reader of files and of their three bodies, and what the writer
 // answers.
+#![tactic(auto)]
+
 ghost use Rattle.std.specs.Prelude.{◌≡◌, ◌≤◌, length};
 ghost use Rattle.certificate.specs.Certificate.{contents_length, contents_of, fitting};
 ghost use Rattle.certificate.specs.Contract.{contents_in, OpenedAs};

@@ -1,4 +1,6 @@
 // Numbers, contents and bodies of a certificate stored into lent bytes, each at its place.
+#![tactic(auto)]
+
 ghost use mathlib.Core.List.{[], ◌∷◌, flat_map};
 ghost use Rattle.std.specs.Prelude.{◌≡◌, ◌+◌, ◌*◌, ◌/◌, ◌%◌, ◌^◌, ◌≤◌, length, take};
 ghost use Rattle.math.specs.Lists.{spliced};

@@ -1,4 +1,6 @@
 // The writer: puts the certificate of a formula and of filled slots into lent bytes.
+#![tactic(auto)]
+
 ghost use Rattle.std.specs.Prelude.{◌≡◌, ◌≤◌, length};
 ghost use Rattle.math.specs.Lists.{over};
 ghost use Rattle.point_slices.specs.Laws.Contracts.{lent_clauses};

@@ -1,5 +1,7 @@
 // Refusal 16 by an index of the points: whether each point has no bit at n or above and is new. The checker goes on
 // with the index, the writer does not; the search indexes the slots that it has filled by the same loop.
+#![tactic(auto)]
+
 ghost use Rattle.std.specs.Prelude.{◌≡◌};
 ghost use Rattle.point_slices.specs.Slices.{points_of};
 ghost use Rattle.formula.specs.Limits.{max_slots};

@@ -1,4 +1,6 @@
 // Refusals 16, 17 and 18 of a certificate's points and clause numbers, which are copied out of their bodies first.
+#![tactic(auto)]
+
 ghost use Rattle.std.specs.Prelude.{◌≡◌, take};
 ghost use Rattle.point_slices.specs.Laws.Contracts.{lent_clauses};
 ghost use Rattle.points.specs.Points.{numbered};

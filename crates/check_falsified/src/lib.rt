@@ -1,5 +1,7 @@
 // Refusal 17, for the writer and the checker: whether each point has the number of a clause that it falsifies.
 // Document 002 calls the map from points to such clauses a transport function.
+#![tactic(auto)]
+
 ghost use Rattle.std.specs.Prelude.{◌≡◌};
 ghost use Rattle.math.specs.Lists.{first_failing, below};
 ghost use Rattle.point_slices.specs.Laws.Contracts.{lent_clauses};

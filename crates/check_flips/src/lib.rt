@@ -1,5 +1,7 @@
 // Refusal 18: whether each flip of a point by a variable of its clause is covered by the points, modulo the listed
 // permutations.
+#![tactic(auto)]
+
 ghost use Rattle.std.specs.Prelude.{◌≡◌, ◌≤◌, ◌<◌, ◌^◌, length, take};
 ghost use Rattle.math.specs.Bits.{flip};
 ghost use Rattle.math.specs.Lists.{first_failing, below};

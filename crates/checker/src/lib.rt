@@ -1,4 +1,6 @@
 // The checker (01: 'Checker'): whether a file is a certificate that no point satisfies the clauses.
+#![tactic(auto)]
+
 ghost use Rattle.std.specs.Prelude.{List, ◌≡◌, ℕ, ◌≤◌};
 ghost use Rattle.point_slices.specs.Laws.Contracts.{lent_clauses};
 ghost use Rattle.points.specs.Points.{numbered};

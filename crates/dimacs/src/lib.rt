@@ -1,5 +1,7 @@
 // The reader: for any bytes a formula and its clauses, or a numbered refusal with its place. It tests the size of the
 // text, its problem line, its limits and the room, then reads the lines.
+#![tactic(auto)]
+
 ghost use Rattle.std.specs.Prelude.{◌≡◌, ◌≤◌, ◌-◌, length, take, drop};
 ghost use Rattle.point_slices.specs.Slices.{clause_slices, clause_room};
 ghost use Rattle.dimacs_format.specs.Reader.{with_sizes};

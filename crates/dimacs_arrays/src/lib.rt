@@ -1,4 +1,6 @@
 // The arrays in which the clauses of a text are collected, in sizes that follow how many there are to be.
+#![tactic(auto)]
+
 ghost use Rattle.std.specs.Prelude.{◌≤◌, length};
 ghost use Rattle.point_slices.specs.Slices.{clause_slices};
 ghost use Rattle.dimacs_format.specs.Reader.{text_says};

@@ -1,4 +1,6 @@
 // The body of a text: the lines behind the problem line, one after the other, up to the end of the sheet.
+#![tactic(auto)]
+
 ghost use Rattle.std.specs.Prelude.{true, false, ◌≡◌, ◌≤◌, length};
 ghost use Rattle.point_slices.specs.Slices.{clause_slices};
 ghost use Rattle.dimacs_format.specs.Text.{max_text, piece, is_comment};

@@ -1,4 +1,6 @@
 // The words of the lines that are no comments: literals, and the zeros that close clauses.
+#![tactic(auto)]
+
 ghost use Rattle.std.specs.Prelude.{false, ◌≡◌, ◌+◌, ◌≤◌, ◌<◌, length, get_or};
 ghost use Rattle.point_slices.specs.Slices.{clause_slices};
 ghost use Rattle.dimacs_format.specs.Text.{ends_line};

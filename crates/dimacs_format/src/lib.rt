@@ -1,5 +1,6 @@
 // The text format, DIMACS CNF: which texts are accepted, what they say, and what the reader answers. No function: its
 // specs/ are cited by the reader.
+#![tactic(auto)]
 
 // What the problem line says: n and C.
 #[derive(Drop)]

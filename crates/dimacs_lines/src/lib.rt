@@ -1,4 +1,6 @@
 // The reader's answer to the lines behind the problem line: clauses are collected apart until the text is accepted.
+#![tactic(auto)]
+
 ghost use Rattle.std.specs.Prelude.{List, ◌≡◌, ℕ, ◌≤◌, length};
 ghost use Rattle.std.proofs.Math.Option.{get_or};
 ghost use Rattle.point_slices.specs.Slices.{points_of, clause_slices};

@@ -1,4 +1,6 @@
 // The lines of a formula's text put into lent bytes, as far as these reach: the target, the permutations, the clauses.
+#![tactic(auto)]
+
 ghost use Rattle.std.specs.Prelude.{true, cond, ◌||◌, ◌≡◌, ◌+◌, ◌*◌, ◌^◌, ◌≤◌, ◌<◌, length};
 ghost use mathlib.Core.List.{◌++◌, flat_map};
 ghost use Rattle.math.specs.Bits.{bit};

@@ -1,5 +1,7 @@
 // The comment that gives a permutation: a function from what its lines have said so far to what they say with one more,
 // and the readers of its contents. They are handed what stands behind the head of the line.
+#![tactic(auto)]
+
 ghost use Rattle.std.specs.Prelude.{◌≡◌, ◌+◌, ◌≤◌, ◌<◌, length};
 ghost use Rattle.formula.specs.Limits.{max_variables};
 ghost use Rattle.dimacs_permutations.specs.Laws.PermutationScans.{Imaging, image_made, Storing, Permuting};

@@ -1,4 +1,6 @@
 // The problem line: where it stands in a text, and what it says.
+#![tactic(auto)]
+
 ghost use Rattle.std.specs.Prelude.{◌≡◌, ◌≤◌, length};
 ghost use Rattle.dimacs_format.specs.Reader.{problem_in, is_skipped};
 ghost use Rattle.dimacs_format.specs.Text.{piece, same_bytes};

@@ -1,5 +1,7 @@
 // The comment that gives the target: a function from what its lines have said so far to what they say with one more,
 // and the reader of its contents. They are handed what stands behind the head of the line.
+#![tactic(auto)]
+
 ghost use Rattle.std.specs.Prelude.{◌≡◌, ◌≤◌, ◌<◌, length};
 ghost use Rattle.points.specs.Points.{point_digits};
 ghost use Rattle.formula.specs.Limits.{max_variables};

@@ -1,4 +1,6 @@
 // The bytes of a text: blanks and digits, runs of bytes, and words read as numbers.
+#![tactic(auto)]
+
 ghost use Rattle.std.specs.Prelude.{◌≡◌, ◌≤◌, length, drop};
 ghost use Rattle.math.specs.Lists.{any};
 ghost use Rattle.dimacs_format.specs.Text.{ends_line, is_blank, is_digit, all_blank, number_in, begins};

@@ -1,5 +1,7 @@
 // The writer of texts: puts a formula with its clauses into lent bytes, as a text that the reader gives back as the
 // same formula and clauses.
+#![tactic(auto)]
+
 ghost use Rattle.std.specs.Prelude.{◌≡◌, length};
 ghost use Rattle.point_slices.specs.Slices.{clause_slices};
 ghost use Rattle.formula.specs.Laws.Contracts.{formula_with};

@@ -1,4 +1,6 @@
 // Formulas as numbers and bytes in lent slices, and the reader's answer beside them, for programs in other languages.
+#![tactic(auto)]
+
 ghost use Rattle.std.specs.Prelude.{◌≡◌, ◌≤◌, length, take, replicate, true};
 ghost use Rattle.math.specs.Lists.{over};
 ghost use Rattle.formula.specs.Limits.{max_images};

@@ -1,4 +1,6 @@
 // The writer of texts for a formula as numbers and lent bytes, for programs in other languages.
+#![tactic(auto)]
+
 ghost use Rattle.point_slices.specs.Slices.{clause_slices};
 ghost use Rattle.dimacs_writer.specs.Contract.{WroteSheet};
 ghost use Rattle.export_formulas.specs.Formulas.{formula_from};

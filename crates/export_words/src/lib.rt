@@ -1,4 +1,6 @@
 // Answers as words in lent slices, for programs in other languages.
+#![tactic(auto)]
+
 ghost use Rattle.std.specs.Prelude.{[], ◌∷◌, ◌≡◌, ◌≤◌, length, take};
 ghost use Rattle.math.specs.Lists.{over};
 ghost use Rattle.export_words.specs.Words.{words_of};

@@ -1,4 +1,6 @@
 // The formula by value (01: sheet), its limits, replies, and the refusals 10, 11, 12 and 19 that entry points share.
+#![tactic(auto)]
+
 ghost use Rattle.std.specs.Prelude.{◌≡◌};
 ghost use Rattle.formula.specs.Problem.{empty_formula};
 

@@ -3,6 +3,8 @@
 // read is not the end of a sheet, and no number of 01 means it. The language gives a program no exit status, so that is
 // 0 wherever the program ends by itself. At a write into a pipe that nobody reads any more the system ends it by a
 // signal, which the language cannot change.
+#![tactic(auto)]
+
 ghost use Rattle.std.specs.Prelude.{◌≤◌, length};
 ghost use Rattle.program_text.specs.Report.{longest_text};
 

@@ -1,6 +1,8 @@
 // Which flips of a point are covered by the points of an index, modulo one listed permutation. The images of the
 // point are at hand: that of a flip is one of them with one more flip, and those of the next point are these, changed
 // where the images of the variables are in which the two points differ.
+#![tactic(auto)]
+
 ghost use Rattle.std.specs.Prelude.{◌≡◌, ◌+◌, ◌-◌, ◌*◌, ◌^◌, ◌≤◌, ◌<◌, length, get_or, take, drop};
 ghost use Rattle.std.specs.Int.Bits.{bit_xor};
 ghost use Rattle.math.specs.Bits.{flip};

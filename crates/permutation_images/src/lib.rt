@@ -1,5 +1,7 @@
 // Images of points and clauses under a permutation, and the permutation test. One permutation is a part of n bytes,
 // the image of variable 1 first.
+#![tactic(auto)]
+
 ghost use Rattle.std.specs.Prelude.{cond, ◌≡◌, ◌+◌, ◌*◌, ◌/◌, ◌^◌, ◌≤◌, ◌<◌, eqb, length, take, drop};
 ghost use Rattle.std.specs.Int.Bits.{bit_or};
 ghost use Rattle.points.specs.Points.{point_digits};

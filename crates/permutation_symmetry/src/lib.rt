@@ -1,4 +1,6 @@
 // Whether a permutation keeps the clauses and so is a symmetry of the formula, with guesses where an image may stand.
+#![tactic(auto)]
+
 ghost use Rattle.std.specs.Prelude.{◌≡◌, ◌≤◌, ◌<◌, length, get_or};
 ghost use Rattle.math.specs.Lists.{any, first_failing};
 ghost use Rattle.point_slices.specs.Laws.Contracts.{lent_clauses};

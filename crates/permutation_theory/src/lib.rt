@@ -1,2 +1,3 @@
 // Permutations of variables (01: exchanges), what they do to points and clauses, and that they keep distances. No
 // code.
+#![tactic(auto)]

@@ -3,6 +3,8 @@
 // each value of a digit. A link is 0, or 1 more than the number of a point. A point at depth d has the d lowest
 // digits of every point below it, so that a look-up compares at most n + 1 points of n digits, whatever points there
 // are.
+#![tactic(auto)]
+
 ghost use Rattle.std.specs.Prelude.{◌≡◌, ◌+◌, ◌*◌, ◌≤◌, ◌<◌, take};
 ghost use Rattle.math.specs.Bits.{bit};
 ghost use Rattle.math.specs.Lists.{has};

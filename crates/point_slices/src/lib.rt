@@ -1,6 +1,8 @@
 // Points, clauses and numbers in lent slices. A slice of points has one word a point, and the clauses lie in two
 // parallel slices. Outside this crate no index is a place of a word in a slice of points, but where
 // slots are structs (`slot_columns`, `slot_prefixes`).
+#![tactic(auto)]
+
 ghost use Rattle.std.specs.Prelude.{[], ◌≡◌, min, ◌≤◌, length, get_or, set, take};
 ghost use Rattle.point_slices.specs.Laws.Contracts.{lent_clauses};
 ghost use Rattle.points.specs.Laws.Contracts.{clause_of};

@@ -1,5 +1,7 @@
 // Points and clauses, with the leaf functions on them. Outside this crate no operator touches a point, but for the
 // hash in `point_index::head_of` and the bytes of a certificate.
+#![tactic(auto)]
+
 ghost use Rattle.std.specs.Prelude.{◌≡◌, ◌<◌, ◌*◌, ◌/◌, ◌%◌, ◌^◌, eqb, ltb};
 ghost use Rattle.std.specs.Int.Bits.{bit_and, bit_or, bit_xor};
 ghost use Rattle.math.specs.Bits.{bit, flip};

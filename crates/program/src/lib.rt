@@ -1,4 +1,6 @@
 // What the program `nearest` prints for the bytes of a sheet, as a function.
+#![tactic(auto)]
+
 ghost use Rattle.std.specs.Prelude.{◌≡◌, ◌≤◌, length, take};
 ghost use Rattle.claims.specs.Claim.{formula_in};
 ghost use Rattle.solver.specs.Solver.{sheet_reply};

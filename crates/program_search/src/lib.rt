@@ -1,5 +1,7 @@
 // What the program prints for a sheet that was read: it is searched with few slots, and with 4,096 where these do not
 // suffice.
+#![tactic(auto)]
+
 ghost use Rattle.std.specs.Prelude.{true, ◌≡◌, ◌≤◌, length};
 ghost use Rattle.point_slices.specs.Slices.{clause_slices, slot_slices, clause_room, first_clauses};
 ghost use Rattle.formula.specs.Limits.{max_variables, capacity};

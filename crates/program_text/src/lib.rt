@@ -1,4 +1,6 @@
 // The text that the program prints for a reply, put into lent bytes. Callers see to the room.
+#![tactic(auto)]
+
 ghost use Rattle.std.specs.Prelude.{◌+◌, ◌≤◌, ◌<◌, ◌*◌, length};
 ghost use Rattle.formula.specs.Limits.{max_variables};
 ghost use Rattle.search.specs.Contract.{reply_of_found};

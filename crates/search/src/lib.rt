@@ -1,5 +1,7 @@
 // The search (01: walk, builder): breadth first from the target, to the nearest satisfying point, a stable set, or
 // the end of the room.
+#![tactic(auto)]
+
 ghost use Rattle.std.specs.Prelude.{◌≡◌, length};
 ghost use Rattle.point_slices.specs.Slices.{clause_slices, slot_slices};
 ghost use Rattle.formula.specs.Limits.{max_images, capacity};

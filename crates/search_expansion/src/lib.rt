@@ -1,5 +1,7 @@
 // The flips of one point by the variables of a clause, lowest first: each that is not covered fills the next slot and
 // enters the index (01: "the point with that name flipped, if not covered by the filled slots, fills the next slot").
+#![tactic(auto)]
+
 ghost use Rattle.std.specs.Prelude.{◌+◌, ◌<◌, ◌^◌, [], length};
 ghost use Rattle.math.specs.Bits.{members};
 ghost use Rattle.point_slices.specs.Slices.{points_of, slot_slices};

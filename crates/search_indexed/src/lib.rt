@@ -1,5 +1,7 @@
 // What the stages of a search share: their answer, an index made of the points filled with which a stage explores on,
 // and the numbers found carried from one to the next. The stages stand in `search_stages` and `search_stages_large`.
+#![tactic(auto)]
+
 ghost use Rattle.std.specs.Prelude.{◌≡◌, ◌+◌, ◌*◌, ◌≤◌, length, take};
 ghost use Rattle.math.specs.Lists.{over};
 ghost use Rattle.point_slices.specs.Laws.Contracts.{lent_clauses};

@@ -1,5 +1,7 @@
 // The test of a level: before a slot of a new depth is processed, the points of all slots of that depth are tested, and
 // the smallest that satisfies is the answer. What the test finds is kept, so that no point is tested twice.
+#![tactic(auto)]
+
 ghost use Rattle.std.specs.Prelude.{◌≡◌, get_or, set};
 ghost use Rattle.point_slices.specs.Laws.Contracts.{lent_clauses};
 ghost use Rattle.point_slices.specs.Slices.{points_of};

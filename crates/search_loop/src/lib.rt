@@ -1,5 +1,7 @@
 // The loop of the search: slots are processed one by one, oldest first, from whichever slot it is to go on, and at
 // every new depth the level is tested first.
+#![tactic(auto)]
+
 ghost use Rattle.std.specs.Prelude.{◌&&◌, ◌≡◌, ◌+◌, ◌≤◌, ltb, length};
 ghost use Rattle.point_slices.specs.Laws.Contracts.{lent_clauses};
 ghost use Rattle.point_slices.specs.Slices.{slot_slices};

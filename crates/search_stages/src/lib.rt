@@ -1,6 +1,8 @@
 // The search from the target, in stages: each goes on where the one before paused, with an index for more points and
 // the numbers that the tests of levels found. So what a search pays to make its arrays 0 follows the slots that it
 // fills, and not those that it is lent.
+#![tactic(auto)]
+
 ghost use Rattle.std.specs.Prelude.{[], ◌∷◌};
 ghost use Rattle.point_slices.specs.Laws.Contracts.{lent_clauses};
 ghost use Rattle.point_slices.specs.Slices.{slot_slices};

@@ -1,4 +1,6 @@
 // The last two stages of a search, for more slots than most searches fill.
+#![tactic(auto)]
+
 ghost use Rattle.std.specs.Prelude.{◌≡◌, ◌≤◌, length};
 ghost use Rattle.point_slices.specs.Laws.Contracts.{lent_clauses};
 ghost use Rattle.point_slices.specs.Slices.{slot_slices};

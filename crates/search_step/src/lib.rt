@@ -1,4 +1,6 @@
 // One step of the search: the slot that is next is processed.
+#![tactic(auto)]
+
 ghost use Rattle.std.specs.Prelude.{◌≡◌, ◌+◌, ◌<◌};
 ghost use Rattle.point_slices.specs.Laws.Contracts.{lent_clauses};
 ghost use Rattle.point_slices.specs.Slices.{points_of, slot_slices};

@@ -1,6 +1,8 @@
 // The slots as one slice of structs (01: 'Walk') and as three slices: a slot is read and stored, slots are copied
 // from one form to the other. Each function takes a slice of structs, so it is proved by hand, step by step of the
 // compiled code.
+#![tactic(auto)]
+
 ghost use Rattle.std.specs.Prelude.{◌≡◌, ◌<◌, length, set};
 ghost use Rattle.slot_columns.specs.Slots.{points_in, falsified_in, depths_in};
 ghost use Rattle.slot_columns.specs.Laws.Copies.{slot_or, joined, Within, front};

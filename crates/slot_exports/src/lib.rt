@@ -1,4 +1,6 @@
 // The search and the writer over a slice of slots for programs in other languages.
+#![tactic(auto)]
+
 ghost use Rattle.point_slices.specs.Slices.{clause_slices};
 ghost use Rattle.slot_columns.specs.Slots.{slots_in};
 ghost use Rattle.export_words.specs.Searching.{SearchReturns};

@@ -1,5 +1,7 @@
 // The search and the writer on the first places of three slices, which functions over a slice of slots call on arrays
 // of their own, and what those read of the answers.
+#![tactic(auto)]
+
 ghost use Rattle.std.specs.Prelude.{◌≡◌, ◌&&◌, ltb, length, take};
 ghost use Rattle.point_slices.specs.Slices.{clause_slices, slot_slices};
 ghost use Rattle.certificate_writer.specs.Contract.{Wrote};

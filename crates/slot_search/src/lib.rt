@@ -1,4 +1,6 @@
 // The search with the slots in one lent slice of structs (F9), a thin function over the search on three slices.
+#![tactic(auto)]
+
 ghost use Rattle.point_slices.specs.Slices.{clause_slices};
 ghost use Rattle.slot_columns.specs.Slots.{slots_in};
 ghost use Rattle.search.specs.Contract.{Searched};

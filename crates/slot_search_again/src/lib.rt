@@ -1,4 +1,6 @@
 // The search with the slots in one lent slice of structs, begun again on more places than the first.
+#![tactic(auto)]
+
 ghost use Rattle.point_slices.specs.Slices.{clause_slices};
 ghost use Rattle.slot_search_again.specs.Laws.Contracts.{Accepted, SearchedSlots};
 

@@ -1,4 +1,6 @@
 // The writer with the slots in one lent slice of structs (F9), a thin function over the writer on three slices.
+#![tactic(auto)]
+
 ghost use Rattle.point_slices.specs.Slices.{clause_slices};
 ghost use Rattle.certificate_writer.specs.Contract.{Wrote};
 ghost use Rattle.slot_columns.specs.Slots.{slots_in};

@@ -1,4 +1,6 @@
 // The writer with the slots in one lent slice of structs, where many are taken.
+#![tactic(auto)]
+
 ghost use Rattle.point_slices.specs.Slices.{clause_slices};
 ghost use Rattle.slot_writer_large.specs.Laws.Contracts.{WroteSlots};
 

@@ -1,4 +1,6 @@
 // Reader, search, writer and checker in one call. Its contract has demand 3's sentences about what it returns.
+#![tactic(auto)]
+
 ghost use Rattle.std.specs.Prelude.{List, ◌≡◌, ℕ, ◌≤◌, length, take};
 ghost use Rattle.point_slices.specs.Slices.{clause_slices, slot_slices, clause_room, first_clauses};
 ghost use Rattle.formula.specs.Limits.{max_images};

@@ -1,5 +1,7 @@
 // Texts and decimal numbers put into lent bytes, as far as these reach: each function stores what there is room for
 // and answers the place behind all of it.
+#![tactic(auto)]
+
 ghost use Rattle.std.specs.Prelude.{[], ◌∷◌, ◌≡◌, ◌+◌, ◌≤◌, ◌<◌, length, set};
 ghost use Rattle.text_output.specs.Decimal.{numeral, field, line};
 ghost use Rattle.text_output.specs.Laws.Putting.{places_end, Put};

@@ -104,6 +104,7 @@ module _ {A : Type 0} where
   pub count-one-more : (t u : A → Bool) {v : A} {xs : List A} → Distinct xs → v ∈ xs → t v ≡ true → u v ≡ false
       → ((x : A) → (x ≡ v → ⊥) → t x ≡ u x) → count t xs ≡ suc (count u xs)
   unfolding count
+  count-one-more t u {v = v} distinct_nil m on off same = elim m [ ]
   count-one-more t u {v} (distinct_cons {x = x} {xs = xs} new d) (Memᴰ.head e) on off same =
       here_more (t x) (u x) (ap t (sym e) ∙ on) (ap u (sym e) ∙ off)
       (count_ext t u xs (λ y m. same y (λ p. new (subst (λ z. z ∈ xs) (p ∙ e) m))))
