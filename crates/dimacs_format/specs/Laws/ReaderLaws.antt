@@ -31,7 +31,7 @@ use Rattle.dimacs_format.specs.Reader.{reading, reply_to, formula_from, stored_i
 use Rattle.dimacs_format.specs.Reader.{read_clauses, goes, refuses, clause_line_lem, target_line_lem, permutation_line_lem}
 use Rattle.dimacs_format.specs.Accepted.{ProblemLine, Permuted, words_among, Skipped, Ignored, Accepts}
 use Rattle.dimacs_format.specs.Accepted.{at_text_end, at_percent_line}
-use Rattle.dimacs_format.specs.Laws.TextLaws.{begins_split, same_bytes}
+use Rattle.dimacs_format.specs.Laws.TextLaws.{begins_split, same_bytes_lem}
 use Rattle.dimacs_format.specs.Laws.StepLaws.{same_some, not_some, some-cond, goes_same, never, both_go}
 use Rattle.dimacs_format.specs.Laws.StepLaws.{walk_step}
 use Rattle.dimacs_format.specs.Laws.ClauseLaws.{walk_grouped, grouped_walk}
@@ -72,7 +72,7 @@ problem_of_lem l z e =
           first = b;
           third = v;
           fourth = c;
-          four = f ∙ ap₂ (λ x y. x ∷ y ∷ v ∷ c ∷ []) (same_bytes p problem_word s.0) (same_bytes q format_word s.1);
+          four = f ∙ ap₂ (λ x y. x ∷ y ∷ v ∷ c ∷ []) (same_bytes_lem p problem_word s.0) (same_bytes_lem q format_word s.1);
           variables = k.0;
           total = k.1;
         }

@@ -207,13 +207,13 @@ words_bytes a b xs = held (pieces is_blank a xs) (pieces is_blank b xs) (pieces_
 
 -- ---- tests on bytes
 
-pub same_bytes : (xs ys : List ℕ) → same_bytes xs ys ≡ true → xs ≡ ys
+pub same_bytes_lem : (xs ys : List ℕ) → same_bytes xs ys ≡ true → xs ≡ ys
 unfolding same_bytes
-same_bytes [] [] e = refl
-same_bytes [] (y ∷ ys) e = absurd (false≢true e)
-same_bytes (x ∷ xs) [] e = absurd (false≢true e)
-same_bytes (x ∷ xs) (y ∷ ys) e = let w = and_split (eqb x y) (same_bytes xs ys) e in ap₂ ◌∷◌ (eqb-true x y w.0)
-    (same_bytes xs ys w.1)
+same_bytes_lem [] [] e = refl
+same_bytes_lem [] (y ∷ ys) e = absurd (false≢true e)
+same_bytes_lem (x ∷ xs) [] e = absurd (false≢true e)
+same_bytes_lem (x ∷ xs) (y ∷ ys) e = let w = and_split (eqb x y) (same_bytes xs ys) e in ap₂ ◌∷◌ (eqb-true x y w.0)
+    (same_bytes_lem xs ys w.1)
 
 pub bytes_same : (xs : List ℕ) → same_bytes xs xs ≡ true
 unfolding same_bytes
@@ -225,7 +225,7 @@ pub begins_split : (head bytes : List ℕ) → begins head bytes ≡ true → by
 unfolding begins
 begins_split head bytes e =
     sym (take-append-drop (length head) bytes)
-    ∙ ap (λ l. l ++ drop (length head) bytes) (sym (same_bytes head (take (length head) bytes) e))
+    ∙ ap (λ l. l ++ drop (length head) bytes) (sym (same_bytes_lem head (take (length head) bytes) e))
 
 pub begins_of : (head rest : List ℕ) → begins head (head ++ rest) ≡ true
 unfolding begins
