@@ -11,7 +11,7 @@ use crate::bodies::field;
 pub mod bodies;
 
 // The contents of a file: n, m, then count and offset of each body.
-#[derive(Drop)]
+#[derive(Clone, Copy)]
 pub struct Contents {
     pub variables: u32,
     pub clauses: u32,
@@ -24,14 +24,14 @@ pub struct Contents {
 }
 
 // The reader of a file without checking it: its contents, or a refusal.
-#[derive(Drop)]
+#[derive(Clone, Copy)]
 pub enum Opened {
     File(Contents),
     Refused { code: u32, place: usize },
 }
 
 // Whether an index lies in a body, and the entry there (an image, a point or a clause number), 0 where it does not.
-#[derive(Drop)]
+#[derive(Clone, Copy)]
 pub struct Entry {
     pub inside: bool,
     pub value: u64,

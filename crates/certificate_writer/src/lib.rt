@@ -25,7 +25,7 @@ use formula::{Checked, Formula, Numbers};
 use points::Depth;
 
 // What a writer answers, of certificates or of texts: the length in bytes of what it wrote, or a refusal.
-#[derive(Drop)]
+#[derive(Clone, Copy)]
 pub enum Written {
     Bytes(usize),
     Refused { code: u32, place: usize },

@@ -39,7 +39,7 @@ fn variables_of(positive: &[u64], negative: &[u64], k: u32) -> Point
 }
 
 // What a test of flips says, and the point whose images are at hand after it.
-#[derive(Drop)]
+#[derive(Clone, Copy)]
 struct Tested {
     passed: bool,
     seen: Point,

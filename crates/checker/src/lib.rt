@@ -21,7 +21,7 @@ use formula::{Checked, Formula, Numbers};
 use permutation_coverage::Lookup;
 
 // What the checker answers for a formula and a certificate.
-#[derive(Drop)]
+#[derive(Clone, Copy)]
 pub enum Verdict {
     Accepted,
     Refused { code: u32, place: usize },

@@ -17,7 +17,7 @@ use dimacs_words::{begins, blank_from, line_end};
 use formula::Checked;
 
 // What the lines have said so far, beside the slices of the clauses and the images: a part for each kind of line.
-#[derive(Drop)]
+#[derive(Clone, Copy)]
 pub struct State {
     pub begun: Begun,
     pub wanted: Wanted,
@@ -25,7 +25,7 @@ pub struct State {
 }
 
 // What comes of lines: on with what was said, or a refusal.
-#[derive(Drop)]
+#[derive(Clone, Copy)]
 pub struct Advanced {
     pub answer: Checked,
     pub state: State,
@@ -164,7 +164,7 @@ fn clause_lines(
 
 // What lines lead to, and where the last of them ends. Where the sheet ends with them, `stop` is the place of its end:
 // the first byte of a percent line, or the text's length.
-#[derive(Drop)]
+#[derive(Clone, Copy)]
 pub struct Lined {
     pub advanced: Advanced,
     pub stop: usize,

@@ -14,7 +14,7 @@ use point_slices::put_point;
 use points::{Point, with_variable};
 
 // How many clauses are closed, and the one begun.
-#[derive(Drop)]
+#[derive(Clone, Copy)]
 pub struct Begun {
     pub closed: u32,
     pub positive: Point,
@@ -33,14 +33,14 @@ pub fn none_begun(closed: u32) -> Begun
 }
 
 // What comes of reading: on with the clauses, or a refusal.
-#[derive(Drop)]
+#[derive(Clone, Copy)]
 pub struct Taken {
     pub answer: Checked,
     pub begun: Begun,
 }
 
 // What a part of a text leads to, and the place where the text is to be read on.
-#[derive(Drop)]
+#[derive(Clone, Copy)]
 pub struct Stepped {
     pub taken: Taken,
     pub next: Cursor,

@@ -3,7 +3,7 @@
 #![tactic(auto)]
 
 // What the problem line says: n and C.
-#[derive(Drop)]
+#[derive(Clone, Copy)]
 pub struct Sizes {
     pub variables: u32,
     pub total: u32,

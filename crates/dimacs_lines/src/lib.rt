@@ -20,7 +20,7 @@ use point_slices::{point_at, point_count, put_point};
 use points::Point;
 
 // What the reader says of a text.
-#[derive(Drop)]
+#[derive(Clone, Copy)]
 pub enum Parse {
     Accepted,
     Refused { code: u32, place: usize },
@@ -34,7 +34,7 @@ pub struct Parsed {
 }
 
 // The numbers of the formula read, beside the answer; its images stay where the lines were read to.
-#[derive(Drop)]
+#[derive(Clone, Copy)]
 pub struct ParsedNumbers {
     pub numbers: Numbers,
     pub answer: Parse,
@@ -90,7 +90,7 @@ fn wanted_or_0(wanted: Wanted) -> Point
 }
 
 // What the lines lead to, beside the images: the answer and, where the text is accepted, the rest of its formula.
-#[derive(Drop)]
+#[derive(Clone, Copy)]
 pub struct Told {
     pub answer: Parse,
     pub target: Point,

@@ -13,7 +13,7 @@ use permutation_images::is_permutation;
 
 // What stands next in a permutation line: nothing, the number of a variable with the cursor behind it, or something
 // else.
-#[derive(Drop)]
+#[derive(Clone, Copy)]
 pub enum Image {
     End,
     Variable { value: u32, next: Cursor },
@@ -132,7 +132,7 @@ fn read_apart(bytes: &[u8], n: u32, images: &mut [u8], at: usize) -> bool
 }
 
 // What comes of a permutation line: how many permutations there are with it, or a refusal.
-#[derive(Drop)]
+#[derive(Clone, Copy)]
 pub struct PermutationTaken {
     pub answer: Checked,
     pub permutations: u32,

@@ -10,28 +10,28 @@ use dimacs_format::Sizes;
 use dimacs_words::{Class, Cursor, Number, begins, blank_from, line_end, read_number, run_end};
 
 // What a fixed word meets: itself, with the cursor behind it, or something else.
-#[derive(Drop)]
+#[derive(Clone, Copy)]
 pub enum Matched {
     Behind(Cursor),
     Other,
 }
 
 // What a number is looked for at: one, with the cursor behind it, or something else.
-#[derive(Drop)]
+#[derive(Clone, Copy)]
 pub enum Sized {
     Number { value: u32, next: Cursor },
     Other,
 }
 
 // What a problem line says: n and C, or it is malformed.
-#[derive(Drop)]
+#[derive(Clone, Copy)]
 pub enum Sizing {
     Read(Sizes),
     Malformed,
 }
 
 // Where the problem line stands, or that there is none.
-#[derive(Drop)]
+#[derive(Clone, Copy)]
 pub enum Located {
     Line { start: usize, stop: usize },
     Absent,

@@ -13,7 +13,7 @@ use formula::Checked;
 use points::{Point, with_variable};
 
 // What the target lines have said, or what one holds: a target, if it was found.
-#[derive(Drop)]
+#[derive(Clone, Copy)]
 pub struct Wanted {
     pub found: bool,
     pub target: Point,
@@ -81,7 +81,7 @@ pub fn read_target(bytes: &[u8], n: u32) -> Wanted
 }
 
 // What comes of a target line: on with its target, or a refusal.
-#[derive(Drop)]
+#[derive(Clone, Copy)]
 pub struct TargetTaken {
     pub answer: Checked,
     pub wanted: Wanted,

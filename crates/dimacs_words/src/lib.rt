@@ -8,7 +8,7 @@ ghost use Rattle.dimacs_words.specs.Laws.Scans.{belongs, Stretch, Skipped, ends_
 ghost use Rattle.dimacs_words.specs.Laws.Scans.{DigitsRead};
 
 // The runs of bytes that the reader goes along: blanks, the bytes of a word, the bytes of a line.
-#[derive(Drop)]
+#[derive(Clone, Copy)]
 pub enum Class {
     Blank,
     Word,
@@ -16,20 +16,20 @@ pub enum Class {
 }
 
 // What a run of bytes is: a number of one to four digits, or none.
-#[derive(Drop)]
+#[derive(Clone, Copy)]
 pub enum Number {
     Value(u32),
     Malformed,
 }
 
 // A place in a line or a text.
-#[derive(Drop)]
+#[derive(Clone, Copy)]
 pub struct Cursor {
     pub at: usize,
 }
 
 // F7: what the word reader answers: the number with the cursor behind it, or that the word is malformed.
-#[derive(Drop)]
+#[derive(Clone, Copy)]
 pub enum Word {
     Read {
         negated: bool,

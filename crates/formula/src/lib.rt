@@ -21,7 +21,7 @@ pub struct Formula {
 }
 
 // The numbers of a formula: all of it but the images, which stay where they lie while functions hand them on.
-#[derive(Drop)]
+#[derive(Clone, Copy)]
 pub struct Numbers {
     pub variables: u32,
     pub clauses: u32,
@@ -30,7 +30,7 @@ pub struct Numbers {
 }
 
 // What a test of an entry point finds: nothing, or a refusal's number and its place.
-#[derive(Drop)]
+#[derive(Clone, Copy)]
 pub enum Checked {
     Passed,
     Refused { code: u32, place: usize },

@@ -13,7 +13,7 @@ use program::{MAX_INPUT, printed_for};
 use program_text::LONGEST;
 
 // How many bytes were read, and whether a read failed.
-#[derive(Drop)]
+#[derive(Clone, Copy)]
 struct Got {
     count: usize,
     failed: bool,

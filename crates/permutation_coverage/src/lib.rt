@@ -19,7 +19,7 @@ use point_slices::{point_at, point_count, put_point};
 use points::Point;
 
 // What a look-up goes by: the number of variables and of permutations, and the heads of the index.
-#[derive(Drop)]
+#[derive(Clone, Copy)]
 pub struct Lookup {
     pub variables: u32,
     pub permutations: u32,

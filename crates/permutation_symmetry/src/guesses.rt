@@ -70,7 +70,7 @@ fn stands_at(positive: &[u64], negative: &[u64], i: usize, c: Clause) -> bool
 }
 
 // Where the way to a clause has come to: whether to the clause itself, or to a link that is 0, and the link.
-#[derive(Drop)]
+#[derive(Clone, Copy)]
 struct Spot {
     held: bool,
     free: bool,

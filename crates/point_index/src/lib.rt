@@ -16,7 +16,7 @@ use point_slices::{number_at, point_at, put_number};
 use points::Point;
 
 // Where a look-up ended: whether at the point itself, and the link.
-#[derive(Drop)]
+#[derive(Clone, Copy)]
 pub struct Spot {
     pub held: bool,
     pub link: usize,

@@ -22,7 +22,7 @@ use search_step::Conclusion;
 
 // What the search answers, beside the point that it finds. Of an unknown result the bound is a number of variables:
 // every satisfying point differs from the target in at least so many.
-#[derive(Drop)]
+#[derive(Clone, Copy)]
 pub enum Outcome {
     Satisfiable { distance: u32, filled: u32 },
     Unsatisfiable { filled: u32 },
@@ -31,7 +31,7 @@ pub enum Outcome {
 }
 
 // The answer, and the point that it hands back: 0 where it has none.
-#[derive(Drop)]
+#[derive(Clone, Copy)]
 pub struct Found {
     pub answer: Outcome,
     pub point: Point,

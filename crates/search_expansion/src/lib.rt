@@ -15,7 +15,7 @@ use points::{Depth, Point};
 
 // What stays the same while slots are filled: what look-ups go by, the number of slots, and the target. The heads are
 // those of a stage; `search::search`, which makes no index, sets none.
-#[derive(Drop)]
+#[derive(Clone, Copy)]
 pub struct Frame {
     pub lookup: Lookup,
     pub room: usize,
@@ -23,14 +23,14 @@ pub struct Frame {
 }
 
 // A point that the search comes to, and its depth.
-#[derive(Drop)]
+#[derive(Clone, Copy)]
 pub struct Visit {
     pub point: Point,
     pub depth: Depth,
 }
 
 // How many slots are filled after flips were tried, and whether each that was to fill one found it.
-#[derive(Drop)]
+#[derive(Clone, Copy)]
 pub struct Grown {
     pub filled: usize,
     pub enough: bool,

@@ -21,7 +21,7 @@ use search_loop::{Explored, explore};
 use search_step::Conclusion;
 
 // What a search comes to, and the point that it hands back.
-#[derive(Drop)]
+#[derive(Clone, Copy)]
 pub struct Answer {
     pub conclusion: Conclusion,
     pub point: Point,

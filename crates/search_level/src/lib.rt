@@ -11,14 +11,14 @@ use point_slices::{first_falsified, number_at, point_at};
 use points::{Depth, Point};
 
 // Where a search stands: the index of the slot that is next, and how many are filled.
-#[derive(Drop)]
+#[derive(Clone, Copy)]
 pub struct Position {
     pub at: usize,
     pub filled: usize,
 }
 
 // What a test comes to: whether a point satisfies all clauses, and the smallest that does.
-#[derive(Drop)]
+#[derive(Clone, Copy)]
 pub struct Level {
     pub met: bool,
     pub point: Point,

@@ -25,14 +25,14 @@ use search_step::{Conclusion, Step, Turn, process};
 
 // What exploring comes to: the search's answer, or where it paused, since the index might be too small for one more
 // step.
-#[derive(Drop)]
+#[derive(Clone, Copy)]
 pub enum Stage {
     Concluded(Conclusion),
     Paused(Position),
 }
 
 // The same beside a point: the one handed back, where one is; else it tells nothing.
-#[derive(Drop)]
+#[derive(Clone, Copy)]
 pub struct Explored {
     pub stage: Stage,
     pub point: Point,

@@ -16,14 +16,14 @@ use search_expansion::{Frame, Visit, expand};
 use search_level::Position;
 
 // A slot that is taken: where the search stands, and the number of the clause that its point falsifies first.
-#[derive(Drop)]
+#[derive(Clone, Copy)]
 pub struct Turn {
     pub position: Position,
     pub number: u32,
 }
 
 // What a search comes to, beside the point that it hands back; `search::Outcome` adds the refusals.
-#[derive(Drop)]
+#[derive(Clone, Copy)]
 pub enum Conclusion {
     Satisfiable { distance: u32, filled: u32 },
     Unsatisfiable { filled: u32 },
@@ -31,7 +31,7 @@ pub enum Conclusion {
 }
 
 // What processing one slot comes to: the search's answer, or how many slots are filled now.
-#[derive(Drop)]
+#[derive(Clone, Copy)]
 pub enum Step {
     Ends(Conclusion),
     Goes { filled: usize },

@@ -11,7 +11,7 @@ use points::{Depth, Point};
 
 // A visited point, the number of the clause that it falsifies (0 while unprocessed), and its depth.
 #[repr(C)]
-#[derive(Drop)]
+#[derive(Clone, Copy)]
 pub struct Slot {
     pub point: Point,
     pub falsified: u32,

@@ -30,7 +30,7 @@ const TINY_TEXT: usize = 256;
 
 // What the solver answers. A certificate is `size` bytes at the front of the output, written and checked; where the
 // output has no room for the bytes needed, nothing is put there.
-#[derive(Drop)]
+#[derive(Clone, Copy)]
 pub enum Solution {
     Satisfiable { distance: u32, filled: u32 },
     Unsatisfiable { filled: u32, size: usize },
@@ -40,7 +40,7 @@ pub enum Solution {
 }
 
 // The answer, and the point handed back, 0 where there is none.
-#[derive(Drop)]
+#[derive(Clone, Copy)]
 pub struct Settled {
     pub answer: Solution,
     pub point: Point,

@@ -1,0 +1,15 @@
+-- `formula::refusals::clauses_refusal` meets its contract. Assumes nothing.
+use Rattle.std.proofs.Common.{sym, ◌∙◌, rules}
+use Rattle.formula.specs.Refusals.{clauses_fault}
+use Rattle.formula.proofs.refusals.clauses_refusal.Goals as goal
+
+pub fits-requires : goal.fits-requires
+fits-requires c = search rules
+
+pub returns-then-fits : goal.returns-then-fits
+unfolding clauses_fault
+returns-then-fits c images = rw (sym c.fits2.ensures ∙ c.if-fits.true)
+
+pub returns-else-fits : goal.returns-else-fits
+unfolding clauses_fault
+returns-else-fits c images = rw (sym c.fits2.ensures ∙ c.if-fits.false)
