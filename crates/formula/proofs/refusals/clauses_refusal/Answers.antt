@@ -8,8 +8,8 @@ fits-requires c = search rules
 
 pub returns-then-fits : goal.returns-then-fits
 unfolding clauses_fault
-returns-then-fits c images = rw (sym c.fits2.ensures ∙ c.if-fits.true)
+returns-then-fits c images = rw (sym c.fits.ensures ∙ c.if-fits.true)
 
 pub returns-else-fits : goal.returns-else-fits
 unfolding clauses_fault
-returns-else-fits c images = rw (sym c.fits2.ensures ∙ c.if-fits.false)
+returns-else-fits c images = rw (sym c.fits.ensures ∙ c.if-fits.false)

@@ -11,12 +11,12 @@ below-requires c = search rules
 
 pub returns-then-below : goal.returns-then-below
 unfolding formula_fault
-returns-then-below c images = rw (sym c.fits2.ensures ∙ c.if-fits.true, sym c.below.ensures ∙ c.if-below.true)
+returns-then-below c images = rw (sym c.fits.ensures ∙ c.if-fits.true, sym c.below.ensures ∙ c.if-below.true)
 
 pub returns-else-below : goal.returns-else-below
 unfolding formula_fault
-returns-else-below c images = rw (sym c.fits2.ensures ∙ c.if-fits.true, sym c.below.ensures ∙ c.if-below.false)
+returns-else-below c images = rw (sym c.fits.ensures ∙ c.if-fits.true, sym c.below.ensures ∙ c.if-below.false)
 
 pub returns-else-fits : goal.returns-else-fits
 unfolding formula_fault
-returns-else-fits c images = rw (sym c.fits2.ensures ∙ c.if-fits.false)
+returns-else-fits c images = rw (sym c.fits.ensures ∙ c.if-fits.false)

@@ -15,14 +15,14 @@ use Rattle.formula.proofs.refusals.problem_refusal.Tie as tie
 use Rattle.formula.proofs.refusals.problem_refusal.Goals as goal
 
 -- the second arm is reached where refusal 10 found nothing
-ten : (c : lts.After-enum_told tie.the-claims reads.Pre reads.Post) → let a = c.args in
+ten : (c : lts.Past-After-enum_told tie.the-claims reads.Pre reads.Post) → let a = c.args in
     formula_fault (formula_with a.f a.images.now) (clause_slices a.positive.now a.negative.now) ≡ no_fault
-ten c = sym (c.formula_refusal-ten.ensures _) ∙ ap fault_of c.enum_told-1.given.1
+ten c = sym (c.formula_refusal-ten.ensures _) ∙ ap fault_of c.in-Passed.is
 
 -- and the last call where refusal 11 did not either
-eleven : (c : lts.After-enum_told3 tie.the-claims reads.Pre reads.Post) → let a = c.args in
+eleven : (c : lts.Past-After-enum_told3 tie.the-claims reads.Pre reads.Post) → let a = c.args in
     permutation_fault a.f.variables (permutations_in a.f.variables a.f.permutations a.images.now) ≡ no_fault
-eleven c = sym c.permutations_refusal-eleven.ensures ∙ ap fault_of c.enum_told-in-Passed-eleven-1.given.1
+eleven c = sym c.permutations_refusal-eleven.ensures ∙ ap fault_of c.in-Passed-eleven.is
 
 pub formula_refusal-ten-requires : goal.formula_refusal-ten-requires
 formula_refusal-ten-requires c = search rules
@@ -30,23 +30,23 @@ formula_refusal-ten-requires c = search rules
 pub returns-in_default : goal.returns-in_default
 returns-in_default c =
     stops_10 _ _ (fault_of c.formula_refusal-ten.result) (c.formula_refusal-ten.ensures _)
-    (subst IsFault (sym (ap fault_of c.enum_told-in_default-1.given.1)) tt)
+    (subst IsFault (sym (ap fault_of c.in_default.is)) tt)
 
 pub permutations_refusal-eleven-requires : goal.permutations_refusal-eleven-requires
 permutations_refusal-eleven-requires c =
     let a = c.args in
-    let few = (formula_passes _ _ (ten (c))).0.few_variables in
+    let few = (formula_passes _ _ (ten c.before)).0.few_variables in
     (few, images_room (formula_with a.f a.images.now) (clause_slices a.positive.now a.negative.now) few c.requires)
 
 pub returns-in_default-eleven : goal.returns-in_default-eleven
 returns-in_default-eleven c =
-    stops_11 _ _ (fault_of c.permutations_refusal-eleven.result) (ten c.before.before.before.before) c.permutations_refusal-eleven.ensures
-    (subst IsFault (sym (ap fault_of c.enum_told-in_default-eleven-1.given.1)) tt)
+    stops_11 _ _ (fault_of c.permutations_refusal-eleven.result) (ten c.before.before.before) c.permutations_refusal-eleven.ensures
+    (subst IsFault (sym (ap fault_of c.in_default-eleven.is)) tt)
 
 pub symmetry_refusal-requires : goal.symmetry_refusal-requires
 symmetry_refusal-requires c =
     let a = c.args in
-    formula_listed (formula_with a.f a.images.now) (clause_slices a.positive.now a.negative.now) (ten c.before.before.before.before) (eleven (c)) c.requires
+    formula_listed (formula_with a.f a.images.now) (clause_slices a.positive.now a.negative.now) (ten c.before.before.before) (eleven c.before) c.requires
 
 pub returns : goal.returns
-returns c = c.symmetry_refusal.ensures ∙ ends_12 _ _ (ten c.before.before.before.before.before) (eleven c.before.before)
+returns c = c.symmetry_refusal.ensures ∙ ends_12 _ _ (ten c.before.before.before.before) (eleven c.before.before)
