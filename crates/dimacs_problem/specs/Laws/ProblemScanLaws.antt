@@ -18,7 +18,7 @@ use Rattle.dimacs_format.specs.Text.{spelled, same_bytes, begins, is_comment, pr
 use Rattle.dimacs_format.specs.Text.{is_number}
 use Rattle.dimacs_format.specs.Reader.{Sizes, sizes_in, problem_words, problem_in, is_skipped, from_problem}
 use Rattle.dimacs_format.specs.Laws.StepLaws.{not_some}
-use Rattle.dimacs_format.specs.Laws.TextLaws.{same_bytes}
+use Rattle.dimacs_format.specs.Laws.TextLaws.{same_bytes_lem}
 use Rattle.dimacs_words.specs.Laws.Scans.{belongs, Stretch, lines_behind}
 use Rattle.dimacs_words.specs.Laws.ScanLaws.{here_on, run-all, words_skip, words_end, word_at, same_lengths}
 use Rattle.dimacs_words.specs.Laws.ScanLaws.{blanks_stop, behind-none, behind-some, lines_from_lem}
@@ -84,7 +84,7 @@ module _ (line : List ℕ) (at from to : ℕ) (blanks : Stretch (belongs Blank) 
       ⊎_elim (λ s. (
         bytes.within,
         s ∙ ap (λ w. w ∷ spelled_from line to)
-            (same_bytes (take (to - from) (drop from line)) word e),
+            (same_bytes_lem (take (to - from) (drop from line)) word e),
       ))
       (λ s. absurd (let l = same_lengths (take (to - from) (drop from line)) word e in let k = ap length s.0 in
       let z : ⊥ = omega arith in z)) next_word

@@ -1,0 +1,6 @@
+-- `text_output::put_decimal` meets its contract: the digits of the tenth, then the last one. The measure is the
+-- number. Assumes nothing.
+use Rattle.text_output.proofs.+put_decimal.Given as goal
+
+abbrev pub decreases-put_decimal : goal.decreases-put_decimal
+decreases-put_decimal l = l.x
