@@ -1,5 +1,5 @@
 -- `dimacs_problem::find_problem` meets its contract: what is left from a line on is what the whole has. Assumes nothing.
-use Rattle.std.proofs.Common.{◌≡◌, refl, sym, ◌∙◌, not, false, zero-le, arith, rules}
+use Rattle.std.proofs.Common.{◌≡◌, refl, sym, ◌∙◌, not, false, zero-le, arith, rules, ap}
 use borrow.Author.Tests.{not-false}
 use Rattle.dimacs_words.specs.Laws.Scans.{lines_behind}
 use Rattle.dimacs_problem.specs.Laws.ProblemScanLaws.{preamble_skips, preamble_stops, preamble_ends, preamble_goes_on}
@@ -28,10 +28,10 @@ pub returns-then-not-skipped : goal.returns-then-not-skipped
 returns-then-not-skipped c = (c.line_end-stop.ensures, c.loop-start.invariant.1 ∙ preamble_stops c.args.text.now _ _ c.line_end-stop.ensures (sym c.is_skipped-skipped.ensures ∙ c.if-not-skipped.true))
 
 pub returns-then-text-stop : goal.returns-then-text-stop
-returns-then-text-stop c = passed c.before.before.before c.if-not-skipped.false ∙ preamble_ends c.args.text.now _ c.if-text-stop.true
+returns-then-text-stop c = passed c.before.before.before (ap not c.if-not-skipped.false) ∙ preamble_ends c.args.text.now _ c.if-text-stop.true
 
 pub loop-start-smaller : goal.loop-start-smaller
 loop-start-smaller c = let o = c.line_end-stop.ensures.ordered in omega (arith, c.if-text-stop.false)
 
 pub loop-start-preserved : goal.loop-start-preserved
-loop-start-preserved c = (omega (arith, c.if-text-stop.false), passed c.before.before.before c.if-not-skipped.false ∙ preamble_goes_on c.args.text.now _ c.if-text-stop.false)
+loop-start-preserved c = (omega (arith, c.if-text-stop.false), passed c.before.before.before (ap not c.if-not-skipped.false) ∙ preamble_goes_on c.args.text.now _ c.if-text-stop.false)

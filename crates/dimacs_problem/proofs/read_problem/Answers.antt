@@ -16,20 +16,20 @@ begun : (c : lts.Else1 tie.the-claims reads.Pre reads.Post) → begins problem_w
 begun c = sym c.begins-first.ensures ∙ c.if-not-first.false
 
 -- the first word
-one_word : (c : lts.Past-After-one tie.the-claims reads.Pre reads.Post) → WordMatched c.args.line.now 0 problem_word (Behind c.in-Behind.field-0)
+one_word : (c : lts.Past-After-known_told tie.the-claims reads.Pre reads.Post) → WordMatched c.args.line.now 0 problem_word (Behind c.in-Behind.one)
 one_word c = subst (WordMatched c.args.line.now 0 problem_word) c.in-Behind.is c.expect_word.ensures
 
 -- the second
-two-word : (c : lts.Past-After-two tie.the-claims reads.Pre reads.Post) → WordMatched c.args.line.now c.in-Behind.field-0.at format_word (Behind c.in-Behind-expect_word.field-0)
-two-word c = subst (WordMatched c.args.line.now c.in-Behind.field-0.at format_word) c.in-Behind-expect_word.is c.expect_word-2.ensures
+two-word : (c : lts.Past-After-known_told2 tie.the-claims reads.Pre reads.Post) → WordMatched c.args.line.now c.in-Behind.one.at format_word (Behind c.in-Behind-expect_word.two)
+two-word c = subst (WordMatched c.args.line.now c.in-Behind.one.at format_word) c.in-Behind-expect_word.is c.expect_word-2.ensures
 
 -- the third
-three-word : (c : lts.Past-After-variables tie.the-claims reads.Pre reads.Post) → NumberMatched c.args.line.now c.in-Behind-expect_word.field-0.at (Number c.in-Number.field-0 c.in-Number.field-1)
-three-word c = subst (NumberMatched c.args.line.now c.in-Behind-expect_word.field-0.at) c.in-Number.is c.expect_number.ensures
+three-word : (c : lts.Past-After-known_told3 tie.the-claims reads.Pre reads.Post) → NumberMatched c.args.line.now c.in-Behind-expect_word.two.at (Number c.in-Number.variables c.in-Number.three)
+three-word c = subst (NumberMatched c.args.line.now c.in-Behind-expect_word.two.at) c.in-Number.is c.expect_number.ensures
 
 -- the fourth
-four-word : (c : lts.Past-After-total tie.the-claims reads.Pre reads.Post) → NumberMatched c.args.line.now c.in-Number.field-1.at (Number c.in-Number-expect_number.field-0 c.in-Number-expect_number.field-1)
-four-word c = subst (NumberMatched c.args.line.now c.in-Number.field-1.at) c.in-Number-expect_number.is c.expect_number-2.ensures
+four-word : (c : lts.Past-After-known_told4 tie.the-claims reads.Pre reads.Post) → NumberMatched c.args.line.now c.in-Number.three.at (Number c.in-Number-expect_number.total c.in-Number-expect_number.four)
+four-word c = subst (NumberMatched c.args.line.now c.in-Number.three.at) c.in-Number-expect_number.is c.expect_number-2.ensures
 
 pub begins-first-requires : goal.begins-first-requires
 begins-first-requires c = search rules
@@ -44,28 +44,28 @@ pub returns-in_default : goal.returns-in_default
 returns-in_default c = problem-first c.args.line.now (begun c.before.before.before.before.before) (subst (WordMatched c.args.line.now 0 problem_word) c.in_default.is c.expect_word.ensures)
 
 pub expect_word-requires-2 : goal.expect_word-requires-2
-expect_word-requires-2 c = ((one_word c.before.before.before.before).0, search rules)
+expect_word-requires-2 c = ((one_word c.before.before.before).0, search rules)
 
 pub returns-in_default-expect_word : goal.returns-in_default-expect_word
-returns-in_default-expect_word c = problem_second c.args.line.now (begun c.before.before.before.before.before.before.before.before.before.before) _ (one_word c.before.before.before.before.before.before) (subst (WordMatched c.args.line.now _ format_word) c.in_default-expect_word.is c.expect_word-2.ensures)
+returns-in_default-expect_word c = problem_second c.args.line.now (begun c.before.before.before.before.before.before.before.before.before) _ (one_word c.before.before.before.before.before) (subst (WordMatched c.args.line.now _ format_word) c.in_default-expect_word.is c.expect_word-2.ensures)
 
 pub expect_number-requires : goal.expect_number-requires
-expect_number-requires c = (two-word c.before.before).0
+expect_number-requires c = (two-word c.before).0
 
 pub returns-in_default-expect_number : goal.returns-in_default-expect_number
-returns-in_default-expect_number c = problem_third c.args.line.now (begun c.before.before.before.before.before.before.before.before.before.before.before.before.before) _ (one_word c.before.before.before.before.before.before.before.before.before) _ (two-word c.before.before.before.before) (subst (NumberMatched c.args.line.now _) c.in_default-expect_number.is c.expect_number.ensures)
+returns-in_default-expect_number c = problem_third c.args.line.now (begun c.before.before.before.before.before.before.before.before.before.before.before) _ (one_word c.before.before.before.before.before.before.before) _ (two-word c.before.before.before) (subst (NumberMatched c.args.line.now _) c.in_default-expect_number.is c.expect_number.ensures)
 
 pub expect_number-requires-2 : goal.expect_number-requires-2
-expect_number-requires-2 c = (three-word c.before.before).0
+expect_number-requires-2 c = (three-word c.before).0
 
 pub returns-in_default-expect_number-2 : goal.returns-in_default-expect_number-2
-returns-in_default-expect_number-2 c = problem_fourth c.args.line.now (begun c.before.before.before.before.before.before.before.before.before.before.before.before.before.before.before.before) _ (one_word c.before.before.before.before.before.before.before.before.before.before.before.before) _ (two-word c.before.before.before.before.before.before.before) _ _ (three-word c.before.before.before.before) (subst (NumberMatched c.args.line.now _) c.in_default-expect_number-2.is c.expect_number-2.ensures)
+returns-in_default-expect_number-2 c = problem_fourth c.args.line.now (begun c.before.before.before.before.before.before.before.before.before.before.before.before.before) _ (one_word c.before.before.before.before.before.before.before.before.before) _ (two-word c.before.before.before.before.before) _ _ (three-word c.before.before.before) (subst (NumberMatched c.args.line.now _) c.in_default-expect_number-2.is c.expect_number-2.ensures)
 
 pub run_end-end-requires : goal.run_end-end-requires
-run_end-end-requires c = (four-word c.before.before).0
+run_end-end-requires c = (four-word c.before).0
 
 pub returns-then-end-line : goal.returns-then-end-line
-returns-then-end-line c = problem_fifth c.args.line.now (begun c.before.before.before.before.before.before.before.before.before.before.before.before.before.before.before.before.before.before.before) _ (one_word c.before.before.before.before.before.before.before.before.before.before.before.before.before.before.before) _ (two-word c.before.before.before.before.before.before.before.before.before.before) _ _ (three-word c.before.before.before.before.before.before.before) _ _ (four-word c.before.before.before.before) _ c.run_end-end.ensures c.if-end-line.true
+returns-then-end-line c = problem_fifth c.args.line.now (begun c.before.before.before.before.before.before.before.before.before.before.before.before.before.before.before) _ (one_word c.before.before.before.before.before.before.before.before.before.before.before) _ (two-word c.before.before.before.before.before.before.before) _ _ (three-word c.before.before.before.before.before) _ _ (four-word c.before.before.before) _ c.run_end-end.ensures c.if-end-line.true
 
 pub returns : goal.returns
-returns c = problem_read c.args.line.now (begun c.before.before.before.before.before.before.before.before.before.before.before.before.before.before.before.before.before.before.before) _ (one_word c.before.before.before.before.before.before.before.before.before.before.before.before.before.before.before) _ (two-word c.before.before.before.before.before.before.before.before.before.before) _ _ (three-word c.before.before.before.before.before.before.before) _ _ (four-word c.before.before.before.before) _ c.run_end-end.ensures c.if-end-line.false
+returns c = problem_read c.args.line.now (begun c.before.before.before.before.before.before.before.before.before.before.before.before.before.before.before) _ (one_word c.before.before.before.before.before.before.before.before.before.before.before) _ (two-word c.before.before.before.before.before.before.before) _ _ (three-word c.before.before.before.before.before) _ _ (four-word c.before.before.before) _ c.run_end-end.ensures c.if-end-line.false

@@ -26,13 +26,13 @@ pub shape_of-points-then-not-enough : goal.shape_of-points-then-not-enough
 shape_of-points-then-not-enough c = c.try_flip-grown.auto.points ∙ c.loop-v.invariant.1.points_size
 
 pub shape_of-falsified-then-not-enough : goal.shape_of-falsified-then-not-enough
-shape_of-falsified-then-not-enough c = c.try_flip-grown.auto.points ∙ c.loop-v.invariant.1.falsified_size
+shape_of-falsified-then-not-enough c = c.try_flip-grown.auto.falsified ∙ c.loop-v.invariant.1.falsified_size
 
 pub shape_of-depths-then-not-enough : goal.shape_of-depths-then-not-enough
-shape_of-depths-then-not-enough c = c.try_flip-grown.auto.points ∙ c.loop-v.invariant.1.depths_size
+shape_of-depths-then-not-enough c = c.try_flip-grown.auto.depths ∙ c.loop-v.invariant.1.depths_size
 
 pub shape_of-links-then-not-enough : goal.shape_of-links-then-not-enough
-shape_of-links-then-not-enough c = c.try_flip-grown.auto.points ∙ c.loop-v.invariant.1.links_size
+shape_of-links-then-not-enough c = c.try_flip-grown.auto.links ∙ c.loop-v.invariant.1.links_size
 
 pub returns-then-not-enough : goal.returns-then-not-enough
 returns-then-not-enough c =
@@ -52,9 +52,9 @@ loop-v-smaller c =
 pub loop-v-preserved : goal.loop-v-preserved
 loop-v-preserved c =
     let done = c.try_flip-grown in
-    let kept = done.auto.points in (
+    let kept = done.auto in (
       trying_goes_on _ _ _ _ _ _ c.requires.0.coverable.askable.few c.loop-v.invariant.0 c.loop-v-test.true done.ensures.0 done.ensures.1 c.if-not-enough.false _ c.flip-left.ensures c.next_variable-v-in-loop-v.ensures,
-      sizes_trans c.loop-v.invariant.1 (record { points_size = kept.0; falsified_size = kept.1.0; depths_size = kept.1.1.0; links_size = kept.1.1.1.0 }),
+      sizes_trans c.loop-v.invariant.1 (record { points_size = kept.points; falsified_size = kept.falsified; depths_size = kept.depths; links_size = kept.links }),
     )
 
 pub shape_of-points : goal.shape_of-points
