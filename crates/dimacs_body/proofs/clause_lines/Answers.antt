@@ -8,25 +8,25 @@ pub clause_line-step-requires : goal.clause_line-step-requires
 clause_line-step-requires c = (c.loop-step.invariant.0.ready, c.loop-step.invariant.0.within)
 
 pub returns-in_default : goal.returns-in_default
-returns-in_default c = going_ends c.loop-step.invariant.0 c.clause_line_lem.ensures
+returns-in_default c = going_ends c.loop-step.invariant.0 c.clause_line-step.ensures
 
 pub returns-then-text-stop : goal.returns-then-text-stop
-returns-then-text-stop c = going_ends c.loop-step.invariant.0 c.clause_line_lem.ensures
+returns-then-text-stop c = going_ends c.loop-step.invariant.0 c.clause_line-step.ensures
 
 pub opens_apart-apart-requires : goal.opens_apart-apart-requires
 opens_apart-apart-requires c = search rules
 
 pub returns-then-apart : goal.returns-then-apart
-returns-then-apart c = going_ends c.loop-step.invariant.0 c.clause_line_lem.ensures
+returns-then-apart c = going_ends c.loop-step.invariant.0 c.clause_line-step.ensures
 
 pub loop-step-smaller : goal.loop-step-smaller
-loop-step-smaller c = omega (arith, c.if-text-stop.false, going_later c.loop-step.invariant.0 c.clause_line_lem.ensures c.in-Passed.is)
+loop-step-smaller c = omega (arith, c.if-text-stop.false, going_later c.loop-step.invariant.0 c.clause_line-step.ensures c.in-Passed.is)
 
 pub loop-step-preserved : goal.loop-step-preserved
 loop-step-preserved c = (
-  going_goes_on c.loop-step.invariant.0 c.clause_line_lem.ensures c.in-Passed.is c.if-text-stop.false (sym c.opens_apart-apart.ensures ∙ c.if-apart.false),
-  c.clause_line_lem.auto.1.1.1.1.0 ∙ c.loop-step.invariant.1,
-  c.clause_line_lem.auto.1.1.1.1.1.0 ∙ c.loop-step.invariant.2,
+  going_goes_on c.loop-step.invariant.0 c.clause_line-step.ensures c.in-Passed.is c.if-text-stop.false (sym c.opens_apart-apart.ensures ∙ c.if-apart.false),
+  c.clause_line-step.auto.positive ∙ c.loop-step.invariant.1,
+  c.clause_line-step.auto.negative ∙ c.loop-step.invariant.2,
 )
 
 pub loop-step-init : goal.loop-step-init

@@ -18,7 +18,7 @@ target_line-taken-requires c = search rules
 
 pub returns-then-targeting : goal.returns-then-targeting
 unfolding is_target_line
-returns-then-targeting c = target_read c.requires.0 (sym c.begins-targeting.ensures ∙ c.if-targeting.true) c.target_line_lem.ensures
+returns-then-targeting c = target_read c.requires.0 (sym c.begins-targeting.ensures ∙ c.if-targeting.true) c.target_line-taken.ensures
 
 pub begins-permuting-requires : goal.begins-permuting-requires
 begins-permuting-requires c = search rules
@@ -35,7 +35,7 @@ permutation_line-taken-requires c = search rules
 pub returns-then-permuting : goal.returns-then-permuting
 unfolding is_permutation_line
 returns-then-permuting c =
-    permutation_read c.requires.0 (sym c.begins-permuting.ensures ∙ c.if-permuting.true) c.permutation_line_lem.ensures
+    permutation_read c.requires.0 (sym c.begins-permuting.ensures ∙ c.if-permuting.true) c.permutation_line-taken.ensures
 
 pub returns : goal.returns
 unfolding is_target_line is_permutation_line

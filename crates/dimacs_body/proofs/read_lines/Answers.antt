@@ -28,9 +28,9 @@ loop-last-smaller c =
 pub loop-last-preserved : goal.loop-last-preserved
 loop-last-preserved c = (
   passing_goes_on c.loop-last.invariant.0 c.loop-last-test.true c.read_part-part.ensures c.in-Passed.is c.if-part.false c.afresh-state.ensures,
-  c.read_part-part.auto.state ∙ c.loop-last.invariant.1,
-  c.read_part-part.auto.state ∙ c.loop-last.invariant.2,
-  c.read_part-part.auto.state ∙ c.loop-last.invariant.3,
+  c.read_part-part.auto.positive ∙ c.loop-last.invariant.1,
+  c.read_part-part.auto.negative ∙ c.loop-last.invariant.2,
+  c.read_part-part.auto.images ∙ c.loop-last.invariant.3,
 )
 
 pub returns : goal.returns

@@ -12,12 +12,12 @@ use Rattle.certificate.proofs.bodies.number_from.Tie as tie
 use Rattle.certificate.proofs.bodies.number_from.Goals as goal
 
 -- a byte is below 256
-byte : (c : lts.After-shared_slice_known tie.the-claims reads.Pre reads.Post goal.the-invariant-loop-i goal.the-decreases-loop-i) → get_or c.args.bytes.now (c.loop-i.i - 1) 0 < 256
+byte : (c : lts.After-shared_slice_known reads.Pre reads.Post goal.the-invariant-loop-i goal.the-decreases-loop-i) → get_or c.args.bytes.now (c.loop-i.i - 1) 0 < 256
 byte c = omega (arith, c.shared_slice_known-1.given (c.loop-i.i - 1))
 
 -- with the byte before them the bytes still stand for a number below the next power, and at most eight for one of 64
 -- bits
-bound : (c : lts.After-shared_slice_known tie.the-claims reads.Pre reads.Post goal.the-invariant-loop-i goal.the-decreases-loop-i)
+bound : (c : lts.After-shared_slice_known reads.Pre reads.Post goal.the-invariant-loop-i goal.the-decreases-loop-i)
     → (c.loop-i.r * 256 + get_or c.args.bytes.now (c.loop-i.i - 1) 0
     < 256 ^ (length c.args.bytes.now - (c.loop-i.i - 1)))
     × (256 ^ (length c.args.bytes.now - (c.loop-i.i - 1)) ≤ 256 ^ 8)

@@ -1,0 +1,15 @@
+-- `check_distinct::most_refusal` meets its contract: an array of zeros is what the test is to be lent. Assumes nothing.
+use Rattle.std.proofs.Common.{refl, sym, ℕ, ◌*◌}
+use lib.ListN.{length-replicate}
+use Rattle.formula.specs.Limits.{max_slots}
+use Rattle.check_distinct.specs.Laws.IndexingLaws.{zeros_links, links_indexable}
+use Rattle.check_distinct.proofs.most_refusal.Goals as goal
+
+pub slice_bounds-points_refusal-end : goal.slice_bounds-points_refusal-end
+slice_bounds-points_refusal-end c = sym (length-replicate {A = ℕ} (3 * max_slots) 0)
+
+pub points_refusal-requires : goal.points_refusal-requires
+points_refusal-requires c = links_indexable (zeros_links max_slots max_slots (3 * max_slots) refl) c.requires
+
+pub returns : goal.returns
+returns c = c.points_refusal.ensures.tells
