@@ -13,12 +13,12 @@ number_passes-fine-requires c = search rules
 pub returns-then-not-fine : goal.returns-then-not-fine
 returns-then-not-fine c =
     let l = c.loop-i in
-    sym (l.invariant ∙ below_stops _ _ l.i c.loop-i-test.true (sym c.number_passes_lem.ensures ∙ c.if-not-fine.true))
+    sym (l.invariant ∙ below_stops _ _ l.i c.loop-i-test.true (sym c.number_passes-fine.ensures ∙ c.if-not-fine.true))
 
 pub loop-i-preserved : goal.loop-i-preserved
 loop-i-preserved c =
     let l = c.loop-i in
-    l.invariant ∙ below_goes_on _ _ l.i c.loop-i-test.true (sym c.number_passes_lem.ensures ∙ c.if-not-fine.false)
+    l.invariant ∙ below_goes_on _ _ l.i c.loop-i-test.true (sym c.number_passes-fine.ensures ∙ c.if-not-fine.false)
 
 pub returns : goal.returns
 returns c =

@@ -42,8 +42,8 @@ headed c = linked_few (linked c) (le_trans (few c) (lends c).points_room)
 -- the slices are as long as at the entry
 sizes : (c : lts.After-process tie.the-claims reads.Pre reads.Post goal.the-invariant-loop-position goal.the-decreases-loop-position) → let a = c.args in SameSizes a.points.now a.falsified.now a.depths.now a.links.now c.process-step.new.points c.process-step.new.falsified c.process-step.new.depths c.process-step.new.links
 sizes c =
-    let kept = c.process-step.auto.1.1.1.1 in
-    sizes_trans c.loop-position.invariant.1 (record { points_size = kept.0; falsified_size = kept.1.0; depths_size = kept.1.1.0; links_size = kept.1.1.1.0 })
+    let kept = c.process-step.auto in
+    sizes_trans c.loop-position.invariant.1 (record { points_size = kept.points; falsified_size = kept.falsified; depths_size = kept.depths; links_size = kept.links })
 
 pub loop-position-init : goal.loop-position-init
 loop-position-init c =
