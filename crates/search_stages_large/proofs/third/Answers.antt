@@ -26,11 +26,11 @@ pub finish-requires : goal.finish-requires
 finish-requires c =
     let pre = c.requires in
     let told = c.explore_many-explored in
-    let kept = told.auto.1.1.1.1 in (
+    let kept = told.auto in (
       pre.0,
-      lends_still _ _ pre.1 kept.0 kept.1.0 kept.1.1.0,
+      lends_still _ _ pre.1 kept.points kept.falsified kept.depths,
       stage_midway _ _ _ pre.0 _ _ _ _ _ _ _ told.ensures _ c.in-Paused.is pre.2,
-      stage_carries _ _ _ pre.0 _ _ _ _ _ _ _ told.ensures _ c.in-Paused.is max_slots (le_of_eq (sym kept.1.1.1.0)) (le_trans (le_of_eq (long c.before.before.before.before.before.before.before.before.before.before.before.before.before.before.before.before.before.before.before)) (leb-true many_heads max_slots refl)),
+      stage_carries _ _ _ pre.0 _ _ _ _ _ _ _ told.ensures _ c.in-Paused.is max_slots (le_of_eq (sym kept.found)) (le_trans (le_of_eq (long c.before.before.before.before.before.before.before.before.before.before.before.before.before.before.before.before.before.before.before)) (leb-true many_heads max_slots refl)),
     )
 
 pub returns-in-Concluded : goal.returns-in-Concluded

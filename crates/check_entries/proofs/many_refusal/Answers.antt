@@ -1,0 +1,22 @@
+-- `check_entries::many_refusal` meets its contract: arrays of zeros are what the test is to be lent. Assumes nothing.
+use Rattle.std.proofs.Common.{refl, sym, ℕ, ◌*◌, leb-true}
+use lib.ListN.{length-replicate}
+use Rattle.check_distinct.specs.Laws.Indexing.{many_points}
+use Rattle.formula.specs.Limits.{max_slots}
+use Rattle.check_entries.specs.Laws.EntryLaws.{zeros-lent, decodable_within}
+use Rattle.check_entries.proofs.many_refusal.Goals as goal
+
+pub slice_bounds-copied_refusal-end : goal.slice_bounds-copied_refusal-end
+slice_bounds-copied_refusal-end c = sym (length-replicate {A = ℕ} many_points 0)
+
+pub slice_bounds-copied_refusal-end-2 : goal.slice_bounds-copied_refusal-end-2
+slice_bounds-copied_refusal-end-2 c = sym (length-replicate {A = ℕ} many_points 0)
+
+pub slice_bounds-copied_refusal-end-3 : goal.slice_bounds-copied_refusal-end-3
+slice_bounds-copied_refusal-end-3 c = sym (length-replicate {A = ℕ} (3 * many_points) 0)
+
+pub copied_refusal-requires : goal.copied_refusal-requires
+copied_refusal-requires c = let pre = c.requires in (decodable_within pre (leb-true many_points max_slots refl), zeros-lent many_points many_points (3 * many_points) _ refl pre.most)
+
+pub returns : goal.returns
+returns c = c.copied_refusal.ensures
