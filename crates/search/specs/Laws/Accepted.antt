@@ -8,7 +8,7 @@ use Rattle.std.proofs.Math.Nat.{le_trans}
 use Rattle.points.specs.Points.{numbered}
 use Rattle.point_slices.specs.Slices.{ClauseSlices, SlotSlices, clauses_of}
 use Rattle.permutation_theory.specs.Permutations.{Permutation, permutations_in}
-use Rattle.permutation_theory.specs.Laws.Symmetries.{symmetry_automorphism}
+use Rattle.permutation_theory.proofs.Symmetries.{symmetry_automorphism}
 use Rattle.formula.specs.declared.Formula.{Formula}
 use Rattle.formula.specs.Limits.{max_slots, capacity}
 use Rattle.formula.specs.Problem.{problem_of}

@@ -13,7 +13,7 @@ use Rattle.math.specs.Laws.QueueLaws.{each_append, each_snoc, last_in, before-af
 use Rattle.points.specs.Points.{Numbered, variables, SatisfiesAll, FirstFalsified, NoneSatisfies}
 use Rattle.permutation_theory.specs.Permutations.{Covered, itself}
 use Rattle.point_theory.specs.Laws.Maps.{CoveredBy, in_set}
-use Rattle.permutation_theory.specs.Laws.Symmetries.{covered_through}
+use Rattle.permutation_theory.proofs.Symmetries.{covered_through}
 use Rattle.formula.specs.Problem.{Problem}
 use Rattle.search_theory.specs.Laws.InvariantLaws.{covered_wider, held, filled-moved, family_moved, filled_more}
 use Rattle.search_theory.specs.Laws.InvariantLaws.{family_more}

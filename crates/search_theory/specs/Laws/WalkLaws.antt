@@ -16,7 +16,7 @@ use Rattle.math.specs.Laws.PartLaws.{each_nil, each_cons}
 use Rattle.math.specs.Laws.QueueLaws.{length_snoc, length_moved}
 use Rattle.math.specs.Lists.{◌∈◌}
 use Rattle.points.specs.Laws.PointLaws.{first_sound, first_complete, first-none}
-use Rattle.points.specs.Laws.SmallestLaws.{smallest-some, smallest-none, none-smallest, smallest_same}
+use Rattle.points.proofs.SmallestLaws.{smallest-some, smallest-none, none-smallest, smallest_same}
 use Rattle.points.specs.Points.{distance, variables, Numbered, first_falsified, NoneSatisfies, smallest}
 use Rattle.permutation_theory.specs.Laws.PermutationLaws.{covered_sound, covered_complete}
 use Rattle.permutation_theory.specs.Permutations.{Permutation, Covered, covered}
