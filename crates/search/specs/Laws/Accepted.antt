@@ -21,7 +21,7 @@ use Rattle.search.specs.Laws.WalkAnswers.{WalkAnswers}
 use Rattle.search.specs.Search.{slot_fault, search_fault, search_reply, search_slots}
 use Rattle.search_theory.specs.Laws.Invariants.{Ready}
 use Rattle.search_theory.specs.Walk.{start, Walks, walked}
-use Rattle.search_theory.specs.Laws.WalkLaws.{walked_walks, walks_walked}
+use Rattle.search_theory.proofs.WalkLaws.{walked_walks, walks_walked}
 use Rattle.search_theory.specs.Laws.MoreRoom.{walks_more}
 
 slot_sound : (k : ℕ) → slot_fault k ≡ no_fault → 1 ≤ k

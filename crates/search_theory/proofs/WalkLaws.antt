@@ -22,7 +22,7 @@ use Rattle.permutation_theory.specs.Laws.PermutationLaws.{covered_sound, covered
 use Rattle.permutation_theory.specs.Permutations.{Permutation, Covered, covered}
 use Rattle.formula.specs.Problem.{Problem}
 use Rattle.formula.specs.Reply.{Reply, satisfiable}
-use Rattle.search_theory.specs.Laws.LevelLaws.{tested-first}
+use Rattle.search_theory.proofs.LevelLaws.{tested-first}
 use Rattle.search_theory.specs.Walk.{Slot, slot, points_in, with_number, State, state, filled, start, Expansion}
 use Rattle.search_theory.specs.Walk.{complete, full, filled_by, queued, Fills, no_more, skipped, filled_next}
 use Rattle.search_theory.specs.Walk.{no_room, placed, expand, Walks, none_left, met, stuck, goes_on, expanded}

@@ -21,8 +21,8 @@ use Rattle.search_theory.specs.Laws.Invariants.{maps, slot_at, Moved, Parent, He
 use Rattle.search_theory.specs.Laws.Invariants.{Invariants, Expanding}
 use Rattle.search_theory.specs.Walk.{Slot, slot, points_in, with_number, Expansion, complete, full, Fills, no_more}
 use Rattle.search_theory.specs.Walk.{skipped, filled_next, no_room, tested}
-use Rattle.search_theory.specs.Laws.LevelLaws.{level_failed}
-use Rattle.search_theory.specs.Laws.WalkLaws.{waiting_in, Added, fills_adds}
+use Rattle.search_theory.proofs.LevelLaws.{level_failed}
+use Rattle.search_theory.proofs.WalkLaws.{waiting_in, Added, fills_adds}
 
 -- ---- the flips of the slot q, whose clause's variables are among vs
 
