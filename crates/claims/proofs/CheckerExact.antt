@@ -15,7 +15,7 @@ use Rattle.check_theory.proofs.StableLaws.{transport_of, stable_names, stable_pu
 use Rattle.check_theory.proofs.StableLaws.{stable_more, covered_plainly, covered_symmetric}
 use Rattle.check_theory.specs.Published.{StableSet, StableModulo}
 use Rattle.checker.specs.Checker.{check_reply}
-use Rattle.checker.specs.Laws.CheckerLaws.{accepts_sound, accepts_complete, own_numbers, same_lengths}
+use Rattle.checker.proofs.CheckerLaws.{accepts_sound, accepts_complete, own_numbers, same_lengths}
 use Rattle.claims.specs.StableSets.{StableListed, HasStableSet, Exact}
 
 module _ (f : Formula) (clauses : ClauseSlices) (file : List ℕ) where
