@@ -1,3 +1,2 @@
 -- Laws, and what functions inside the library promise each other: no contract of an entry point cites any of it.
 pub mod Loops
-pub mod FlipLaws

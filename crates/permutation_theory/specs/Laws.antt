@@ -1,5 +1,2 @@
 -- Laws, and what functions inside the library promise each other: no contract of an entry point cites any of it.
 pub mod PermutationLaws
-pub mod ImageLaws
-pub mod Images
-pub mod Symmetries

@@ -2,4 +2,3 @@
 pub mod Contracts
 pub mod PointLaws
 pub mod NextLaws
-pub mod SmallestLaws

@@ -17,7 +17,7 @@ use Rattle.certificate.specs.Bytes.{number_from, numbers_in}
 use Rattle.math.specs.Laws.NumeralLaws.{length-entries}
 use Rattle.certificate.specs.Laws.RowLaws.{points_fault-take, numbers_fault-take}
 use Rattle.certificate.specs.Rows.{points_fault, numbers_fault}
-use Rattle.check_flips.specs.Laws.FlipLaws.{flips_fault-take}
+use Rattle.check_flips.proofs.FlipLaws.{flips_fault-take}
 use Rattle.check_flips.specs.Flips.{flips_fault}
 use Rattle.check_flips.specs.Laws.Loops.{Testable}
 use Rattle.check_distinct.specs.Laws.Indexing.{Refuses, suits}

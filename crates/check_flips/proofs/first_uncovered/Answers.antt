@@ -11,7 +11,7 @@ use Rattle.points.specs.Points.{numbered}
 use Rattle.point_slices.specs.Slices.{points_of}
 use Rattle.permutation_coverage.specs.Laws.Coverage.{Imaged}
 use Rattle.permutation_coverage.specs.Laws.CoverageLaws.{imaged_none}
-use Rattle.check_flips.specs.Laws.FlipLaws.{tested_follows, listed_within, flips_passed}
+use Rattle.check_flips.proofs.FlipLaws.{tested_follows, listed_within, flips_passed}
 use Rattle.check_flips.specs.Laws.Loops.{listed_by}
 use Rattle.certificate.specs.Rows.{clause_numbered}
 use Rattle.check_flips.proofs.first_uncovered.Goals as goal

@@ -2,7 +2,7 @@
 use Rattle.std.proofs.Common.{sym, ◌∙◌, lt_of_lt_of_le, rules}
 use Rattle.point_slices.specs.Slices.{points_of}
 use Rattle.permutation_coverage.specs.Laws.CoverageLaws.{flip_askable, flip_found, flip-not_found}
-use Rattle.check_flips.specs.Laws.FlipLaws.{follows_covers}
+use Rattle.check_flips.proofs.FlipLaws.{follows_covers}
 use Rattle.check_flips.proofs.flip_passes.Goals as goal
 
 pub flip-flipped-requires : goal.flip-flipped-requires

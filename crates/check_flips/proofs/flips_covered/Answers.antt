@@ -1,8 +1,8 @@
 -- `check_flips::flips_covered` meets its contract: a law of FlipLaws for each event of the loop. Assumes nothing.
 use Rattle.std.proofs.Common.{refl, sym, ◌∙◌, lt_of_lt_of_le}
 use borrow.Author.Tests.{not-true, not-false}
-use Rattle.check_flips.specs.Laws.FlipLaws.{flipping_begins, flipping_less, flipping_stops, flipping_goes_on}
-use Rattle.check_flips.specs.Laws.FlipLaws.{flipping_ends, follows_on}
+use Rattle.check_flips.proofs.FlipLaws.{flipping_begins, flipping_less, flipping_stops, flipping_goes_on}
+use Rattle.check_flips.proofs.FlipLaws.{flipping_ends, follows_on}
 use Rattle.check_flips.proofs.flips_covered.Goals as goal
 
 pub loop-v-init : goal.loop-v-init

@@ -10,7 +10,7 @@ use Rattle.formula.specs.Laws.ReplyLaws.{fault_zero, fault_pos}
 use Rattle.formula.specs.Limits.{max_permutations}
 use Rattle.point_slices.specs.Laws.SliceLaws.{points_blank}
 use Rattle.permutation_coverage.specs.Laws.Coverage.{Staying}
-use Rattle.check_flips.specs.Laws.FlipLaws.{tested-permuting, flips_row}
+use Rattle.check_flips.proofs.FlipLaws.{tested-permuting, flips_row}
 use Rattle.check_flips.specs.Flips.{flips_fault}
 use Rattle.check_flips.proofs.flips_refusal.Lts as lts
 use Rattle.check_flips.proofs.flips_refusal.Reads as reads

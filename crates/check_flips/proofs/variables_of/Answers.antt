@@ -1,7 +1,7 @@
 -- `check_flips::variables_of` meets its contract: the clause of number k stands at index k − 1. Assumes nothing.
 use Rattle.std.proofs.Common.{sym, ap, ◌∙◌, ◌-◌, le_of_eq, le_trans, lt_of_lt_of_le, arith, rules}
 use Rattle.points.specs.Points.{listed}
-use Rattle.check_flips.specs.Laws.FlipLaws.{listed-none, listed_past, listed_at}
+use Rattle.check_flips.proofs.FlipLaws.{listed-none, listed_past, listed_at}
 use Rattle.check_flips.proofs.variables_of.Goals as goal
 
 pub returns-then-k-lt1 : goal.returns-then-k-lt1

@@ -10,8 +10,8 @@ use Rattle.permutation_theory.specs.Permutations.{permutations_in}
 use Rattle.formula.specs.Refusals.{permutation_fault, symmetry_fault, fault_of}
 use Rattle.formula.specs.Reply.{no_fault}
 use Rattle.formula.specs.Laws.ReplyLaws.{IsFault}
-use Rattle.checker.specs.Laws.PartLaws.{Laid, laid, images-listed, images_proper, stops_11, stops_12}
-use Rattle.checker.specs.Laws.PartLaws.{too_many_points, ends_decoded}
+use Rattle.checker.proofs.PartLaws.{Laid, laid, images-listed, images_proper, stops_11, stops_12}
+use Rattle.checker.proofs.PartLaws.{too_many_points, ends_decoded}
 use Rattle.checker.proofs.bodies_refusal.Statement.{statement}
 use Rattle.checker.proofs.bodies_refusal.Tie as tie
 

@@ -8,7 +8,7 @@ use Rattle.formula.specs.Laws.Contracts.{formula_with}
 use Rattle.formula.specs.Refusals.{clauses_fault, fault_of}
 use Rattle.formula.specs.Reply.{no_fault}
 use Rattle.formula.specs.Laws.ReplyLaws.{IsFault}
-use Rattle.checker.specs.Laws.PartLaws.{stops_10, ends_file, clauses_fit_lem}
+use Rattle.checker.proofs.PartLaws.{stops_10, ends_file, clauses_fit_lem}
 use Rattle.checker.proofs.check_numbers.Statement.{statement}
 use Rattle.checker.proofs.check_numbers.Tie as tie
 

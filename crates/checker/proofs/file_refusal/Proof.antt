@@ -8,8 +8,8 @@ use Rattle.point_slices.specs.Laws.Contracts.{lent_clauses}
 use Rattle.formula.specs.Refusals.{fault_of}
 use Rattle.certificate.specs.Certificate.{contents_of, well_formed}
 use Rattle.certificate.specs.Contract.{reply_of_opened, contents_in, handed_out}
-use Rattle.checker.specs.Laws.PartLaws.{stops_14, other_variables, other_clauses, ends_bodies, readable}
-use Rattle.checker.specs.Laws.PartLaws.{opened_file}
+use Rattle.checker.proofs.PartLaws.{stops_14, other_variables, other_clauses, ends_bodies, readable}
+use Rattle.checker.proofs.PartLaws.{opened_file}
 use Rattle.checker.proofs.file_refusal.Statement.{statement}
 use Rattle.checker.proofs.file_refusal.Tie as tie
 

@@ -43,7 +43,7 @@ use Rattle.certificate.specs.Rows.{point_passes, points_fault, clause_numbered, 
 use Rattle.certificate.specs.Writer.{length_needed, certificate_of, write_fault, write_reply, write_output}
 use Rattle.certificate.specs.Laws.WriterLaws.{write_rows, passed_writer, reply_written, reads_back, past_unchanged}
 use Rattle.checker.specs.Checker.{check_reply}
-use Rattle.checker.specs.Laws.CheckerLaws.{accepts_complete}
+use Rattle.checker.proofs.CheckerLaws.{accepts_complete}
 use Rattle.check_theory.specs.Stable.{Transported, Stable}
 
 -- ---- lists of slots, part by part

@@ -5,7 +5,8 @@ use Rattle.points.specs.Points.{empty_clause, listed}
 use Rattle.point_slices.specs.Laws.Contracts.{lent_clauses}
 use Rattle.text_output.specs.Laws.Putting.{places_end, first-none, first_next, first-all, room_left, put_as}
 use Rattle.dimacs_text.specs.Laws.TextParts.{clause_part}
-use Rattle.dimacs_text.specs.Laws.LengthLaws.{longest_clause, clause-length}
+use Rattle.dimacs_text.specs.Laws.LengthLaws.{longest_clause}
+use Rattle.dimacs_text.proofs.ClauseLines.{clause-length}
 use Rattle.dimacs_output.proofs.put_clauses.Goals as goal
 
 pub loop-i-init : goal.loop-i-init

@@ -18,7 +18,8 @@ use Rattle.points.specs.Laws.NextLaws.{next_lowest, next_none}
 use Rattle.formula.specs.Limits.{max_variables}
 use Rattle.formula.specs.Laws.RefusalLaws.{digits_suffice}
 use Rattle.text_output.specs.Laws.Putting.{Put, put_none, put_both, put_as}
-use Rattle.dimacs_text.specs.Laws.TextParts.{variable_part, clause_end, clause_part, clause-parts}
+use Rattle.dimacs_text.specs.Laws.TextParts.{variable_part, clause_end, clause_part}
+use Rattle.dimacs_text.proofs.ClauseLines.{clause-parts}
 use Rattle.dimacs_text.specs.Laws.LengthLaws.{longest_variable, variable-length}
 
 -- the variables `taken` are put, those of `left` are to come, and v is the lowest of these

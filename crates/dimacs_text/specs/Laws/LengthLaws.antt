@@ -1,26 +1,22 @@
--- How long the lines of a written text are at most, and the whole of it. Assumes nothing.
+-- How long the lines of a written text are at most. Assumes nothing.
 use Rattle.std.specs.Prelude.{Bool, true, false, cond, ◌≡◌, refl, ℕ, suc, ◌+◌, ◌*◌, ◌≤◌, ◌<◌, length}
 use mathlib.Core.List.{List, [], ◌∷◌, ◌++◌, map, flat_map}
 use Rattle.std.proofs.Common.{ap, le_trans, arith, length-append}
 use Rattle.std.proofs.lemmas.List.{length-map}
-use Rattle.math.specs.Bits.{bit, members}
+use Rattle.math.specs.Bits.{bit}
 use Rattle.math.specs.Lists.{◌∈◌, below}
-use Rattle.math.specs.Laws.ListLaws.{select_out, length-range}
-use Rattle.math.specs.Laws.CountLaws.{below_out}
-use Rattle.math.specs.Laws.SetLaws.{members_few}
+use Rattle.math.specs.Laws.ListLaws.{length-range}
 use Rattle.math.specs.Laws.SplitLaws.{length_flat_map_le}
-use Rattle.points.specs.Points.{Clause, listed}
+use Rattle.points.specs.Points.{Clause}
 use Rattle.permutation_theory.specs.Permutations.{Permutation, IsPermutation}
 use Rattle.permutation_theory.specs.Laws.PermutationLaws.{permutation_within}
 use Rattle.formula.specs.Limits.{max_variables, max_clauses, max_permutations}
 use Rattle.dimacs_format.specs.Text.{ascii, target_head, pos, neg}
-use Rattle.dimacs_format.specs.Input.{Input}
-use Rattle.dimacs_format.specs.Laws.InputLaws.{Proper}
 use Rattle.text_output.specs.Decimal.{numeral, line_end, line}
 use Rattle.text_output.specs.Laws.DecimalLaws.{numeral-length, line-length}
-use Rattle.dimacs_text.specs.SheetText.{spelling, literals_at, target_line, sheet_text}
-use Rattle.dimacs_text.specs.Laws.TextParts.{literal_part, variable_part, clause_end, clause-parts, image_part}
-use Rattle.dimacs_text.specs.Laws.TextParts.{permutation_parts, permutation_part, clause_part, sheet_parts_lem}
+use Rattle.dimacs_text.specs.SheetText.{spelling, literals_at, target_line}
+use Rattle.dimacs_text.specs.Laws.TextParts.{literal_part, variable_part, image_part, permutation_parts}
+use Rattle.dimacs_text.specs.Laws.TextParts.{permutation_part}
 
 -- ---- a clause
 
@@ -63,19 +59,6 @@ variable-length c i lt = by (bit c.positive i) (bit c.negative i)
       length-append (numeral (suc i)) (32 ∷ []),
     )
     by false false = omega arith
-
-pub clause-length : (n : ℕ) (c : Clause) → n ≤ max_variables → length (clause_part n c) ≤ n * longest_variable + 2
-unfolding members
-clause-length n c few =
-    let parts : List ℕ = flat_map (variable_part c) (members n (listed c)) in
-    omega (
-      arith,
-      ap length (clause-parts n c),
-      length-append parts clause_end,
-      length_flat_map_le (variable_part c) longest_variable (members n (listed c)) (λ i m. variable-length c i
-          (let lt : i < n = below_out n i (select_out (bit (listed c)) (below n) m).0 in omega arith)),
-      members_few n (listed c),
-    )
 
 -- ---- the other lines
 
@@ -133,25 +116,3 @@ longest_sheet = 14 + (max_variables + 8) + max_permutations * (max_variables * 3
 -- the figure that the header and the Rust crate tell their callers
 pub longest_figure : longest_sheet ≡ 1846470
 longest_figure = refl
-
-pub sheet-length : (d : Input) → Proper d → length (sheet_text d) ≤ longest_sheet
-sheet-length d h =
-    let n : ℕ = d.variables in
-    let few = h.few_variables in
-    let problem : List ℕ = line (ascii "p cnf ") n (ascii " ") (length d.clauses) in
-    let target : List ℕ = target_line n d.target ++ line_end in
-    let permutations : List ℕ = flat_map permutation_part d.permutations in
-    let clauses : List ℕ = flat_map (clause_part n) d.clauses in
-    omega (
-      arith,
-      ap length (sheet_parts_lem d),
-      length-append (problem ++ target ++ permutations) clauses,
-      length-append (problem ++ target) permutations,
-      length-append problem target,
-      problem-length n (length d.clauses) few h.few_clauses_lem,
-      target_length n d.target,
-      permutations-length n d.permutations h.some-variable few h.permutations,
-      h.few_permutations_lem,
-      length_flat_map_le (clause_part n) longest_clause d.clauses (λ c m. le_trans (clause-length n c few) (omega arith)),
-      h.few_clauses_lem,
-    )

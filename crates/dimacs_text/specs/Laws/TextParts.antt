@@ -3,17 +3,17 @@
 use Rattle.std.specs.Prelude.{cond, ◌≡◌, ℕ, length}
 use mathlib.Core.List.{List, [], ◌∷◌, ◌++◌, map, flat_map, append_assoc}
 use Rattle.std.proofs.Common.{sym, ap, ap₂, ◌∙◌}
-use Rattle.math.specs.Bits.{bit, members}
+use Rattle.math.specs.Bits.{bit}
 use Rattle.math.specs.Lists.{below}
-use Rattle.math.specs.Laws.SplitLaws.{flat_map_append, flat_map_single, flat_map_map, flat_map_flat_map}
-use Rattle.points.specs.Points.{Clause, listed, variables}
+use Rattle.math.specs.Laws.SplitLaws.{flat_map_append, flat_map_single, flat_map_map}
+use Rattle.points.specs.Points.{Clause}
 use Rattle.permutation_theory.specs.Permutations.{Permutation}
 use Rattle.dimacs_format.specs.Text.{ascii, target_head, Literal}
 use Rattle.dimacs_format.specs.Input.{Input}
 use Rattle.text_output.specs.Decimal.{numeral, line_end, field, line}
 use Rattle.dimacs_text.specs.SheetText.{spaced, spelling, problem_line, target_line, permutation_line, literals_at}
-use Rattle.dimacs_text.specs.SheetText.{literals_of, clause_line, lined, sheet_lines, sheet_text}
-use Rattle.dimacs_text.specs.Laws.WordLaws.{spaced_last, spaced-first}
+use Rattle.dimacs_text.specs.SheetText.{clause_line, lined, sheet_lines, sheet_text}
+use Rattle.dimacs_text.specs.Laws.WordLaws.{spaced-first}
 
 -- ---- the parts
 
@@ -30,19 +30,6 @@ variable_part c i = flat_map literal_part (literals_at c i)
 -- the last word of a clause's line and the line end
 abbrev pub clause_end : List ℕ
 clause_end = ascii "0\n"
-
--- a clause's line: a part for each variable that it lists, and its end
-pub clause-parts : (n : ℕ) (c : Clause)
-    → clause_line n c ++ line_end ≡ flat_map (variable_part c) (members n (listed c)) ++ clause_end
-unfolding clause_line literals_of variables variable_part literal_part
-clause-parts n c =
-    let names : List ℕ = members n (listed c) in
-    let words : List (List ℕ) = map spelling (flat_map (literals_at c) names) in
-    ap (λ l. l ++ line_end)
-    (spaced_last words (ascii "0")
-    ∙ ap (λ l. l ++ ascii "0") (flat_map_map (λ v. v ++ 32 ∷ []) spelling (flat_map (literals_at c) names)
-    ∙ flat_map_flat_map (λ l. spelling l ++ 32 ∷ []) (literals_at c) names))
-    ∙ append_assoc (flat_map (variable_part c) names) (ascii "0") line_end
 
 -- a number with a blank before it
 abbrev pub image_part : ℕ → List ℕ

@@ -22,10 +22,11 @@ use Rattle.text_output.specs.Decimal.{line, line_end}
 use Rattle.text_output.specs.Laws.Putting.{places_end, Put, put_both, put_as, put_over}
 use Rattle.dimacs_text.specs.SheetText.{target_line, input_in, text_of}
 use Rattle.dimacs_text.specs.Writer.{text_fault, text_reply, text_output}
-use Rattle.dimacs_text.specs.Laws.RoundTrip.{input_proper}
+use Rattle.dimacs_text.proofs.RoundTrip.{input_proper}
 use Rattle.dimacs_text.specs.Laws.TextParts.{permutation_part, clause_part, sheet_parts, sheet_parts_lem}
 use Rattle.dimacs_text.specs.Laws.LengthLaws.{problem-length, target_length, permutations-length, longest_clause}
-use Rattle.dimacs_text.specs.Laws.LengthLaws.{longest_sheet, sheet-length}
+use Rattle.dimacs_text.specs.Laws.LengthLaws.{longest_sheet}
+use Rattle.dimacs_text.proofs.ClauseLines.{sheet-length}
 use Rattle.dimacs_output.specs.Laws.LinePutting.{longest_images, ListedWithin, AllPermutations}
 use Rattle.certificate_writer.specs.Contract.{reply_of_written}
 use Rattle.certificate_writer.specs.declared.Written.TheVariants.{Bytes, Refused}

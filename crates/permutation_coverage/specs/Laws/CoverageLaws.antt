@@ -21,7 +21,7 @@ use Rattle.math.specs.Laws.SetLaws.{members_next}
 use Rattle.points.specs.Points.{point_digits}
 use Rattle.points.specs.Laws.Contracts.{NextVariable}
 use Rattle.points.specs.Laws.NextLaws.{next_lowest, next_empty}
-use Rattle.permutation_theory.specs.Laws.ImageLaws.{image_differing, image_flip, image_sound, moved_none, sent_range}
+use Rattle.permutation_theory.proofs.ImageLaws.{image_differing, image_flip, image_sound, moved_none, sent_range}
 use Rattle.permutation_theory.specs.Permutations.{Permutation, IsPermutation, moved, image_of_point, image_in, covered}
 use Rattle.permutation_theory.specs.Permutations.{permutations_in}
 use Rattle.permutation_images.specs.Laws.Contracts.{Movable, Fixes}

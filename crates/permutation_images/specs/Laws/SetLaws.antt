@@ -13,7 +13,7 @@ use Rattle.math.specs.Laws.SetLaws.{bit_other, members_next}
 use Rattle.points.specs.Laws.Contracts.{NextVariable}
 use Rattle.points.specs.Laws.NextLaws.{next_lowest}
 use Rattle.points.specs.Points.{Clause, listed, empty_clause}
-use Rattle.permutation_theory.specs.Laws.ImageLaws.{moved_idle, moved_union, moved_still, moved-one}
+use Rattle.permutation_theory.proofs.ImageLaws.{moved_idle, moved_union, moved_still, moved-one}
 use Rattle.permutation_theory.specs.Laws.PermutationLaws.{same_clause_complete}
 use Rattle.permutation_theory.specs.Permutations.{moved, image_of_clause, image_among, same_clause}
 use Rattle.permutation_images.specs.Laws.Contracts.{Movable, Fixes}

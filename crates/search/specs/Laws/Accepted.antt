@@ -8,7 +8,7 @@ use Rattle.std.proofs.Math.Nat.{le_trans}
 use Rattle.points.specs.Points.{numbered}
 use Rattle.point_slices.specs.Slices.{ClauseSlices, SlotSlices, clauses_of}
 use Rattle.permutation_theory.specs.Permutations.{Permutation, permutations_in}
-use Rattle.permutation_theory.specs.Laws.Symmetries.{symmetry_automorphism}
+use Rattle.permutation_theory.proofs.Symmetries.{symmetry_automorphism}
 use Rattle.formula.specs.declared.Formula.{Formula}
 use Rattle.formula.specs.Limits.{max_slots, capacity}
 use Rattle.formula.specs.Problem.{problem_of}
@@ -21,7 +21,7 @@ use Rattle.search.specs.Laws.WalkAnswers.{WalkAnswers}
 use Rattle.search.specs.Search.{slot_fault, search_fault, search_reply, search_slots}
 use Rattle.search_theory.specs.Laws.Invariants.{Ready}
 use Rattle.search_theory.specs.Walk.{start, Walks, walked}
-use Rattle.search_theory.specs.Laws.WalkLaws.{walked_walks, walks_walked}
+use Rattle.search_theory.proofs.WalkLaws.{walked_walks, walks_walked}
 use Rattle.search_theory.specs.Laws.MoreRoom.{walks_more}
 
 slot_sound : (k : ℕ) → slot_fault k ≡ no_fault → 1 ≤ k

@@ -27,7 +27,7 @@ use Rattle.search_step.specs.Laws.Stepping.{framed, Searchable, Ended}
 use Rattle.search_theory.specs.Laws.Invariants.{Ready}
 use Rattle.search_theory.specs.Filled.{filled_with}
 use Rattle.search_theory.specs.Walk.{Slot, slot, start, Walks, walked}
-use Rattle.search_theory.specs.Laws.WalkLaws.{walks_walked}
+use Rattle.search_theory.proofs.WalkLaws.{walks_walked}
 
 -- ---- what the code hands to the search
 

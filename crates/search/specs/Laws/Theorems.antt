@@ -16,16 +16,16 @@ use Rattle.search_theory.specs.Laws.Promised.{LowerBound, Nearest, HandedBack, S
 use Rattle.search_theory.specs.Laws.Promised.{ClosedSlots, reported}
 use Rattle.search.specs.Laws.WalkAnswers.{WalkAnswers}
 use Rattle.formula.specs.Laws.Alike.{Alike}
-use Rattle.search_theory.specs.Laws.Bound.{unknown_bound}
+use Rattle.search_theory.proofs.Bound.{unknown_bound}
 use Rattle.search.specs.Search.{search_reply, search_slots, search_slices}
-use Rattle.search_theory.specs.Laws.Closed.{refuted_closed}
-use Rattle.search_theory.specs.Laws.Complete.{refuted, unsatisfiable_exactly}
-use Rattle.search_theory.specs.Laws.Ends.{search_ends, ended-filled, ended_family, walks_reported}
+use Rattle.search_theory.proofs.Closed.{refuted_closed}
+use Rattle.search_theory.proofs.Complete.{refuted, unsatisfiable_exactly}
+use Rattle.search_theory.proofs.Ends.{search_ends, ended-filled, ended_family, walks_reported}
 use Rattle.search.specs.Laws.Inputs.{same_reply, same_slots, same_slices}
 use Rattle.search_theory.specs.Laws.Invariants.{Ready, slot_at, Parent, Filled}
-use Rattle.search_theory.specs.Laws.Nearest.{found_nearest, found_slot}
-use Rattle.search_theory.specs.Laws.Room.{never_unknown}
-use Rattle.search_theory.specs.Laws.Smallest.{found_smallest-filled, found_smallest}
+use Rattle.search_theory.proofs.Nearest.{found_nearest, found_slot}
+use Rattle.search_theory.proofs.Room.{never_unknown}
+use Rattle.search_theory.proofs.Smallest.{found_smallest-filled, found_smallest}
 use Rattle.search_theory.specs.Walk.{Slot, points_in, start, Walks}
 
 -- ---- the slots l that a search leaves, whatever it answers

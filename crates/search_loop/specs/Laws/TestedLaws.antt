@@ -16,7 +16,7 @@ use Rattle.point_theory.specs.Laws.Distance.{distance_wider}
 use Rattle.formula.specs.Problem.{Problem}
 use Rattle.formula.specs.Reply.{satisfiable}
 use Rattle.search_theory.specs.Laws.Invariants.{slot_at}
-use Rattle.search_theory.specs.Laws.LevelLaws.{tested-all, untested_fails}
+use Rattle.search_theory.proofs.LevelLaws.{tested-all, untested_fails}
 use Rattle.search_theory.specs.Walk.{Slot, slot, points_in, opens, tested, state, Walks, met}
 use Rattle.search_expansion.specs.declared.Frame.{Frame}
 use Rattle.search_expansion.specs.Laws.FillingLaws.{held_points}

@@ -34,13 +34,13 @@ use Rattle.search_level.specs.Laws.NumberLaws.{number_none, number_found}
 use Rattle.search_level.specs.Laws.Testing.{number_for}
 use Rattle.search_step.specs.Laws.Stepping.{framed, Searchable, Linked, position, next_point, Next, Stands, Midway}
 use Rattle.search_step.specs.Laws.Stepping.{Unmet, GoesOn, Ended, Steps, Kept}
-use Rattle.search_theory.specs.Laws.ExpansionLaws.{invariants_step}
+use Rattle.search_theory.proofs.ExpansionLaws.{invariants_step}
 use Rattle.search_theory.specs.Laws.InvariantLaws.{first_in}
 use Rattle.search_theory.specs.Laws.Invariants.{slot_at}
 use Rattle.search_theory.specs.Filled.{filled_with}
-use Rattle.search_theory.specs.Laws.LevelLaws.{tested-first}
+use Rattle.search_theory.proofs.LevelLaws.{tested-first}
 use Rattle.search_theory.specs.Walk.{Slot, slot, with_number, state, Expansion, Fills, tested, Walks, stuck, goes_on}
-use Rattle.search_theory.specs.Laws.WalkLaws.{Added, fills_adds, fills_room}
+use Rattle.search_theory.proofs.WalkLaws.{Added, fills_adds, fills_room}
 
 -- ---- a slot in the memory
 

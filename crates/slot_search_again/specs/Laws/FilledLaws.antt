@@ -14,10 +14,10 @@ use Rattle.search.specs.Search.{search_fault, search_reply, search_slots}
 use Rattle.search.specs.Laws.Accepted.{slot_complete, ready_of_faults, lent_of_faults}
 use Rattle.search.specs.Laws.Theorems.{slots_filled}
 use Rattle.search_theory.specs.Walk.{walked}
-use Rattle.search_theory.specs.Laws.Ends.{walks_reported}
+use Rattle.search_theory.proofs.Ends.{walks_reported}
 use Rattle.search_theory.specs.Laws.MoreRoom.{walks_more}
 use Rattle.search_theory.specs.Laws.Promised.{reported}
-use Rattle.search_theory.specs.Laws.WalkLaws.{walked_walks, walks_walked}
+use Rattle.search_theory.proofs.WalkLaws.{walked_walks, walks_walked}
 use Rattle.slot_prefixes.specs.Laws.PrefixLaws.{no_room}
 
 module _ (f : Formula) (clauses : ClauseSlices) where

@@ -32,7 +32,7 @@ use Rattle.certificate.specs.Writer.{length_needed, write_reply, write_output}
 use Rattle.checker.specs.Checker.{check_reply}
 use Rattle.claims.specs.Claim.{Sheet, from_text, by_value, formula_in, slices_in, problem_in}
 use Rattle.claims.specs.Claim.{SearchAnswers, writer_reply, writer_output, Certified}
-use Rattle.claims.specs.Laws.Theorem.{claim}
+use Rattle.claims.proofs.Theorem.{claim}
 use Rattle.solver.specs.declared.Solution.{Solution}
 use Rattle.solver.specs.declared.Solution.TheVariants.{Uncertified, Refused}
 use Rattle.solver.specs.Solver.{blank, reading_of, after_reading, sheet_reply, sheet_slices, on_refutation}

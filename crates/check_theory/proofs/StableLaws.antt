@@ -14,7 +14,7 @@ use Rattle.formula.specs.Limits.{max_slots, max_permutations}
 use Rattle.certificate.specs.Laws.RowLaws.{OwnNumbers, clause_of_lem}
 use Rattle.certificate.specs.Rows.{clause_numbered}
 use Rattle.check_theory.specs.Published.{Nbhd, Transport, StableUpTo, Symmetry, SymmetricToOne, Names}
-use Rattle.check_theory.specs.Laws.PublishedLaws.{flips_neighbours, neighbours_flips}
+use Rattle.check_theory.proofs.PublishedLaws.{flips_neighbours, neighbours_flips}
 use Rattle.check_theory.specs.Stable.{Transported, Stable}
 
 -- ---- the transport function of a certificate

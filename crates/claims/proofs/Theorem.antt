@@ -14,7 +14,7 @@ use Rattle.search.specs.Laws.Left.{search_points_left}
 use Rattle.search.specs.Laws.Theorems.{search_nearest, search_exactly, search_bound, search_room, search_slot}
 use Rattle.search.specs.Laws.Theorems.{search_smallest-filled, search_smallest}
 use Rattle.certificate.specs.Writer.{length_needed}
-use Rattle.checker.specs.Laws.Soundness.{accepted_refutes}
+use Rattle.checker.proofs.Soundness.{accepted_refutes}
 use Rattle.claims.specs.Laws.Certificates.{short_reply, short_output, long_reply, long_rest, long_accepted}
 use Rattle.claims.specs.Laws.SameChoice.{HouseChoice, same_house_choice}
 use Rattle.claims.specs.Claim.{Sheet, formula_in, slices_in, problem_in, SearchAnswers}

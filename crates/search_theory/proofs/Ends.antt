@@ -6,8 +6,8 @@ use Rattle.points.specs.Points.{variables, Numbered, FirstFalsified}
 use Rattle.formula.specs.Problem.{Problem}
 use Rattle.formula.specs.Reply.{Reply}
 use Rattle.search_theory.specs.Laws.Promised.{reported}
-use Rattle.search_theory.specs.Laws.ExpansionLaws.{numbered-moved, begins_expanding, fills_expanding}
-use Rattle.search_theory.specs.Laws.ExpansionLaws.{invariants_step}
+use Rattle.search_theory.proofs.ExpansionLaws.{numbered-moved, begins_expanding, fills_expanding}
+use Rattle.search_theory.proofs.ExpansionLaws.{invariants_step}
 use Rattle.search_theory.specs.Laws.InvariantLaws.{invariants_start}
 use Rattle.search_theory.specs.Laws.Invariants.{Ready, Filled, Family, Invariants, Expanding, Ended, exhausted}
 use Rattle.search_theory.specs.Laws.Invariants.{reached, blocked}

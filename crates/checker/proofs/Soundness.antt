@@ -10,8 +10,8 @@ use Rattle.formula.specs.Reply.{accepted, no_fault}
 use Rattle.formula.specs.Laws.ReplyLaws.{tested}
 use Rattle.certificate.specs.Certificate.{file_permutations, file_points, file_numbers}
 use Rattle.checker.specs.Checker.{check_reply}
-use Rattle.checker.specs.Laws.CheckerLaws.{accepts_sound}
-use Rattle.check_theory.specs.Laws.Refutation.{stable_refutes}
+use Rattle.checker.proofs.CheckerLaws.{accepts_sound}
+use Rattle.check_theory.proofs.Refutation.{stable_refutes}
 
 -- clauses that the checker's refusal 10 lets pass list none but the variables below n
 sound_below : (f : Formula) (clauses : ClauseSlices) → clauses_fault f clauses ≡ no_fault

@@ -20,11 +20,11 @@ use Rattle.certificate.specs.Writer.{length_needed, certificate_of}
 use Rattle.check_theory.specs.Published.{StableSet, StableModulo}
 use Rattle.checker.specs.Checker.{check_reply}
 use Rattle.claims.specs.Cases.{Case, case_a, case_a_swap, case_a_3, case_b, certificate_in, any_sheet}
-use Rattle.claims.specs.Laws.CasesHold.{swap_accepted}
+use Rattle.claims.proofs.CasesHold.{swap_accepted}
 use Rattle.claims.specs.Claim.{Sheet, from_text, by_value, problem_in, SearchAnswers, Meets, AtLeast}
 use Rattle.claims.specs.Claim.{SmallestIn, InSlots, OnSheet, SameRules, Certified}
-use Rattle.claims.specs.Laws.CheckerExact.{exact}
-use Rattle.claims.specs.Laws.Theorem.{claim}
+use Rattle.claims.proofs.CheckerExact.{exact}
+use Rattle.claims.proofs.Theorem.{claim}
 use Rattle.claims.specs.StableSets.{StableListed, HasStableSet}
 
 -- the sheet of a case, by value, and three slices of p places

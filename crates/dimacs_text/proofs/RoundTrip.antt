@@ -31,10 +31,10 @@ use Rattle.dimacs_format.specs.Text.{max_text, piece, Line, lines, is_target_lin
 use Rattle.dimacs_text.specs.SheetText.{lined, problem_line, target_line, permutation_line, literals_of, clause_line}
 use Rattle.dimacs_text.specs.SheetText.{sheet_lines, sheet_text, input_in, text_of}
 use Rattle.dimacs_text.specs.ReadBack.{unused_zero, ReadsBack}
-use Rattle.dimacs_text.specs.Laws.LinesBehind.{target_kinds, words_comment, behind_both}
-use Rattle.dimacs_text.specs.Laws.LiteralLaws.{literals_within, clause_back}
+use Rattle.dimacs_text.proofs.LinesBehind.{target_kinds, words_comment, behind_both}
+use Rattle.dimacs_text.proofs.LiteralLaws.{literals_within, clause_back}
 use Rattle.dimacs_text.specs.Laws.WordLaws.{line_next}
-use Rattle.dimacs_text.specs.Laws.WrittenLines.{problem_inside, problem_says, target_inside, target_says}
+use Rattle.dimacs_text.proofs.WrittenLines.{problem_inside, problem_says, target_inside, target_says}
 
 -- ---- the text of an input is accepted
 

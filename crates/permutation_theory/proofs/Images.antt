@@ -10,8 +10,8 @@ use Rattle.math.specs.Laws.CountLaws.{below_in, below_out, bit_below, count_carr
 use Rattle.math.specs.Laws.ListLaws.{in_get_d, map_in, count_ext, distinct_range}
 use Rattle.math.specs.Lists.{◌∈◌, count, below}
 use Rattle.points.specs.Points.{Clause, Satisfies, by_yes, by_no, satisfies, distance}
-use Rattle.permutation_theory.specs.Laws.ImageLaws.{sent_to, index_lt, sent_lt, sent_injective, moved_at, moved-lt}
-use Rattle.permutation_theory.specs.Laws.ImageLaws.{image_sound}
+use Rattle.permutation_theory.proofs.ImageLaws.{sent_to, index_lt, sent_lt, sent_injective, moved_at, moved-lt}
+use Rattle.permutation_theory.proofs.ImageLaws.{image_sound}
 use Rattle.permutation_theory.specs.Laws.PermutationLaws.{permutation_within, permutation_distinct}
 use Rattle.permutation_theory.specs.Laws.PermutationLaws.{permutation_onto}
 use Rattle.permutation_theory.specs.Permutations.{Permutation, IsPermutation, moved, image_of_point, image_of_clause}

@@ -5,10 +5,10 @@ use Rattle.std.proofs.Common.{◌∙◌, le_refl, le_trans, le_antisymm}
 use Rattle.formula.specs.Problem.{Problem}
 use Rattle.formula.specs.Reply.{satisfiable}
 use Rattle.search_theory.specs.Laws.Promised.{Nearest, HandedBack}
-use Rattle.search_theory.specs.Laws.Bound.{lower_bound}
-use Rattle.search_theory.specs.Laws.Ends.{search_ends}
+use Rattle.search_theory.proofs.Bound.{lower_bound}
+use Rattle.search_theory.proofs.Ends.{search_ends}
 use Rattle.search_theory.specs.Laws.Invariants.{Ready, Ended, reached}
-use Rattle.search_theory.specs.Laws.LevelLaws.{tested_out, level_below, level_near}
+use Rattle.search_theory.proofs.LevelLaws.{tested_out, level_below, level_near}
 use Rattle.search_theory.specs.Walk.{Slot, start, Walks}
 
 module _ (pb : Problem) (capacity : ℕ) (ready : Ready pb) where

@@ -33,7 +33,7 @@ use Rattle.check_flips.specs.Flips.{flips_fault}
 use Rattle.check_flips.specs.Laws.Loops.{Proper}
 use Rattle.check_entries.specs.Laws.Entries.{lists_fault}
 use Rattle.checker.specs.Checker.{same_sizes, sizes_fault, check_fault, check_reply}
-use Rattle.checker.specs.Laws.CheckerLaws.{check_rows}
+use Rattle.checker.proofs.CheckerLaws.{check_rows}
 use Rattle.checker.specs.Laws.Parts.{bodies_fault, file_rows, Readable}
 
 -- a part of a list between two places is as long as they lie apart

@@ -21,7 +21,7 @@ use Rattle.dimacs_format.specs.Text.{ascii, ends_line, is_blank, piece, Clean, p
 use Rattle.text_output.specs.Decimal.{numeral}
 use Rattle.dimacs_text.specs.SheetText.{spaced, problem_line, target_line, permutation_line, spelling, literals_of}
 use Rattle.dimacs_text.specs.SheetText.{clause_line}
-use Rattle.dimacs_text.specs.Laws.LiteralLaws.{clause-words}
+use Rattle.dimacs_text.proofs.LiteralLaws.{clause-words}
 use Rattle.dimacs_text.specs.Laws.WordLaws.{NumberByte, NumberWord, numeral-word}
 use Rattle.dimacs_text.specs.Laws.WordLaws.{spelling-word, zero_word, numeral_number, IsWord, number_unblank}
 use Rattle.dimacs_text.specs.Laws.WordLaws.{number_word, problem_word_lem, format_word_lem, words-spaced, spaced_inside}

@@ -16,9 +16,9 @@ use Rattle.dimacs_format.specs.Laws.ClauseLaws.{token_of}
 use Rattle.dimacs_format.specs.Text.{ascii, piece, Line, Word, lines, words_of, is_comment, is_target_line}
 use Rattle.dimacs_format.specs.Text.{is_permutation_line, is_percent_line, token_in}
 use Rattle.dimacs_text.specs.SheetText.{lined, target_line, permutation_line, spelling, literals_of, clause_line}
-use Rattle.dimacs_text.specs.Laws.LiteralLaws.{clause-words, clause-tokens}
+use Rattle.dimacs_text.proofs.LiteralLaws.{clause-words, clause-tokens}
 use Rattle.dimacs_text.specs.Laws.WordLaws.{words-spaced, line_next}
-use Rattle.dimacs_text.specs.Laws.WrittenLines.{permutation_inside, permutation_says, clause_inside, clause-front}
+use Rattle.dimacs_text.proofs.WrittenLines.{permutation_inside, permutation_says, clause_inside, clause-front}
 
 -- ---- the kind of each line
 

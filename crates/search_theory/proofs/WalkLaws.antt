@@ -16,13 +16,13 @@ use Rattle.math.specs.Laws.PartLaws.{each_nil, each_cons}
 use Rattle.math.specs.Laws.QueueLaws.{length_snoc, length_moved}
 use Rattle.math.specs.Lists.{◌∈◌}
 use Rattle.points.specs.Laws.PointLaws.{first_sound, first_complete, first-none}
-use Rattle.points.specs.Laws.SmallestLaws.{smallest-some, smallest-none, none-smallest, smallest_same}
+use Rattle.points.proofs.SmallestLaws.{smallest-some, smallest-none, none-smallest, smallest_same}
 use Rattle.points.specs.Points.{distance, variables, Numbered, first_falsified, NoneSatisfies, smallest}
 use Rattle.permutation_theory.specs.Laws.PermutationLaws.{covered_sound, covered_complete}
 use Rattle.permutation_theory.specs.Permutations.{Permutation, Covered, covered}
 use Rattle.formula.specs.Problem.{Problem}
 use Rattle.formula.specs.Reply.{Reply, satisfiable}
-use Rattle.search_theory.specs.Laws.LevelLaws.{tested-first}
+use Rattle.search_theory.proofs.LevelLaws.{tested-first}
 use Rattle.search_theory.specs.Walk.{Slot, slot, points_in, with_number, State, state, filled, start, Expansion}
 use Rattle.search_theory.specs.Walk.{complete, full, filled_by, queued, Fills, no_more, skipped, filled_next}
 use Rattle.search_theory.specs.Walk.{no_room, placed, expand, Walks, none_left, met, stuck, goes_on, expanded}

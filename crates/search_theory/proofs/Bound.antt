@@ -10,10 +10,10 @@ use Rattle.point_theory.specs.Laws.Maps.{Automorphisms}
 use Rattle.formula.specs.Problem.{Problem}
 use Rattle.formula.specs.Reply.{unknown}
 use Rattle.search_theory.specs.Laws.Promised.{LowerBound}
-use Rattle.search_theory.specs.Laws.Ends.{search_ends}
+use Rattle.search_theory.proofs.Ends.{search_ends}
 use Rattle.search_theory.specs.Laws.InvariantLaws.{symmetries_of, first_shallowest}
 use Rattle.search_theory.specs.Laws.Invariants.{Ready, maps, Invariants, Ahead, Ended, blocked}
-use Rattle.search_theory.specs.Laws.LevelLaws.{OnLevel, level_failed}
+use Rattle.search_theory.proofs.LevelLaws.{OnLevel, level_failed}
 use Rattle.search_theory.specs.Laws.Measure.{measure}
 use Rattle.search_theory.specs.Walk.{Slot, start, tested, Walks}
 

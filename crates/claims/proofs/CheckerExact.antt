@@ -11,11 +11,11 @@ use Rattle.formula.specs.Problem.{Problem, problem_of}
 use Rattle.formula.specs.Refusals.{fits, clauses_fault}
 use Rattle.formula.specs.Reply.{accepted, no_fault}
 use Rattle.certificate.specs.Certificate.{contents_of, file_permutations, file_points, file_numbers}
-use Rattle.check_theory.specs.Laws.StableLaws.{transport_of, stable_names, stable_published, published_stable}
-use Rattle.check_theory.specs.Laws.StableLaws.{stable_more, covered_plainly, covered_symmetric}
+use Rattle.check_theory.proofs.StableLaws.{transport_of, stable_names, stable_published, published_stable}
+use Rattle.check_theory.proofs.StableLaws.{stable_more, covered_plainly, covered_symmetric}
 use Rattle.check_theory.specs.Published.{StableSet, StableModulo}
 use Rattle.checker.specs.Checker.{check_reply}
-use Rattle.checker.specs.Laws.CheckerLaws.{accepts_sound, accepts_complete, own_numbers, same_lengths}
+use Rattle.checker.proofs.CheckerLaws.{accepts_sound, accepts_complete, own_numbers, same_lengths}
 use Rattle.claims.specs.StableSets.{StableListed, HasStableSet, Exact}
 
 module _ (f : Formula) (clauses : ClauseSlices) (file : List ℕ) where

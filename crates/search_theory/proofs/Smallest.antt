@@ -9,11 +9,11 @@ use Rattle.points.specs.Points.{SatisfiesAll, Smallest}
 use Rattle.permutation_theory.specs.Permutations.{image_of_point}
 use Rattle.formula.specs.Problem.{Problem}
 use Rattle.formula.specs.Reply.{satisfiable}
-use Rattle.search_theory.specs.Laws.Bound.{level_holds}
-use Rattle.search_theory.specs.Laws.Ends.{search_ends}
+use Rattle.search_theory.proofs.Bound.{level_holds}
+use Rattle.search_theory.proofs.Ends.{search_ends}
 use Rattle.search_theory.specs.Laws.InvariantLaws.{first_in}
 use Rattle.search_theory.specs.Laws.Invariants.{Ready, Invariants, Ended, reached}
-use Rattle.search_theory.specs.Laws.LevelLaws.{tested_out, tested_in, level_flat, level_near, untested_fails}
+use Rattle.search_theory.proofs.LevelLaws.{tested_out, tested_in, level_flat, level_near, untested_fails}
 use Rattle.search_theory.specs.Laws.Promised.{SmallestFilled, SmallestNearest}
 use Rattle.search_theory.specs.Walk.{Slot, start, opens, tested, Walks}
 

@@ -9,7 +9,7 @@ use Rattle.permutation_theory.specs.Permutations.{Permutation, image_of_point}
 use Rattle.point_theory.specs.Laws.Approach.{Moves, clause_moves}
 use Rattle.point_theory.specs.Laws.Notions.{ClausesBelow}
 use Rattle.point_theory.specs.Laws.Refutes.{ClosedSet, refutes}
-use Rattle.permutation_theory.specs.Laws.Symmetries.{covered_through, symmetries}
+use Rattle.permutation_theory.proofs.Symmetries.{covered_through, symmetries}
 use Rattle.check_theory.specs.Stable.{Stable}
 
 -- ---- a stable set refutes the clauses

@@ -6,7 +6,7 @@ use Rattle.math.specs.Lists.{◌∈◌}
 use Rattle.formula.specs.Problem.{Problem}
 use Rattle.formula.specs.Reply.{unsatisfiable}
 use Rattle.search_theory.specs.Laws.Promised.{Settled, ClosedSlots}
-use Rattle.search_theory.specs.Laws.Ends.{search_ends}
+use Rattle.search_theory.proofs.Ends.{search_ends}
 use Rattle.search_theory.specs.Laws.InvariantLaws.{covered_by}
 use Rattle.search_theory.specs.Laws.Invariants.{Ready, Processed, Filled, Ended, exhausted}
 use Rattle.search_theory.specs.Walk.{Slot, start, Walks}

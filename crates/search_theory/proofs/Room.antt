@@ -13,8 +13,8 @@ use Rattle.math.specs.Laws.QueueLaws.{distinct_below}
 use Rattle.permutation_theory.specs.Permutations.{itself}
 use Rattle.formula.specs.Problem.{Problem}
 use Rattle.formula.specs.Reply.{Reply, unknown}
-use Rattle.search_theory.specs.Laws.Ends.{blocked_expanding, search_ends}
-use Rattle.search_theory.specs.Laws.ExpansionLaws.{numbered-moved, fills_stuck}
+use Rattle.search_theory.proofs.Ends.{blocked_expanding, search_ends}
+use Rattle.search_theory.proofs.ExpansionLaws.{numbered-moved, fills_stuck}
 use Rattle.search_theory.specs.Laws.InvariantLaws.{variable_small}
 use Rattle.search_theory.specs.Laws.Invariants.{Ready, Filled, Ended, blocked}
 use Rattle.search_theory.specs.Walk.{Slot, points_in, with_number, start, Walks}

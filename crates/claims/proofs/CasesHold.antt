@@ -20,8 +20,8 @@ use Rattle.formula.specs.Problem.{problem_of}
 use Rattle.formula.specs.Refusals.{Fits, fits, formula_fault, permutation_fault, symmetry_fault}
 use Rattle.formula.specs.Reply.{Reply, refused, satisfiable, unknown, accepted, no_fault, first}
 use Rattle.search_theory.specs.Filled.{filled_with}
-use Rattle.search_theory.specs.Laws.LevelLaws.{tested-first}
-use Rattle.search_theory.specs.Laws.WalkLaws.{walks_walked}
+use Rattle.search_theory.proofs.LevelLaws.{tested-first}
+use Rattle.search_theory.proofs.WalkLaws.{walks_walked}
 use Rattle.search_theory.specs.Walk.{Slot, slot, start, Fills, no_more, complete, tested, Walks, met, goes_on}
 use Rattle.search_theory.specs.Walk.{none_left, walked}
 use Rattle.search.specs.Laws.Accepted.{more-answers}

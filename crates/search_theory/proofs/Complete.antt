@@ -5,11 +5,11 @@ use Rattle.std.proofs.Common.{subst}
 use Rattle.points.specs.Points.{distance, SatisfiesAll}
 use Rattle.formula.specs.Problem.{Problem, Unsatisfiable}
 use Rattle.formula.specs.Reply.{Reply, satisfiable, unsatisfiable, unknown}
-use Rattle.search_theory.specs.Laws.Ends.{search_ends}
+use Rattle.search_theory.proofs.Ends.{search_ends}
 use Rattle.search_theory.specs.Laws.Invariants.{Ready, Ended, exhausted}
 use Rattle.search_theory.specs.Laws.InvariantLaws.{symmetries_of}
 use Rattle.search_theory.specs.Laws.Measure.{measure}
-use Rattle.search_theory.specs.Laws.Nearest.{found_nearest}
+use Rattle.search_theory.proofs.Nearest.{found_nearest}
 use Rattle.search_theory.specs.Walk.{Slot, with_number, State, start, Walks, none_left, met, stuck, goes_on}
 
 module _ (pb : Problem) (capacity : ℕ) where

@@ -13,7 +13,7 @@ use Rattle.math.specs.Laws.QueueLaws.{each_append, each_snoc, last_in, before-af
 use Rattle.points.specs.Points.{Numbered, variables, SatisfiesAll, FirstFalsified, NoneSatisfies}
 use Rattle.permutation_theory.specs.Permutations.{Covered, itself}
 use Rattle.point_theory.specs.Laws.Maps.{CoveredBy, in_set}
-use Rattle.permutation_theory.specs.Laws.Symmetries.{covered_through}
+use Rattle.permutation_theory.proofs.Symmetries.{covered_through}
 use Rattle.formula.specs.Problem.{Problem}
 use Rattle.search_theory.specs.Laws.InvariantLaws.{covered_wider, held, filled-moved, family_moved, filled_more}
 use Rattle.search_theory.specs.Laws.InvariantLaws.{family_more}
@@ -21,8 +21,8 @@ use Rattle.search_theory.specs.Laws.Invariants.{maps, slot_at, Moved, Parent, He
 use Rattle.search_theory.specs.Laws.Invariants.{Invariants, Expanding}
 use Rattle.search_theory.specs.Walk.{Slot, slot, points_in, with_number, Expansion, complete, full, Fills, no_more}
 use Rattle.search_theory.specs.Walk.{skipped, filled_next, no_room, tested}
-use Rattle.search_theory.specs.Laws.LevelLaws.{level_failed}
-use Rattle.search_theory.specs.Laws.WalkLaws.{waiting_in, Added, fills_adds}
+use Rattle.search_theory.proofs.LevelLaws.{level_failed}
+use Rattle.search_theory.proofs.WalkLaws.{waiting_in, Added, fills_adds}
 
 -- ---- the flips of the slot q, whose clause's variables are among vs
 

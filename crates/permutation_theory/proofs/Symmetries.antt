@@ -9,7 +9,7 @@ use Rattle.points.specs.Points.{Clause, Satisfies, Numbered, SatisfiesAll}
 use Rattle.permutation_theory.specs.Laws.PermutationLaws.{same_clause_sound, same_clause_complete}
 use Rattle.permutation_theory.specs.Permutations.{Permutation, IsPermutation, image_of_point, image_of_clause}
 use Rattle.permutation_theory.specs.Permutations.{clauses_in, Keeps, same_clause, Covered, itself, by_image}
-use Rattle.permutation_theory.specs.Laws.Images.{Faithful, permutation_faithful}
+use Rattle.permutation_theory.proofs.Images.{Faithful, permutation_faithful}
 use Rattle.point_theory.specs.Laws.Maps.{Automorphism, Automorphisms, CoveredBy, in_set, through}
 use Rattle.point_theory.specs.Laws.Notions.{ClauseBelow, ClausesBelow}
 

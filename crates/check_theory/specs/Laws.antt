@@ -1,4 +1,0 @@
--- Laws, and what functions inside the library promise each other: no contract of an entry point cites any of it.
-pub mod Refutation
-pub mod PublishedLaws
-pub mod StableLaws

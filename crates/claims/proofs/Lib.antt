@@ -1,0 +1,4 @@
+pub mod Theorem
+pub mod CheckerExact
+pub mod Instances
+pub mod CasesHold

@@ -1,0 +1,3 @@
+pub mod ImageLaws
+pub mod Images
+pub mod Symmetries

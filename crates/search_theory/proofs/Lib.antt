@@ -1,0 +1,11 @@
+pub mod LevelLaws
+pub mod ExpansionLaws
+pub mod Ends
+pub mod Bound
+pub mod Nearest
+pub mod Smallest
+pub mod Complete
+pub mod Room
+pub mod Closed
+pub mod WalkLaws
+pub mod Examples
