@@ -26,11 +26,11 @@ pub resume-requires : goal.resume-requires
 resume-requires c =
     let pre = c.requires in
     let told = c.explore_with-explored in
-    let kept = told.auto.1.1.1.1 in (
+    let kept = told.auto in (
       pre.0,
-      lends_still _ _ pre.1 kept.0 kept.1.0 kept.1.1.0,
+      lends_still _ _ pre.1 kept.points kept.falsified kept.depths,
       stage_midway _ _ _ pre.0 _ _ _ _ _ _ _ told.ensures _ c.in-Paused.is pre.2,
-      stage_carries _ _ _ pre.0 _ _ _ _ _ _ _ told.ensures _ c.in-Paused.is many_heads (le_of_eq (sym kept.1.1.1.1.0)) (le_trans (le_of_eq (long c.before.before.before.before.before.before.before.before.before.before.before.before.before.before.before.before.before.before.before.before.before)) (leb-true few_heads many_heads refl)),
+      stage_carries _ _ _ pre.0 _ _ _ _ _ _ _ told.ensures _ c.in-Paused.is many_heads (le_of_eq (sym kept.found)) (le_trans (le_of_eq (long c.before.before.before.before.before.before.before.before.before.before.before.before.before.before.before.before.before.before.before.before.before)) (leb-true few_heads many_heads refl)),
     )
 
 pub returns-in-Concluded : goal.returns-in-Concluded

@@ -41,11 +41,11 @@ proceed-requires c =
     let pre = c.requires in
     let first = stored c.before.before.before.before.before.before.before.before.before.before.before.before.before.before.before.before.before.before.before.before.before.before.before.before.before.before in
     let told = c.explore_with-explored in
-    let kept = told.auto.1.1.1.1 in (
+    let kept = told.auto in (
       pre.0,
-      lends_still _ _ first.1 kept.0 kept.1.0 kept.1.1.0,
+      lends_still _ _ first.1 kept.points kept.falsified kept.depths,
       stage_midway _ _ _ pre.0 _ _ _ _ _ _ _ told.ensures _ c.in-Paused.is (begun_midway _ _ _ pre.0 first.0),
-      stage_carries _ _ _ pre.0 _ _ _ _ _ _ _ told.ensures _ c.in-Paused.is few_heads (le_of_eq (sym kept.1.1.1.1.0)) (le_trans (le_of_eq long) (leb-true tiny_heads few_heads refl)),
+      stage_carries _ _ _ pre.0 _ _ _ _ _ _ _ told.ensures _ c.in-Paused.is few_heads (le_of_eq (sym kept.found)) (le_trans (le_of_eq long) (leb-true tiny_heads few_heads refl)),
     )
 
 pub returns-in-Concluded : goal.returns-in-Concluded
