@@ -1,9 +1,5 @@
 -- Places of arrays: k of them are inside where the arrays have as many. Assumes nothing.
-use mathlib.Core.Path.{◌≡◌, sym}
-use Prim.Native.Nat.{ℕ, ◌≤◌}
-use native.Mathlib.Nat.{le_trans, le_of_eq}
-use mathlib.Core.List.{List}
-use lib.ListN.{length}
+use Rattle.std.proofs.Common.{◌≡◌, ℕ, ◌≤◌, List, length, sym, le_trans, le_of_eq}
 use Rattle.slot_columns.specs.Laws.Copies.{Within}
 
 module _ {places k : ℕ} (held : k ≤ places) where
