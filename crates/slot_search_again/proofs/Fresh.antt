@@ -1,25 +1,25 @@
--- What a search on arrays of its own comes to: no more slots are filled than were searched, all lists have those filled,
--- and the slots, once these are copied back, are as the search leaves them. Assumes nothing.
+-- What a search on arrays of its own comes to: no more slots are filled than were searched, and the slots, once those
+-- filled are copied back, are as the search leaves them. Assumes nothing.
 use Rattle.std.proofs.Common.{Bool, true, false, ◌&&◌, ◌≡◌, ℕ, ◌<◌, ◌≤◌, List, [], length, min, ltb, refl, sym, ap, subst, ◌∙◌, le_trans, arith}
 use Rattle.point_slices.specs.Slices.{ClauseSlices, slot_slices}
 use Rattle.std.proofs.Math.ListN.{take}
 use Rattle.formula.specs.declared.Formula.{Formula}
 use Rattle.formula.specs.Limits.{max_slots, capacity}
+use Rattle.formula.specs.Reply.{no_fault}
 use Rattle.search.specs.declared.Found.{Found}
 use Rattle.search.specs.Contract.{reply_of_found, Searched}
-use Rattle.search.specs.Search.{search_reply}
+use Rattle.search.specs.Search.{search_fault, search_reply}
 use Rattle.search_theory.specs.Laws.Promised.{reported}
 use Rattle.slot_columns.specs.declared.Slot.{Slot}
 use Rattle.slot_columns.specs.Slots.{slots_in}
-use Rattle.slot_columns.specs.Laws.Copies.{joined, front, Within}
+use Rattle.slot_columns.specs.Laws.Copies.{joined, front}
 use Rattle.slot_prefixes.specs.Laws.PrefixLaws.{no_room}
-use Rattle.slot_proofs.proofs.Places.{places_many, places_in}
+use Rattle.slot_proofs.proofs.Places.{places_many}
 use Rattle.slot_search_again.specs.Laws.FilledLaws.{SameSearch}
-use Rattle.slot_search_again.specs.Laws.Contracts.{Accepted}
 use Rattle.slot_search_again.specs.Laws.SearchLaws.{told, fresh_few, searched_fresh, same_some, no_room_accepted}
 
 -- the first of two tests that were met
-met : (a b : Bool) → true ≡ (a && b) → a ≡ true
+pub met : (a b : Bool) → true ≡ (a && b) → a ≡ true
 met true b e = refl
 met false b e = sym e
 
@@ -40,20 +40,10 @@ module _ {f : Formula} {clauses : ClauseSlices} {k : ℕ} (ps₀ fs₀ ds₀ ps 
   pub never_more : {n : ℕ} → n ≡ reported (reply_of_found r) → k < n → ⊥
   never_more filled more = let at_most = filled_few in omega arith
 
-  -- as many slots as are filled can be copied back
-  pub copied_in : (ys : List Slot) {n : ℕ} → k ≤ length ys → length ps ≡ places → length fs ≡ places
-      → length ds ≡ places → n ≡ reported (reply_of_found r)
-      → Within n (length ys) (length ps) (length fs) (length ds)
-  copied_in ys {n} used l₁ l₂ l₃ filled =
-      let few_filled : n ≤ k = subst (λ (m : ℕ). m ≤ k) (sym filled) filled_few in
-      places_in (le_trans few_filled held) (length ys) ps fs ds (le_trans few_filled used) l₁ l₂ l₃
-
   -- the places were too few
-  pub outgrown_accepted : (ys : List Slot) → k ≤ length ys → true ≡ (no_room (reply_of_found r) && ltb k (length ys))
-      → Accepted f clauses ys
-  outgrown_accepted ys used more =
-      no_room_accepted f clauses ys k
-      (ap no_room (sym reply) ∙ met (no_room (reply_of_found r)) (ltb k (length ys)) more) used
+  pub outgrown_accepted : (ys : List Slot) → k ≤ length ys → no_room (reply_of_found r) ≡ true
+      → search_fault f clauses (capacity (slots_in ys)) ≡ no_fault
+  outgrown_accepted ys used full = no_room_accepted f clauses ys k (ap no_room (sym reply) ∙ full) used
 
   -- they were enough
   pub same_few : (ys : List Slot) → 1 ≤ places → k ≡ min places (length ys)

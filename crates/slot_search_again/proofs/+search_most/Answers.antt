@@ -11,7 +11,7 @@ pub search_accepted_prefix-r-requires : goal.search_accepted_prefix-r-requires
 search_accepted_prefix-r-requires t c = (
   search rules,
   places_accepted c.args.f (clause_slices c.args.positive.now c.args.negative.now) c.args.slots.now c.least-k.result
-      max_slots (omega arith) c.least-k.ensures c.requires,
+      _ (omega arith) c.least-k.ensures c.requires,
 )
 
 pub search_most-requires : goal.search_most-requires
