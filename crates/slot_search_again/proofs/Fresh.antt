@@ -1,6 +1,7 @@
 -- What a search on arrays of its own comes to: no more slots are filled than were searched, and the slots, once those
 -- filled are copied back, are as the search leaves them. Assumes nothing.
-use Rattle.std.proofs.Common.{Bool, true, false, ◌&&◌, ◌≡◌, ℕ, ◌<◌, ◌≤◌, List, [], length, min, ltb, refl, sym, ap, subst, ◌∙◌, le_trans, arith}
+use Rattle.std.proofs.Common.{Bool, true, false, ◌&&◌, ◌≡◌, refl, sym, ap, subst, ◌∙◌, le_trans, arith}
+use Rattle.std.proofs.Common.{ℕ, ◌<◌, ◌≤◌, List, [], length, min, ltb}
 use Rattle.point_slices.specs.Slices.{ClauseSlices, slot_slices}
 use Rattle.std.proofs.Math.ListN.{take}
 use Rattle.formula.specs.declared.Formula.{Formula}

@@ -17,15 +17,16 @@ loop-i-init c =
 
 pub loop-i-preserved : goal.loop-i-preserved
 loop-i-preserved c =
+    let s = slot_or c.args.slots.now c.loop-i.i in
     record {
       within = omega arith;
-      points = ap (λ b. set b c.loop-i.i (slot_or c.args.slots.now c.loop-i.i).point) c.loop-i.invariant.points
-          ∙ column_next (λ (s : Slot). s.point) c.loop-i.i c.args.k c.args.slots.now c.args.points.now c.loop-i-test.true
-          c.requires.in_slots c.requires.in_points;
-      falsified = ap (λ b. set b c.loop-i.i (slot_or c.args.slots.now c.loop-i.i).falsified) c.loop-i.invariant.falsified
+      points = ap (λ b. set b c.loop-i.i s.point) c.loop-i.invariant.points
+          ∙ column_next (λ (s : Slot). s.point) c.loop-i.i c.args.k c.args.slots.now c.args.points.now
+          c.loop-i-test.true c.requires.in_slots c.requires.in_points;
+      falsified = ap (λ b. set b c.loop-i.i s.falsified) c.loop-i.invariant.falsified
           ∙ column_next (λ (s : Slot). s.falsified) c.loop-i.i c.args.k c.args.slots.now c.args.falsified.now
           c.loop-i-test.true c.requires.in_slots c.requires.in_falsified;
-      depths = ap (λ b. set b c.loop-i.i (slot_or c.args.slots.now c.loop-i.i).depth) c.loop-i.invariant.depths
-          ∙ column_next (λ (s : Slot). s.depth) c.loop-i.i c.args.k c.args.slots.now c.args.depths.now c.loop-i-test.true
-          c.requires.in_slots c.requires.in_depths;
+      depths = ap (λ b. set b c.loop-i.i s.depth) c.loop-i.invariant.depths
+          ∙ column_next (λ (s : Slot). s.depth) c.loop-i.i c.args.k c.args.slots.now c.args.depths.now
+          c.loop-i-test.true c.requires.in_slots c.requires.in_depths;
     }

@@ -16,12 +16,13 @@ search_accepted_prefix-r-requires t c = (
 
 pub search_most-requires : goal.search_most-requires
 search_most-requires t c =
-    absurd (never_more _ _ _ _ _ _ max_slots (omega arith) (omega arith) refl refl refl c.search_accepted_prefix-r.ensures
-    c.filled-many.ensures c.if-k-many.true)
+    absurd (never_more _ _ _ _ _ _ max_slots (omega arith) (omega arith) refl refl refl
+    c.search_accepted_prefix-r.ensures c.filled-many.ensures c.if-k-many.true)
 
 pub returns : goal.returns
 returns t c =
     searched_left _ _ _ _ _ _ max_slots (omega arith) (omega arith) refl refl refl c.search_accepted_prefix-r.ensures
-    c.args.slots.now (same_all c.args.f (clause_slices c.args.positive.now c.args.negative.now) c.args.slots.now c.least-k.result
+    c.args.slots.now
+    (same_all c.args.f (clause_slices c.args.positive.now c.args.negative.now) c.args.slots.now c.least-k.result
     c.least-k.ensures) c.search_accepted_prefix-r.auto.points c.search_accepted_prefix-r.auto.falsified
     c.search_accepted_prefix-r.auto.depths c.filled-many.ensures c.copy_back.ensures

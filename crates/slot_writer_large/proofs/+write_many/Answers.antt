@@ -25,4 +25,5 @@ returns-then-out-size t c =
 
 pub returns : goal.returns
 returns t c =
-    written_left c.args.slots.now c.args.filled c.slots_taken-many.ensures _ _ _ _ _ _ c.copy_out.ensures c.write_prefix-r.ensures
+    written_left c.args.slots.now c.args.filled c.slots_taken-many.ensures _ _ _ _ _ _ c.copy_out.ensures
+    c.write_prefix-r.ensures
