@@ -1,6 +1,5 @@
 // The slots as one slice of structs (01: 'Walk') and as three slices: a slot is read and stored, slots are copied
-// from one form to the other. Each function takes a slice of structs, so it is proved by hand, step by step of the
-// compiled code.
+// from one form to the other.
 #![tactic(auto)]
 
 ghost use Rattle.std.specs.Prelude.{◌≡◌, ◌<◌, length, set};

@@ -1,9 +1,5 @@
 -- Places of arrays: k of them are inside where the arrays have as many. Assumes nothing.
-use mathlib.Core.Path.{◌≡◌, sym}
-use Prim.Native.Nat.{ℕ, ◌≤◌}
-use native.Mathlib.Nat.{le_trans, le_of_eq}
-use mathlib.Core.List.{List}
-use lib.ListN.{length}
+use Rattle.std.proofs.Common.{◌≡◌, ℕ, ◌≤◌, List, length, sym, le_trans, le_of_eq}
 use Rattle.slot_columns.specs.Laws.Copies.{Within}
 
 module _ {places k : ℕ} (held : k ≤ places) where
@@ -11,5 +7,12 @@ module _ {places k : ℕ} (held : k ≤ places) where
   places_many xs e = le_trans held (le_of_eq (sym e))
 
   -- and of m slots
-  pub places_in : (m : ℕ) (ps fs ds : List ℕ) → k ≤ m → length ps ≡ places → length fs ≡ places → length ds ≡ places → Within k m (length ps) (length fs) (length ds)
-  places_in m ps fs ds h e₁ e₂ e₃ = record { in_slots = h; in_points = places_many ps e₁; in_falsified = places_many fs e₂; in_depths = places_many ds e₃ }
+  pub places_in : (m : ℕ) (ps fs ds : List ℕ) → k ≤ m → length ps ≡ places → length fs ≡ places → length ds ≡ places
+      → Within k m (length ps) (length fs) (length ds)
+  places_in m ps fs ds h e₁ e₂ e₃ =
+      record {
+        in_slots = h;
+        in_points = places_many ps e₁;
+        in_falsified = places_many fs e₂;
+        in_depths = places_many ds e₃;
+      }

@@ -1,2 +1,3 @@
-// Steps of proofs by hand that functions over a slice of slots share. No code: its proofs/ are cited.
+// Lemmas on the places of arrays, which the proofs of functions over a slice of slots share. No code: its proofs/ are
+// cited.
 #![tactic(auto)]

@@ -1,2 +1,0 @@
-pub mod FormulaMade
-pub mod WordsPut

@@ -1,2 +1,0 @@
-pub mod ContractMet
-pub mod SlotsSearched
