@@ -11,7 +11,7 @@ pub mod room;
 
 // F3: a CNF formula with its target point (01: wish) and its permutations (01: exchanges), which stand in `images`
 // without gaps, `variables` bytes each. Its clauses lie in two slices beside it.
-#[derive(Drop)]
+#[derive(Clone, Copy)]
 pub struct Formula {
     pub variables: u32,
     pub clauses: u32,

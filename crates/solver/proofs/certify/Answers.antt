@@ -12,7 +12,7 @@ pub confirm-requires : goal.confirm-requires
 unfolding reply_of_written
 confirm-requires c =
     let wrote = c.write_lent-written in
-    let w = acceptable _ _ _ _ c.requires.1 _ _ wrote.ensures.output wrote.auto.1.1.1.1.1.1.1.1.0 _ (ap reply_of_written (sym c.in-Bytes.is) ∙ wrote.ensures.reply) in
+    let w = acceptable _ _ _ _ c.requires.1 _ _ wrote.ensures.output wrote.auto.out _ (ap reply_of_written (sym c.in-Bytes.is) ∙ wrote.ensures.reply) in
     (w.0, (c.args.images.now, w.1))
 
 pub returns-in-Bytes : goal.returns-in-Bytes

@@ -11,7 +11,7 @@ read_lent-parsed-requires c = refl
 pub solve_read-requires : goal.solve_read-requires
 solve_read-requires c =
     let read = c.read_lent-parsed in
-    (read.auto.1.1.1.0, read_held _ tiny_clauses read.result read.new.1.1.1.0 _ read.ensures c.in-Accepted.is)
+    (read.auto.images, read_held _ tiny_clauses read.result read.new.images _ read.ensures c.in-Accepted.is)
 
 pub solve_few-requires : goal.solve_few-requires
 solve_few-requires c = search rules
@@ -25,9 +25,9 @@ refused-requires c = search rules
 pub returns-in-Accepted : goal.returns-in-Accepted
 returns-in-Accepted c =
     let read = c.read_lent-parsed in
-    read_solved _ tiny_clauses read.result read.new.1.1.1.0 _ read.ensures (lit≤ tt) _ _ _ c.in-Accepted.is _ _ c.solve_read.ensures
+    read_solved _ tiny_clauses read.result read.new.images _ read.ensures (lit≤ tt) _ _ _ c.in-Accepted.is _ _ c.solve_read.ensures
 
 pub returns-else-code-eq4 : goal.returns-else-code-eq4
 returns-else-code-eq4 c =
     let read = c.read_lent-parsed in
-    refusal_solved _ tiny_clauses read.result read.new.1.1.1.0 _ read.ensures (lit≤ tt) _ _ _ _ _ c.in-Refused.is c.if-code-eq4.false c.refused.ensures
+    refusal_solved _ tiny_clauses read.result read.new.images _ read.ensures (lit≤ tt) _ _ _ _ _ c.in-Refused.is c.if-code-eq4.false c.refused.ensures

@@ -10,7 +10,7 @@ read_lent-parsed-requires c = refl
 pub solve_read-requires : goal.solve_read-requires
 solve_read-requires c =
     let read = c.read_lent-parsed in
-    (read.auto.1.1.1.0, read_held _ few_clauses read.result read.new.1.1.1.0 _ read.ensures c.in-Accepted.is)
+    (read.auto.images, read_held _ few_clauses read.result read.new.images _ read.ensures c.in-Accepted.is)
 
 pub solve_many-requires : goal.solve_many-requires
 solve_many-requires c = search rules
@@ -21,9 +21,9 @@ refused-requires c = search rules
 pub returns-then-code-ne4 : goal.returns-then-code-ne4
 returns-then-code-ne4 c =
     let read = c.read_lent-parsed in
-    refusal_solved _ few_clauses read.result read.new.1.1.1.0 _ read.ensures (lit≤ tt) _ _ _ _ _ c.in-Refused.is c.if-code-ne4.true c.refused.ensures
+    refusal_solved _ few_clauses read.result read.new.images _ read.ensures (lit≤ tt) _ _ _ _ _ c.in-Refused.is c.if-code-ne4.true c.refused.ensures
 
 pub returns-in-Accepted : goal.returns-in-Accepted
 returns-in-Accepted c =
     let read = c.read_lent-parsed in
-    read_solved _ few_clauses read.result read.new.1.1.1.0 _ read.ensures (lit≤ tt) _ _ _ c.in-Accepted.is _ _ c.solve_read.ensures
+    read_solved _ few_clauses read.result read.new.images _ read.ensures (lit≤ tt) _ _ _ c.in-Accepted.is _ _ c.solve_read.ensures

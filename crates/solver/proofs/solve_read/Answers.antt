@@ -22,5 +22,5 @@ returns c =
     let a = c.args in
     let called = c.solve_lent in
     subst (λ clauses. Solved (by_value (formula_with a.f a.images.now) clauses) (slot_slices a.points.now a.falsified.now a.depths.now) a.out.now called.result
-    (slot_slices called.new.1.1.1.1.0 called.new.1.1.1.1.1.0 called.new.1.1.1.1.1.1.0) called.new.1.1.1.1.1.1.1.0)
+    (slot_slices called.new.points called.new.falsified called.new.depths) called.new.out)
     (first_clauses_lem a.f.clauses a.positive.now a.negative.now _ _ c.first_points-wanted.ensures c.first_points-unwanted.ensures) called.ensures
