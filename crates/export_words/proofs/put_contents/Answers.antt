@@ -1,19 +1,12 @@
 -- `export_words::put_contents` meets its contract: eight writes are the eight numbers in front of what was there.
 -- Assumes nothing.
-use mathlib.Core.List.{List, [], ◌∷◌}
+use Rattle.std.proofs.Common.{List, [], ◌∷◌, ◌≡◌, refl, ◌∙◌, ℕ, ◌≤◌, not-suc-le-zero, arith, length, set, length-set}
 use mathlib.Core.Option.{some}
-use mathlib.Core.Path.{◌≡◌, refl, ◌∙◌}
-use Prim.Native.Nat.{ℕ, ◌≤◌}
-use native.Mathlib.Nat.{not-suc-le-zero}
-use native.Mathlib.Omega.{arith}
-use lib.ListN.{length, set, length-set}
-use borrow.Author.Rules.{rules}
 use Rattle.math.specs.Lists.{over}
 use Rattle.certificate.specs.declared.Contents.{Contents}
 use Rattle.certificate.specs.Contract.{contents_in}
 use Rattle.export_words.specs.Replies.{contents_words}
-use Rattle.export_words.proofs.put_contents.Statement.{statement}
-use Rattle.export_words.proofs.put_contents.Tie as tie
+use Rattle.export_words.proofs.put_contents.Goals as goal
 
 -- the slice with the first k numbers written: it keeps its length
 abbrev written1 : List ℕ → Contents → List ℕ
@@ -76,70 +69,38 @@ all (s ∷ t ∷ u ∷ v ∷ w ∷ x ∷ []) c le = absurd (omega arith)
 all (s ∷ t ∷ u ∷ v ∷ w ∷ x ∷ y ∷ []) c le = absurd (omega arith)
 all (s ∷ t ∷ u ∷ v ∷ w ∷ x ∷ y ∷ z ∷ l) c le = refl
 
-returns : tie.Need-returns
+pub returns : goal.returns
 returns c =
-    let s = c.before.before.before.before.before.before.before.before in
-    all s.args.to.now s.args.c s.requires
+    all c.args.to.now c.args.c c.requires
 
-slice-write-to-2 : tie.Need-slice-write-to-2
-slice-write-to-2 c =
-    let s = c.before.before in
-    omega (arith, kept1 s.args.to.now s.args.c, s.requires)
+pub bounds-to-1 : goal.bounds-to-1
+bounds-to-1 c =
+    omega (arith, kept1 c.args.to.now c.args.c, c.requires)
 
-slice-write-to-3 : tie.Need-slice-write-to-3
-slice-write-to-3 c =
-    let s = c.before.before.before in
-    omega (arith, kept2 s.args.to.now s.args.c, s.requires)
+pub bounds-to-2 : goal.bounds-to-2
+bounds-to-2 c =
+    omega (arith, kept2 c.args.to.now c.args.c, c.requires)
 
-slice-write-to-4 : tie.Need-slice-write-to-4
-slice-write-to-4 c =
-    let s = c.before.before.before.before in
-    omega (arith, kept3 s.args.to.now s.args.c, s.requires)
+pub bounds-to-3 : goal.bounds-to-3
+bounds-to-3 c =
+    omega (arith, kept3 c.args.to.now c.args.c, c.requires)
 
-slice-write-to-5 : tie.Need-slice-write-to-5
-slice-write-to-5 c =
-    let s = c.before.before.before.before.before in
-    omega (arith, kept4 s.args.to.now s.args.c, s.requires)
+pub bounds-to-4 : goal.bounds-to-4
+bounds-to-4 c =
+    omega (arith, kept4 c.args.to.now c.args.c, c.requires)
 
-slice-write-to-6 : tie.Need-slice-write-to-6
-slice-write-to-6 c =
-    let s = c.before.before.before.before.before.before in
-    omega (arith, kept5 s.args.to.now s.args.c, s.requires)
+pub bounds-to-5 : goal.bounds-to-5
+bounds-to-5 c =
+    omega (arith, kept5 c.args.to.now c.args.c, c.requires)
 
-slice-write-to-7 : tie.Need-slice-write-to-7
-slice-write-to-7 c =
-    let s = c.before.before.before.before.before.before.before in
-    omega (arith, kept6 s.args.to.now s.args.c, s.requires)
+pub bounds-to-6 : goal.bounds-to-6
+bounds-to-6 c =
+    omega (arith, kept6 c.args.to.now c.args.c, c.requires)
 
-slice-write-to-8 : tie.Need-slice-write-to-8
-slice-write-to-8 c =
-    let s = c.before.before.before.before.before.before.before.before in
-    omega (arith, kept7 s.args.to.now s.args.c, s.requires)
+pub bounds-to-7 : goal.bounds-to-7
+bounds-to-7 c =
+    omega (arith, kept7 c.args.to.now c.args.c, c.requires)
 
-same_length : tie.Need-same-length
-same_length c =
-    let s = c.before.before.before.before.before.before.before.before in
-    kept8 s.args.to.now s.args.c
-
-pub put_contents_spec : {M : Type 1} → statement M
-put_contents_spec =
-    tie.close
-    (tie.spec
-    (λ c. search rules)
-    (λ c. search rules)
-    (λ c. search rules)
-    slice-write-to-2
-    (λ c. search rules)
-    slice-write-to-3
-    (λ c. search rules)
-    slice-write-to-4
-    (λ c. search rules)
-    slice-write-to-5
-    (λ c. search rules)
-    slice-write-to-6
-    (λ c. search rules)
-    slice-write-to-7
-    (λ c. search rules)
-    slice-write-to-8
-    same_length
-    returns)
+pub shape_of-to : goal.shape_of-to
+shape_of-to c =
+    kept8 c.args.to.now c.args.c
