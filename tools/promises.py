@@ -39,7 +39,7 @@ def known():
     words = set()
     for path in glob.glob("crates/**/*", recursive=True):
         if path.endswith((".antt", ".rt")):
-            words.update(re.findall(r"[\w·′-]+", open(path).read()))
+            words.update(re.findall(r"[\w'-]+", open(path).read()))
         elif path.endswith(".edit"):
             words.add(os.path.basename(path)[:-len(".edit")])
     return words
