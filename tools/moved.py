@@ -3,10 +3,10 @@
 
 Prints, by crate and in all, the lines added and removed of definitions (specs/*.antt), contracts (`requires` and
 `ensures` in .rt), laws (specs/Laws, and modules of proofs/ that are no function's), proofs, code, comments (in .rt and
-.antt), tests (tests, must-fail edits, examples, benches), tools and documents; then by name the definitions and the contracts that changed, are new or are
-gone. Lines are compared as a bag, white space folded: one that only moved counts in neither column of 'in all'. Of
-specs and contracts the lines count of declarations that differ as a whole, so that a line that was only broken does
-not. Imports and blank lines do not count.
+.antt), tests (tests, must-fail edits, examples, benches), tools and documents; then by name the definitions and the
+contracts that changed, are new or are gone. Lines are compared as a bag, white space folded: one that only moved
+counts in neither column of 'in all'. Of specs and contracts the lines count of declarations that differ as a whole, so
+that a line that was only broken does not. Imports and blank lines do not count.
 
 FILE has one renaming a line, with paths as they are called now but for OLD: `path OLD NEW`, a file or a folder;
 `name OLD NEW [PATH ..]`, an identifier, everywhere or in these files and folders; `phrase PATH: OLD => NEW`, words
