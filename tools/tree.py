@@ -30,6 +30,12 @@ def crates():
     return [crate for _, names in parts() for crate in names]
 
 
+def files():
+    """The files of the crates, without what checks leave in out/."""
+    paths = sorted(glob.glob("crates/**/*", recursive=True))
+    return [path for path in paths if path.split("/")[2:3] != ["out"] and os.path.isfile(path)]
+
+
 def source(crate):
     """The root of a crate's code."""
     for name in ("lib", "main"):
