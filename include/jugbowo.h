@@ -1,5 +1,5 @@
-/* The style-sheet engine as a static library: libexports.a, built by `rt staticlib exports`. The two functions over
- * one slice of slots stand in another, libslot_exports.a, built by `rt staticlib slot_exports`; a program may link
+/* The style-sheet engine as a static library: libexports.a, built by `tools/build exports`. The two functions over
+ * one slice of slots stand in another, libslot_exports.a, built by `tools/build slot_exports`; a program may link
  * both.
  *
  * A lent slice is a pointer and a length, in elements; with length 0 the pointer may be anything that is not null.

@@ -15,24 +15,24 @@ import shutil
 import subprocess
 import sys
 
+import tree
+
 USES = {
-    "reader": "Rattle·dimacs_format.specs.Reader.{readReply, readFormula, readClauses}",
-    "builder": "Rattle·search.specs.Search.{searchReply, searchSlices}\nuse Rattle·math.specs.Lists.{over}",
-    "checker": "Rattle·checker.specs.Checker.{checkReply}\nuse Rattle·certificate.specs.Reader.{openedReply}\n"
-    "use Rattle·certificate.specs.Certificate.{filePermutations, filePoints, fileNumbers}",
-    "writer": "Rattle·certificate.specs.Writer.{writeReply, writeOutput}",
-    "write_sheet": "Rattle·dimacs_text.specs.Writer.{textReply, textOutput}",
+    "reader": "Rattle.dimacs_format.specs.Reader.{read_reply, read_formula, read_clauses}",
+    "builder": "Rattle.search.specs.Search.{search_reply, search_slices}\nuse Rattle.math.specs.Lists.{over}",
+    "checker": "Rattle.checker.specs.Checker.{check_reply}\nuse Rattle.certificate.specs.Reader.{opened_reply}\n"
+    "use Rattle.certificate.specs.Certificate.{file_permutations, file_points, file_numbers}",
+    "writer": "Rattle.certificate.specs.Writer.{write_reply, write_output}",
+    "write_sheet": "Rattle.dimacs_text.specs.Writer.{text_reply, text_output}",
 }
 HEAD = """-- Vectors as theorems about the definitions. Assumes nothing.
-use mathlib.Core.List.{List, [], _∷_, _++_}
-use mathlib.Core.Path.{_≡_, refl}
-use Prim.Native.Nat.{ℕ}
-use lib.ListN.{replicate}
-use Rattle·math.specs.Bits.{bit, flip}
-use Rattle·point_slices.specs.Slices.{wholeClauses, wholeSlots}
-use Rattle·permutation_theory.specs.Permutations.{Permutation}
-use Rattle·formula.specs.declared.Formula.{Formula}
-use Rattle·formula.specs.Reply.{Reply, parsed, refused, satisfiable, unsatisfiable, unknown, written, accepted, opened}
+use Rattle.std.specs.Prelude.{List, [], ◌∷◌, ◌++◌, ◌≡◌, ℕ, replicate}
+use Rattle.std.proofs.Common.{refl}
+use Rattle.math.specs.Bits.{bit, flip}
+use Rattle.point_slices.specs.Slices.{whole_clauses, whole_slots}
+use Rattle.permutation_theory.specs.Permutations.{Permutation}
+use Rattle.formula.specs.declared.Formula.{Formula}
+use Rattle.formula.specs.Reply.{Reply, parsed, refused, satisfiable, unsatisfiable, unknown, written, accepted, opened}
 use %s
 """
 
@@ -53,11 +53,11 @@ def formula(sheet):
 
 
 def clauses(yes, no):
-    return "(wholeClauses %s %s)" % (listed(yes), listed(no))
+    return "(whole_clauses %s %s)" % (listed(yes), listed(no))
 
 
 def slots(points, rules, depths):
-    return "(wholeSlots %s %s %s)" % (listed(points), listed(rules), listed(depths))
+    return "(whole_slots %s %s %s)" % (listed(points), listed(rules), listed(depths))
 
 
 def over(new, old):
@@ -72,9 +72,9 @@ def reader(v):
     e, p, q = v["expect"], filled(v, v["yes_len"], 64), filled(v, v["no_len"], 64)
     sheet = e.get("sheet", {"n": 0, "rules": 0, "wish": 0, "exchange_count": 0, "exchanges": ""})
     args = "%s %s" % (listed(bytes.fromhex(v["text"])), clauses(p, q))
-    yield "readReply", "readReply %s ≡ %s" % (args, refusal(e) or "parsed")
-    yield "readFormula", "readFormula %s ≡ %s" % (args, formula(sheet))
-    yield "readClauses", "readClauses %s ≡ %s" % (args, clauses(over(e.get("yes", []), p), over(e.get("no", []), q)))
+    yield "read_reply", "read_reply %s ≡ %s" % (args, refusal(e) or "parsed")
+    yield "read_formula", "read_formula %s ≡ %s" % (args, formula(sheet))
+    yield "read_clauses", "read_clauses %s ≡ %s" % (args, clauses(over(e.get("yes", []), p), over(e.get("no", []), q)))
 
 
 def builder(v):
@@ -84,41 +84,49 @@ def builder(v):
             "cannot be met": "unsatisfiable %s" % e.get("slots"),
             "no room": "unknown %s %s" % (e.get("d"), e.get("slots"))}
     args = "%s %s" % (formula(v["sheet"]), clauses(v["yes"], v["no"]))
-    yield "searchReply bit flip", "searchReply %s %d ≡ %s" % (args, lent, refusal(e) or answers[e["answer"]])
+    yield "search_reply bit flip", "search_reply %s %d ≡ %s" % (args, lent, refusal(e) or answers[e["answer"]])
     names = (("points", 64), ("rules", 32), ("depths", 32))
     old = [filled(v, v[name + "_len"], bits) for name, bits in names]
     new = [over(e.get(name, []), held) for (name, _), held in zip(names, old)]
-    yield "searchSlices bit flip over", "searchSlices %s %s ≡ %s" % (args, slots(*old), slots(*new))
+    yield "search_slices bit flip over", "search_slices %s %s ≡ %s" % (args, slots(*old), slots(*new))
 
 
 def checker(v):
     file, r = listed(bytes.fromhex(v["file"])), v["reading"]
     args = "%s %s %s" % (formula(v["sheet"]), clauses(v["yes"], v["no"]), file)
-    yield "checkReply", "checkReply %s ≡ %s" % (args, refusal(v["expect"]) or "accepted")
-    yield "openedReply", "openedReply %s ≡ %s" % (file, refusal(r) or "opened")
+    yield "check_reply", "check_reply %s ≡ %s" % (args, refusal(v["expect"]) or "accepted")
+    yield "opened_reply", "opened_reply %s ≡ %s" % (file, refusal(r) or "opened")
     if "refused" not in r:
         n, b = r["n"], bytes.fromhex(r["exchanges"])
         if r["exchange_count"] < 5000:
             es = "".join("record { images = %s } ∷ " % listed(b[i * n:(i + 1) * n]) for i in range(r["exchange_count"]))
-            yield "filePermutations", "filePermutations %s ≡ (%s[])" % (file, es)
-        yield "filePoints", "filePoints %s ≡ %s" % (file, listed(r["points"]))
-        yield "fileNumbers", "fileNumbers %s ≡ %s" % (file, listed(r["rules"]))
+            yield "file_permutations", "file_permutations %s ≡ (%s[])" % (file, es)
+        yield "file_points", "file_points %s ≡ %s" % (file, listed(r["points"]))
+        yield "file_numbers", "file_numbers %s ≡ %s" % (file, listed(r["rules"]))
 
 
 def writer(v):
     e, out = v["expect"], filled(v, v["out_len"], 8)
-    args = "%s %s (wholeSlots %s %s (replicate %d 0)) %d %s" % (
+    args = "%s %s (whole_slots %s %s (replicate %d 0)) %d %s" % (
         formula(v["sheet"]), clauses(v["yes"], v["no"]), listed(v["points"]), listed(v["rules"]), v["depths_len"],
         v["count"], listed(out))
-    yield "writeReply", "writeReply %s ≡ %s" % (args, refusal(e) or "written %d" % e["length"])
-    yield "writeOutput", "writeOutput %s ≡ %s" % (args, listed(over(list(bytes.fromhex(e.get("out", ""))), out)))
+    yield "write_reply", "write_reply %s ≡ %s" % (args, refusal(e) or "written %d" % e["length"])
+    yield "write_output", "write_output %s ≡ %s" % (args, listed(over(list(bytes.fromhex(e.get("out", ""))), out)))
 
 
 def write_sheet(v):
     e, out = v["expect"], filled(v, v["out_len"], 8)
     args = "%s %s %s" % (formula(v["sheet"]), clauses(v["yes"], v["no"]), listed(out))
-    yield "textReply", "textReply %s ≡ %s" % (args, refusal(e) or "written %d" % e["length"])
-    yield "textOutput", "textOutput %s ≡ %s" % (args, listed(over(list(bytes.fromhex(e.get("out", ""))), out)))
+    yield "text_reply", "text_reply %s ≡ %s" % (args, refusal(e) or "written %d" % e["length"])
+    yield "text_output", "text_output %s ≡ %s" % (args, listed(over(list(bytes.fromhex(e.get("out", ""))), out)))
+
+
+def below(text):
+    """The crates that a text imports, with all below them, in the order of crates.txt."""
+    os.chdir(tree.TOP)
+    lines = tree.depends()
+    named = {module[0] for module, _ in tree.imports(text)}
+    return [crate for crate in lines if any(crate == name or crate in lines[name] for name in named)]
 
 
 def taken(v, kind, most):
@@ -130,22 +138,17 @@ def taken(v, kind, most):
 
 
 def main():
-    vectors, scratch, kind = sys.argv[1:4]
+    vectors, scratch, kind = *map(os.path.abspath, sys.argv[1:3]), sys.argv[3]
     most = int(sys.argv[4]) if len(sys.argv) > 4 else 6000
-    here = os.path.join(os.path.dirname(os.path.abspath(__file__)), "..")
     shutil.rmtree(scratch, ignore_errors=True)
-    shutil.copytree(here, scratch, ignore=shutil.ignore_patterns(".git"), symlinks=True)
+    shutil.copytree(tree.TOP, scratch, ignore=shutil.ignore_patterns(".git", "out", "target"), symlinks=True)
     crate = os.path.join(scratch, "crates", "vectors")
     os.makedirs(os.path.join(crate, "src"))
     os.makedirs(os.path.join(crate, "specs"))
-    lines = open(os.path.join(scratch, "crates.txt")).read().splitlines()
-    names = [line.split(":")[0] for line in lines if line and not line.startswith("#")]
-    # a program is no dependency
-    names = [name for name in names if os.path.exists(os.path.join(scratch, "crates", name, "src", "lib.rt"))]
     with open(os.path.join(scratch, "crates.txt"), "a") as f:
-        f.write("vectors: %s\n" % " ".join(names))
+        f.write("vectors: %s\n" % " ".join(below(HEAD % USES[kind])))
     with open(os.path.join(crate, "src", "lib.rt"), "w") as f:
-        f.write("// Vectors as theorems.\n")
+        f.write("// Vectors as theorems.\n#![tactic(auto)]\n")
     rows = [v for v in map(json.loads, open(vectors)) if v["kind"] == kind]
     chosen = [v for v in rows if taken(v, kind, most)]
     modules = []
@@ -161,9 +164,9 @@ def main():
     answers = collections.Counter(str(v["expect"].get("refused", ["answered"])[0]) for v in chosen)
     print("%s: %d of %d computed: %s" % (kind, len(chosen), len(rows), dict(answers)))
     print("left out: " + " ".join(v["id"] for v in rows if v not in chosen), flush=True)
-    done = subprocess.run(["rt", "check", "vectors"], cwd=scratch, capture_output=True, text=True)
+    done = subprocess.run(["rt", "check"], cwd=crate, capture_output=True, text=True)
     done = done.stdout + done.stderr
-    lines = [line for line in done.splitlines() if "error" in line or line.startswith("rt:")]
+    lines = [line for line in done.splitlines() if "error" in line or line.startswith(("rt:", "logic="))]
     print("\n".join(lines)[-4000:])
 
 

@@ -2,11 +2,11 @@
 """What moved since a commit: `tools/moved.py COMMIT [--renamed FILE] [--times BEFORE AFTER]`.
 
 Prints, by crate and in all, the lines added and removed of definitions (specs/*.antt), contracts (`requires` and
-`ensures` in .rt), laws (specs/Laws), proofs, code, comments (in .rt and .antt), tests (tests, must-fail edits,
-examples, benches), tools and documents; then by name the definitions and the contracts that changed, are new or are
-gone. Lines are compared as a bag, white space folded: one that only moved counts in neither column of 'in all'. Of
-specs and contracts the lines count of declarations that differ as a whole, so that a line that was only broken does
-not. Imports and blank lines do not count.
+`ensures` in .rt), laws (specs/Laws, and modules of proofs/ that are no function's), proofs, code, comments (in .rt and
+.antt), tests (tests, must-fail edits, examples, benches), tools and documents; then by name the definitions and the
+contracts that changed, are new or are gone. Lines are compared as a bag, white space folded: one that only moved
+counts in neither column of 'in all'. Of specs and contracts the lines count of declarations that differ as a whole, so
+that a line that was only broken does not. Imports and blank lines do not count.
 
 FILE has one renaming a line, with paths as they are called now but for OLD: `path OLD NEW`, a file or a folder;
 `name OLD NEW [PATH ..]`, an identifier, everywhere or in these files and folders; `phrase PATH: OLD => NEW`, words
@@ -58,7 +58,7 @@ class Renamings:
             text = text.replace(old, new) if place == path else text
         named = {old: new for old, new, places in self.names if not places or any(below(path, at) for at in places)}
         if named:
-            text = re.sub(r"[\w·′₀-₉-]+", lambda m: named.get(m.group(0), m.group(0)), text)
+            text = re.sub(r"[\w·′'₀-₉-]+", lambda m: named.get(m.group(0), m.group(0)), text)
         if self.crates:
             text = re.sub(r"(?<![\w:])(\w+)(?=::)", lambda m: self.crates.get(m.group(0), m.group(0)), text)
         return text
@@ -69,7 +69,7 @@ def kind_of(path):
         if "/must-fail/" in path or path.endswith(("/stdin", "/stdout")):
             return "tests"
         if "/proofs/" in path:
-            return "proofs"
+            return "laws" if re.search(r"/proofs/[A-Z]\w*\.antt$", path) else "proofs"
         if "/specs/" in path:
             return "laws" if "/specs/Laws" in path else "definitions"
         return "code"
@@ -91,7 +91,7 @@ def counted(path, text):
     contracts = list(spans(text)) if path.endswith(".rt") else []
     for start, end in contracts:
         yield "contracts", " ".join(text[start:end].split()), text[start:end].count("\n")
-    declared = "/specs/" in path and path.endswith(".antt")
+    declared = kind in ("definitions", "laws")
     if declared:
         for name, _, said, lines in tree.items(text):
             yield kind, said, lines
@@ -128,7 +128,7 @@ class Tree:
             for kind, line, size in counted(path, text):
                 self.lines[crate, kind, line] += 1
                 self.sizes[line] = size
-            if "/specs/" in path and path.endswith(".antt"):
+            if kind_of(path) in ("definitions", "laws"):
                 for name, defined, said, _ in tree.items(text):
                     if defined:
                         self.definitions[name, said] += 1
@@ -197,7 +197,7 @@ table(before, after, lambda crate: crate, tree.crates() + gone + ["-"])
 table(before, after, lambda crate: "in all", ["in all"])
 compared("definitions", before.believed, after.believed, before.definitions, after.definitions)
 inner = [{said for said in state.definitions if said not in state.believed} for state in (before, after)]
-compared("definitions inside (specs/Laws)", *inner, before.definitions, after.definitions)
+compared("definitions inside (laws)", *inner, before.definitions, after.definitions)
 both = {said for said in before.definitions if said in after.definitions}
 say("definitions that a reader no longer believes", {name for name, said in (before.believed - after.believed) & both})
 say("definitions that a reader newly believes", {name for name, said in (after.believed - before.believed) & both})

@@ -1,15 +1,8 @@
 #!/usr/bin/env python3
-"""Paths into what a proof knows, `c .before .before .fill .ensures`. FUNCTION is a path below proofs/.
-
-tools/paths.py CRATE FUNCTION [NEED ..]
-    prints for each need of a function the records from `c` backwards, each with the number of `.before` that lead
-    to it and its fields
-tools/paths.py --fill CRATE FUNCTION
-    replaces, in the function's Proof.antt, each `@@field` by the path from the `c` of its declaration to the
-    nearest record with that field, `@@/field` by the path to the record itself
-tools/paths.py --unfill CRATE FUNCTION
-    the way back: each path that --fill would make becomes `@@field` or `@@/field`; run it before a change of the
-    code that shifts paths, and --fill after it"""
+"""What an answer may cite: tools/paths.py CRATE FUNCTION [GOAL ..] prints for each goal of a function, by its name in
+Answers.antt, where in the code it arises and the steps that are known there, the newest first, each with its fields:
+`c.STEP.FIELD`. FUNCTION is its name as a check prints it, or the end of that."""
+import glob
 import os
 import re
 import subprocess
@@ -18,83 +11,50 @@ import tempfile
 
 import tree
 
+RECORD = re.compile(r"^( *)pub record (\S+)((?:(?! where\n)[\s\S])*?) where\n((?:\1 +[^\n]*\n|\n)*)", re.M)
+
+
+def records(text):
+    """Record by record its fields, each with the record that it is, if it is one."""
+    found = {}
+    for _, name, _, body in RECORD.findall(text):
+        found[name] = re.findall(r"^ *pub ([^\s:]+) :\s+([^\s(]*)", body, re.M)
+    # a call may be a record of the logic, of which the text has no fields
+    for name in re.findall(r"^ *abbrev pub (\S+) : Type 0\n *\S+ =\s+Called\.Called\s", text, re.M):
+        found[name] = [(field, "") for field in ("lifetimes", "result", "new", "type_inv", "auto", "ensures")]
+    return found
+
+
+def steps(record, known):
+    """(step, [field ..]) from a record of the steps known at a goal, back to the start."""
+    while record:
+        before = None
+        for name, kind in reversed(known[record]):
+            if name == "before":
+                before = kind.split(".")[-1]
+            else:
+                yield name, [field for field, _ in known.get(kind, [])]
+        record = before
+
+
 os.chdir(tree.TOP)
-mode = sys.argv[1] if sys.argv[1:2] in (["--fill"], ["--unfill"]) else None
-crate, function, *wanted = sys.argv[2:] if mode else sys.argv[1:]
-
+if len(sys.argv) < 3 or not os.path.isdir(f"crates/{sys.argv[1]}"):
+    sys.exit(__doc__)
+crate, function, *wanted = sys.argv[1:]
 with tempfile.TemporaryDirectory() as folder:
-    subprocess.run(["rt", "dev", crate, "--generated", folder + "/g"], capture_output=True)
-    # a function that calls itself has its proof below `+NAME`
-    module = f"Lts-{function[1:]}" if function.startswith("+") else "Lts"
-    made = f"{folder}/g/Rattle·{crate}·proofs/proofs/{function}/{module}.antt"
-    if not os.path.exists(made):
-        sys.exit(f"{crate} has no function {function}, or `rt dev {crate}` stops before its proofs: run it to see")
-    text = open(made).read()
+    asked = ["rt", "check", "--start", function, "--generated", folder]
+    done = subprocess.run(asked, cwd=f"crates/{crate}", stdout=subprocess.PIPE, stderr=subprocess.STDOUT, text=True)
+    made = glob.glob(f"{folder}/**/AnswersOffered.antt", recursive=True)
+    if len(made) != 1:
+        sys.exit(done.stdout)
+    # of functions in a cycle each has its own: Lts-FUNCTION
+    read = lambda names: "".join(open(it).read() for it in glob.glob(os.path.join(os.path.dirname(made[0]), names)))
+    goals, view = read("AnswersOffered.antt"), read("Lts*/View.antt")
+    known = {**records(read("Lts*.antt")), **records(view)}
 
-before, fields, needs = {}, {}, {}
-for found in re.finditer(r"^( *)pub record (\S+) ?(?:\([^\n]*)?:[^\n]*where\n((?:\1 +[^\n]*\n)*)", text, re.M):
-    parts = re.findall(r"^\s*pub (\S+) : ([^\n]*)", found.group(3), re.M)
-    fields[found.group(2)] = [name for name, _ in parts if name != "before"]
-    for name, kind in parts:
-        if name == "before":
-            before[found.group(2)] = kind.strip().strip("()").split()[0]
-for found in re.finditer(r"Need-(\S+) =\s*\(c : ([^)\s]+)", text):
-    needs[found.group(1)] = found.group(2)
-
-
-def chain(record):
-    records = [record]
-    while record in before and before[record] not in records:
-        record = before[record]
-        records.append(record)
-    return records
-
-
-def steps(record, field):
-    """How many `.before` lead to the nearest record with the field, if one has it."""
-    for n, at in enumerate(chain(record)):
-        if field in fields.get(at, []):
-            return n
-    return None
-
-
-def path(record, field):
-    n = steps(record, field)
-    if n is None:
-        sys.exit(f"no field {field} is known at {record}")
-    return "c" + " .before" * n
-
-
-def filled(record, line):
-    line = re.sub(r"@@/([a-z0-9-]+)", lambda m: path(record, m.group(1)), line)
-    return re.sub(r"@@([a-z0-9-]+)", lambda m: path(record, m.group(1)) + " ." + m.group(1), line)
-
-
-def unfilled(record, line):
-    def shorter(m):
-        n, field = m.group(1).count(".before"), m.group(2)
-        if field and steps(record, field) == n:
-            return "@@" + field
-        records = chain(record)
-        names = fields.get(records[n], []) if n < len(records) else []
-        own = [name for name in names if re.fullmatch(r"[a-z0-9-]+", name) and steps(record, name) == n]
-        return f"@@/{own[0]}" + (f" .{field}" if field else "") if own else m.group(0)
-    return re.sub(r"(?<![\w.])c(?= \.)((?: \.before)*)(?: \.([a-z0-9-]+))?", shorter, line)
-
-
-if not mode:
-    for need, record in needs.items():
-        if not wanted or need in wanted:
-            places = (f"{i}:{at}[{','.join(fields.get(at, []))}]" for i, at in enumerate(chain(record)))
-            print(need + ":", " ".join(places))
-    sys.exit()
-
-proof, at, lines = f"crates/{crate}/proofs/{function}/Proof.antt", None, []
-for line in open(proof):
-    named = re.match(r"\s*\S+ : (?:tie|lts)\.Need-(\S+)", line)
-    placed = re.search(r"\(c : (?:tie|lts)\.([^)\s]+)", line)
-    if re.match(r"pub \S+-spec\b", line):
-        at = None  # inline needs have a `c` of their own
-    at = placed.group(1) if placed else needs.get(named.group(1), at) if named else at
-    lines.append(line if at is None else (filled if mode == "--fill" else unfilled)(at, line))
-open(proof, "w").writelines(lines)
+at = dict(re.findall(r"Named-(\S+) =\s*\(c : (?:[\w+-]+\.)?([^)\s]+)", view))
+for place, goal in re.findall(r"^-- (.*)\npub (\S+) :", goals, re.M):
+    if not wanted or goal in wanted:
+        print(f"{goal} ({place})")
+        for name, fields in steps(at.get(goal.split("-clause-")[0]), known):
+            print(f"    c.{name}" + (": " + ", ".join(fields) if fields else ""))

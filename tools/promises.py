@@ -27,7 +27,7 @@ def labels(path):
 def carriers():
     """Label by label the files that carry it."""
     found = {}
-    for path in sorted(glob.glob("crates/**/*", recursive=True)):
+    for path in tree.files():
         if path.endswith((".antt", ".rt", ".edit")):
             for label in labels(path):
                 found.setdefault(label, []).append(path[len("crates/"):])
@@ -37,9 +37,9 @@ def carriers():
 def known():
     """Every word of the crates' code, specs and proofs, and the names of their edits."""
     words = set()
-    for path in glob.glob("crates/**/*", recursive=True):
+    for path in tree.files():
         if path.endswith((".antt", ".rt")):
-            words.update(re.findall(r"[\w·′-]+", open(path).read()))
+            words.update(re.findall(r"[\w'-]+", open(path).read()))
         elif path.endswith(".edit"):
             words.add(os.path.basename(path)[:-len(".edit")])
     return words

@@ -6,7 +6,7 @@ public function without `requires` has a contract of its crate's specs/Contract 
 (one with a `requires` is for callers in Rattle), if a module of definitions stands in specs/ though nothing reads it,
 or if README has another figure.
 
-The entry points are those of README's table, and every exported function (`#[no_mangle]`)."""
+The entry points are those of README's table, and every exported function (`#[unsafe(no_mangle)]`)."""
 import glob
 import os
 import re
@@ -36,7 +36,7 @@ def entry_points():
 
 def exported():
     for path in sorted(glob.glob("crates/*/src/*.rt")):
-        for name in re.findall(r"#\[no_mangle\]\npub extern \"C\" fn (\w+)\(", open(path).read()):
+        for name in re.findall(r"#\[unsafe\(no_mangle\)\]\npub extern \"C\" fn (\w+)\(", open(path).read()):
             yield path.split("/")[1], name
 
 
@@ -47,8 +47,8 @@ def contracted():
         text, crate = open(path).read(), path.split("/")[1]
         records = [name for module, names in tree.imports(text) if module == (crate, "Contract") for name in names]
         for name, signature, contract, _ in tree.functions(text):
-            promised = re.findall(r"⌜ (\w+)", contract)
-            free = signature.lstrip().startswith("pub ") and "requires {" not in contract
+            promised = re.findall(r"\bensures(?: \w+)? \{ (\w+)", contract)
+            free = signature.lstrip().startswith("pub ") and not tree.clauses(contract)[0]
             if free and promised[-1:] and promised[-1] in records:
                 yield crate, name
 
@@ -62,7 +62,7 @@ def cited(crate, name):
                 required, said = tree.clauses(contract)
                 if required or not said:
                     wrong.append(f"{crate}::{name} has {'a `requires`' if required else 'no contract'}")
-                words = set(re.findall(r"[^\s(){}⌜⌝,]+", said))
+                words = set(re.findall(r"[^\s(){},]+", said))
                 return [module for module, names in tree.imports(text) if words & set(names)]
     wrong.append(f"{crate}::{name} is not there")
     return []

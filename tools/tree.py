@@ -16,12 +16,24 @@ def parts():
         if title:
             found.append((title.group(1).strip(), []))
         elif line.strip() and not line.startswith("#"):
-            found[-1][1].append(line.split(":")[0].strip())
+            found[-1][1].append(line.split(":")[0].split()[0])
     return found
+
+
+def depends():
+    """Crate by crate what its line in crates.txt names."""
+    lines = [line.split(":") for line in open("crates.txt") if line.strip() and not line.startswith("#")]
+    return {head.split()[0]: below.split() for head, below in lines}
 
 
 def crates():
     return [crate for _, names in parts() for crate in names]
+
+
+def files():
+    """The files of the crates, without what checks leave in out/."""
+    paths = sorted(glob.glob("crates/**/*", recursive=True))
+    return [path for path in paths if path.split("/")[2:3] != ["out"] and os.path.isfile(path)]
 
 
 def source(crate):
@@ -66,14 +78,16 @@ def believed(crate):
     return [(crate, name) for name in names if name not in ("Lib", "Laws")]
 
 
-IMPORT = re.compile(r"^(?:ghost )?use Rattle·(\w+?)(?:·specs)?\.specs\.([\w.]*\w)(?:\.\{([^}]*)\}| as \w+|);?$", re.M)
+IMPORT = re.compile(r"^(?:ghost )?use Rattle\.(\w+)\.specs\.([\w.]*\w)(?:\.\{([^}]*)\}| as \w+|);?$", re.M)
 
 
 def imports(text):
-    """(module, [name ..]) for each import of specs, the types of the code (`declared`) among them; no names where the
-    module is imported as a whole."""
+    """(module, [name ..]) for each import of specs of a crate of the repository, the types of the code (`declared`)
+    among them; no names where the module is imported as a whole."""
+    own = crates()
     for crate, module, names in IMPORT.findall(text):
-        yield (crate, module), [re.sub(r".* as ", "", name).strip() for name in names.split(",") if name.strip()]
+        if crate in own:
+            yield (crate, module), [re.sub(r".* as ", "", name).strip() for name in names.split(",") if name.strip()]
 
 
 # ---- what a module holds
@@ -92,7 +106,7 @@ def items(text):
     folded, how many lines it has). The parameters of a module are a definition called `module`, an import under
     another name is one called `use`."""
     found, block = [], []
-    for line in re.findall(r"^(?:ghost )?use Rattle·\S*\.\{[^}]* as [^}]*\}", text, re.M):
+    for line in re.findall(r"^(?:ghost )?use Rattle\.\S*\.\{[^}]* as [^}]*\}", text, re.M):
         found += [("use", True, renamed.strip(), 1) for renamed in re.split(r"[{},]", line) if " as " in renamed]
     lines = [line.rstrip() for line in text.split("\n") if not re.match(r"\s*--( |$)", line)]
     for line in lines + [""]:

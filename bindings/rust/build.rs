@@ -1,4 +1,4 @@
-// Links the static library, which `rt staticlib exports` puts into target/staticlib of the repository.
+// Links the static library, which `tools/build exports` puts into target/staticlib of the repository.
 fn main() {
     let library = std::path::Path::new(env!("CARGO_MANIFEST_DIR")).join("../../target/staticlib");
     println!("cargo:rustc-link-search=native={}", library.display());
