@@ -1,8 +1,10 @@
 -- `program::read_many` meets its contract: a refusal is put, any other text is searched as its formula is. No text has
 -- more clauses than its arrays hold, so that it never calls itself, and any measure will do. Assumes nothing.
-use Rattle.std.proofs.Common.{sym, ap, ◌∙◌}
+use Rattle.std.proofs.Common.{sym, ap, ◌∙◌, le_of_eq}
 use Rattle.dimacs_lines.specs.Reply.{reply_of_parse}
-use Rattle.solver.specs.Laws.SolverLaws.{clauses_held}
+use Rattle.formula.specs.Limits.{max_clauses}
+use Rattle.formula.specs.Reply.{refused}
+use Rattle.solver.specs.Laws.SolverLaws.{clauses_held, most_not_4, blank_room}
 use Rattle.program.specs.Laws.ProgramLaws.{read_blank, alike_self, few_variables, prints_read, prints_refused}
 use Rattle.program.proofs.+read_many.Goals as goal
 
@@ -25,10 +27,6 @@ pub returns-else-short : goal.returns-else-short
 returns-else-short t c = prints_refused _ _ _ (ap reply_of_parse (sym c.in-Refused.is) ∙ (read_blank _ c.read-parsed.ensures).reply) _ _ _ c.put_refused.ensures
 
 pub read_many-requires : goal.read_many-requires
-read_many-requires t c = absurd (never t c.before)
-
-pub shape_of-out-then-short : goal.shape_of-out-then-short
-shape_of-out-then-short t c = absurd (never t c.before)
-
-pub returns-then-short : goal.returns-then-short
-returns-then-short t c = absurd (never t c.before)
+read_many-requires t c =
+    let said = ap reply_of_parse (sym c.in-Refused.is) ∙ c.read-parsed.ensures.reply in
+    absurd (most_not_4 _ _ (le_of_eq (sym (blank_room max_clauses))) c.in-Refused.place (sym said ∙ ap (λ k. refused k c.in-Refused.place) c.if-short.true))
