@@ -1,1 +1,5 @@
+pub mod Called
+pub mod LeastCalled
+pub mod Lent
 pub mod Places
+pub mod Spelled
