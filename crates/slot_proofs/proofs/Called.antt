@@ -2,7 +2,7 @@
 --     asked        a call is made from the tokens of its lifetimes, what its parameters own, and what it requires
 --     answered     once it has returned: the tokens, the result, what is said of its `&mut` parameters, and what it
 -- ensures
---     given-up     a `&mut` slice that is as it was passed: its last list is the one it has
+--     given_up     a `&mut` slice that is as it was passed: its last list is the one it has
 --     free_all     all locals are freed, the first first
 --     placed       a function's locals with where they stand
 -- Assumes `Logic`.

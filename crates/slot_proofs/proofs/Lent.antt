@@ -7,7 +7,7 @@
 --     abstracted, emptied  a local array of n zeros is a row of n elements; a row of n elements is a local array's room
 -- again
 --     roomy            a list of n elements has room where n elements have
---     big-lit      a constant that is written with its bound to be shown
+--     big_lit      a constant that is written with its bound to be shown
 -- Assumes `Logic`.
 use mathlib.Core.Path.{◌≡◌, refl, sym, subst}
 use Prim.Native.Nat.{ℕ, ◌^◌, ◌<◌}
