@@ -175,7 +175,8 @@ fn with_most_guesses(
 
 // E3: the number, from 1, of the first of the listed permutations that does not keep the clauses; 0 if all do. Guesses
 // are made once for all. Refusal 11 sees to what it requires: the permutations lie in the bytes, so it never calls
-// itself, and the call keeps the arrays out of this function and its callers, whose frames are then small.
+// itself, and the call keeps the arrays out of this function and its callers, whose frames are then small. What the call
+// answers is not answered as it is: a compiler would make a loop of that.
 pub fn first_non_symmetry(
     n: u32,
     permutations: u32,
@@ -195,5 +196,5 @@ pub fn first_non_symmetry(
     if area <= images.len() {
         return with_most_guesses(n, permutations, images, positive, negative);
     }
-    first_non_symmetry(n, permutations, images, positive, negative)
+    first_non_symmetry(n, permutations, images, positive, negative) / 2
 }

@@ -62,8 +62,8 @@ fn finish(
     }
 }
 
-// Explores with the third stage's links, 96 KiB, which are gone when the last stage begins. Its callers lend room for
-// 8,192 numbers, so it never calls itself.
+// Explores with the third stage's links, 96 KiB, which are gone when the last stage begins. The slices have the room
+// that the frame tells, which no compiler knows, so it never calls itself.
 fn explore_many(
     g: Frame,
     images: &[u8],
@@ -87,7 +87,7 @@ fn explore_many(
         (slot_slices points.old falsified.old depths.old) from result.stage result.point
         (slot_slices points.new falsified.new depths.new) found.new }
 {
-    if found.len() < MANY_HEADS {
+    if falsified.len() < g.room {
         return explore_many(
             g, images, positive, negative, points, falsified, depths, found, from,
         );
