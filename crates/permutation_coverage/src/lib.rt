@@ -27,7 +27,7 @@ pub struct Lookup {
 }
 
 // The image stored at index i, flipped where the permutation of index i sends variable v: the image of the flipped
-// point (`image-flip`).
+// point (`image_flip`).
 fn flipped_image(n: u32, images: &[u8], moved: &[u64], i: usize, v: u32) -> Point
     requires { Sends n i v images.now }
     ensures { result ≡ flip (get_or (points_of moved.now) i 0) (get_or images.now (i * n + v) 0 - 1) }
@@ -70,12 +70,12 @@ pub fn move_images(n: u32, permutations: u32, images: &[u8], moved: &mut [u64], 
 }
 
 // The image stored at index i, changed where the permutation of index i sends the variables of s: the image of a point
-// that differs in those (`image-differing`). The set at index i of `stay` has variables that the permutation sends to
+// that differs in those (`image_differing`). The set at index i of `stay` has variables that the permutation sends to
 // themselves: one step for each other variable of s.
 fn changed_image(n: u32, images: &[u8], stay: &[u64], moved: &[u64], i: usize, s: Point) -> Point
     requires { Stays n i images.now (points_of stay.now) }
     ensures { result ≡ bit_xor (get_or (points_of moved.now) i 0)
-        (image_of_point (record { images = take n (drop (i * n) images.entry.now) }) s) }
+        (image_of_point (record { images = take n (drop (i * n) images.now) }) s) }
 {
     let e = permutation_at(n as usize, images, i);
     let staying = point_at(stay, i);

@@ -63,7 +63,7 @@ unfolding all any image_of_clause same_clause
 keeps cs e = all (image_among (clauses_in cs) e) (clauses_in cs)
 
 -- E6: "A choice is covered by a set if it or its image under one listed exchange is in the set." E4: "Doing nothing
--- always counts as an exchange, unlisted" (itself); E5: "here one listed exchange, applied one time, counts" (by-image)
+-- always counts as an exchange, unlisted" (itself); E5: "here one listed exchange, applied one time, counts" (by_image)
 pub data Covered (es : List Permutation) (ps : List ℕ) (x : ℕ) : Type 0 where
   itself : x ∈ ps → Covered es ps x
   by_image : (e : Permutation) → e ∈ es → image_of_point e x ∈ ps → Covered es ps x

@@ -57,7 +57,7 @@ module _ (pb : Problem) (capacity : ℕ) (ready : Ready pb) where
         )
 
   -- any number is a bound that is at most the depth of the first waiting slot.
-  -- T1: "Taking the newest point: still sound, but the choice is no longer nearest.": `first-shallowest` is what fails
+  -- T1: "Taking the newest point: still sound, but the choice is no longer nearest.": `first_shallowest` is what fails
   -- then
   pub lower_bound : (p w : List Slot) (s : Slot) → Invariants pb capacity p (s ∷ w) → (b : ℕ) → b ≤ s.depth
       → LowerBound pb b

@@ -66,7 +66,7 @@ module _ (pb : Problem) (capacity : ℕ) (ready : Ready pb) (room : 1 ≤ capaci
   pub depth_bound : (i : ℕ) → i < length l → (slot_at l i).depth ≤ i
   depth_bound = invariants.depth_index
 
-  -- so it is below the limit of slots, which the number lent respects (lent-few of Accepted)
+  -- so it is below the limit of slots, which the number lent respects (lent_few of Accepted)
   pub depth_small : capacity ≤ max_slots → (i : ℕ) → i < length l → (slot_at l i).depth < max_slots
   depth_small few i lt = lt_of_le_of_lt (depth_bound i lt) (lt_of_lt_of_le lt (le_trans slots_filled few))
 
