@@ -30,3 +30,8 @@ pub read_many-requires : goal.read_many-requires
 read_many-requires t c =
     let said = ap reply_of_parse (sym c.in-Refused.is) ∙ c.read-parsed.ensures.reply in
     absurd (most_not_4 _ _ (le_of_eq (sym (blank_room max_clauses))) c.in-Refused.place (sym said ∙ ap (λ k. refused k c.in-Refused.place) c.if-short.true))
+
+pub returns-then-short : goal.returns-then-short
+returns-then-short t c =
+    let said = ap reply_of_parse (sym c.in-Refused.is) ∙ c.read-parsed.ensures.reply in
+    absurd (most_not_4 _ _ (le_of_eq (sym (blank_room max_clauses))) c.in-Refused.place (sym said ∙ ap (λ k. refused k c.in-Refused.place) c.if-short.true))
