@@ -30,8 +30,8 @@ clause_slices positive negative =
     }
 
 -- the same of the two slices that a value of the code's type lends
-abbrev pub clause_slices_in : Clauses → ClauseSlices
-clause_slices_in c = clause_slices c.positive.now c.negative.now
+abbrev pub slices_lent : Clauses → ClauseSlices
+slices_lent c = clause_slices c.positive.now c.negative.now
 
 -- slices that hold these points and nothing behind them
 abbrev pub whole_clauses : List ℕ → List ℕ → ClauseSlices

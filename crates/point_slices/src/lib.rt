@@ -4,7 +4,7 @@
 #![tactic(auto)]
 
 ghost use Rattle.std.specs.Prelude.{[], ◌≡◌, ◌≤◌, length, get_or, set, take};
-ghost use Rattle.point_slices.specs.Laws.Contracts.{clauses_in};
+ghost use Rattle.point_slices.specs.Laws.Contracts.{clauses_lent};
 ghost use Rattle.points.specs.Laws.Contracts.{clause_of};
 ghost use Rattle.points.specs.Points.{satisfies, first_falsified, numbered, number_of, empty_clause};
 ghost use Rattle.point_slices.specs.Laws.SliceLaws.{falsified_from};
@@ -70,14 +70,14 @@ pub struct Clauses<'a> {
 impl Clauses<'_> {
     // How many there are.
     pub fn count(self) -> usize
-        ensures { result ≡ length (clauses_in self.entry) }
+        ensures { result ≡ length (clauses_lent self.entry) }
     {
         self.positive.len().min(self.negative.len())
     }
 
     // The clause at index i, the one without literals past the end.
     pub fn at(self, i: usize) -> Clause
-        ensures { clause_of result ≡ get_or (clauses_in self.entry) i empty_clause }
+        ensures { clause_of result ≡ get_or (clauses_lent self.entry) i empty_clause }
     {
         if i < self.positive.len() && i < self.negative.len() {
             Clause {
@@ -94,7 +94,7 @@ impl Clauses<'_> {
 
     // Whether the point satisfies the clause at index i.
     fn satisfied_at(self, i: usize, x: Point) -> bool
-        ensures { result ≡ satisfies (get_or (clauses_in self.entry) i empty_clause) x }
+        ensures { result ≡ satisfies (get_or (clauses_lent self.entry) i empty_clause) x }
     {
         points::satisfies(self.at(i), x)
     }
@@ -102,7 +102,7 @@ impl Clauses<'_> {
     // How many of the first clauses can be skipped, since the point satisfies them: four are tested together, so that no
     // step waits for the one before, until one of four is falsified or fewer are left.
     fn satisfied_first(self, x: Point) -> usize
-        ensures { falsified_from (clauses_in self.entry) x 0 ≡ falsified_from (clauses_in self.entry) x result }
+        ensures { falsified_from (clauses_lent self.entry) x 0 ≡ falsified_from (clauses_lent self.entry) x result }
     {
         let fours = self.count() / 4;
         for k in 0..fours {
@@ -122,7 +122,7 @@ impl Clauses<'_> {
     // The number, from 1, of the first clause from index `from` on that the point falsifies; 0 where there is none. One
     // step a clause.
     fn falsified_from(self, from: usize, x: Point) -> usize
-        ensures { result ≡ falsified_from (clauses_in self.entry) x from }
+        ensures { result ≡ falsified_from (clauses_lent self.entry) x from }
     {
         for i in from..self.count() {
             if !self.satisfied_at(i, x) {
@@ -135,7 +135,7 @@ impl Clauses<'_> {
     // The number, from 1, of the first clause that the point falsifies; 0 where it satisfies all: so a slot holds it. One
     // step for four clauses, and at most four more.
     pub fn first_falsified(self, x: Point) -> usize
-        ensures { result ≡ number_of (first_falsified (numbered (clauses_in self.entry)) x) }
+        ensures { result ≡ number_of (first_falsified (numbered (clauses_lent self.entry)) x) }
     {
         self.falsified_from(self.satisfied_first(x), x)
     }

@@ -9,5 +9,5 @@ abbrev pub lent_clauses : List ℕ → List ℕ → List Clause
 lent_clauses positive negative = beside (points_of positive) (points_of negative)
 
 -- the clauses that a value of the code's type lends
-abbrev pub clauses_in : Clauses → List Clause
-clauses_in c = lent_clauses c.positive.now c.negative.now
+abbrev pub clauses_lent : Clauses → List Clause
+clauses_lent c = lent_clauses c.positive.now c.negative.now
