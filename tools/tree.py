@@ -130,7 +130,7 @@ def items(text):
 
 # ---- functions and their contracts
 
-FUNCTION = re.compile(r"^(?: *)(?:pub(?:\(crate\))? )?(?:extern \"C\" )?fn (\w+)(?:<[^>]*>)?\(", re.M)
+FUNCTION = re.compile(r"^(?: *)(?:pub(?:\(crate\))? )?(?:extern \"C\" )?fn (\w+)(?:<(?:->|[^<>]|<[^<>]*>)*>)?\(", re.M)
 
 
 def functions(text):
