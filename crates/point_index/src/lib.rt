@@ -40,7 +40,11 @@ fn child_of(heads: usize, j: usize, x: Point, d: u32) -> usize
     ensures { result ≡ child_of heads j (bit x d) }
 {
     let first = heads + 2 * j;
-    if points::member(x, d) { first + 1 } else { first }
+    if points::member(x, d) {
+        first + 1
+    } else {
+        first
+    }
 }
 
 // An index of the first `count` points of a slice: the links, and how many of them are heads.
