@@ -73,8 +73,10 @@ fn changed_image(
 ) -> Point
     requires { Stays permutations.variables i permutations.images.now (points_of stay.now) }
     ensures { result ≡ bit_xor (get_or (points_of moved.now) i 0) (image_of_point
-        (record { images = take permutations.entry.variables (drop (i * permutations.entry.variables)
-        permutations.entry.images.now) }) s) }
+        (record {
+          images = take permutations.entry.variables (drop (i * permutations.entry.variables)
+              permutations.entry.images.now);
+        }) s) }
 {
     let staying = point_at(stay, i);
     let change = image_of_set(permutations.at(i), staying, s);
