@@ -57,11 +57,8 @@ fn flip_images(permutations: Permutations<'_>, moved: &mut [u64], v: u32)
     ensures { Turns permutations.entry.variables permutations.entry.count permutations.entry.images.now (2 ^ v)
         (points_of moved.old) (points_of moved.new) }
 {
-    turn_images(
-        permutations,
-        moved,
-        |i, image| flipped_image(permutations, i, image, v),
-    );
+    let flipped = |i, image| flipped_image(permutations, i, image, v);
+    turn_images(permutations, moved, flipped);
 }
 
 // Turns the images of x into those of y: one step for each permutation and each variable in which they differ, which
@@ -115,11 +112,8 @@ fn far_images(permutations: Permutations<'_>, stay: &[u64], moved: &mut [u64], s
     ensures { Turns permutations.entry.variables permutations.entry.count permutations.entry.images.now s
         (points_of moved.old) (points_of moved.new) }
 {
-    turn_images(
-        permutations,
-        moved,
-        |i, image| changed_image(permutations, stay, i, image, s),
-    );
+    let changed = |i, image| changed_image(permutations, stay, i, image, s);
+    turn_images(permutations, moved, changed);
 }
 
 // In how many variables two points differ at most whose images are turned one variable at a time: so few turns take no
