@@ -8,6 +8,7 @@ ghost use Rattle.std.specs.Int.Bits.{bit_xor};
 ghost use Rattle.math.specs.Bits.{flip};
 ghost use Rattle.math.specs.Lists.{any};
 ghost use Rattle.point_slices.specs.Slices.{points_of};
+ghost use Rattle.point_index.specs.Laws.Looking.{indexed_points};
 ghost use Rattle.permutation_theory.specs.Permutations.{image_in, image_of_point, covered};
 ghost use Rattle.permutation_images.specs.Laws.Contracts.{permutations_of};
 ghost use Rattle.permutation_coverage.specs.Laws.Coverage.{Permuting, Imaged, Coverable, Turns, Sends, Stays};
@@ -177,7 +178,7 @@ pub fn image_covered(
     requires { Coverable index.heads permutations.variables index.count (points_of index.points.now)
         index.links.now permutations.count permutations.images.now (points_of moved.now) x
         × (v < permutations.variables) }
-    ensures { result ≡ any (image_in (take index.entry.count (points_of index.entry.points.now)) (flip x v))
+    ensures { result ≡ any (image_in (indexed_points index.entry) (flip x v))
         (permutations_of permutations.entry) }
 {
     for i in 0..permutations.count as usize {
@@ -202,7 +203,7 @@ pub fn flip_covered(
         index.links.now permutations.count permutations.images.now (points_of moved.now) x
         × (v < permutations.variables) }
     ensures { result ≡ covered (permutations_of permutations.entry)
-        (take index.entry.count (points_of index.entry.points.now)) (flip x v) }
+        (indexed_points index.entry) (flip x v) }
 {
     let flipped = points::flip(x, v);
     index.contains(permutations.variables, flipped)
