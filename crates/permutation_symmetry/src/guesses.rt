@@ -35,35 +35,34 @@ fn clause_hash(c: Clause) -> usize
     (p + 5 * q) % 4294967296
 }
 
-// The head link of a hash: a product and a quotient by a power of two bring it below the number of heads.
-fn head_of(hash: usize, heads: usize) -> usize
-    requires { (hash < 4294967296) × (heads ≤ 8192) }
-{
-    hash * heads / 4294967296
-}
-
-// The second head link of a clause, by the hash of its hash.
-fn second_head(hash: usize, heads: usize) -> usize
-    requires { heads ≤ 8192 }
-{
-    let again = hash_of(hash as u64);
-    head_of(again, heads)
-}
-
-// The link of the clause at index i for clauses that differ from it, by their next digit.
-fn link_of(heads: usize, i: usize, digit: bool) -> usize
-    requires { (heads ≤ 8192) × (i ≤ 4294967296) }
-{
-    let first = heads + 2 * i;
-    if digit { first + 1 } else { first }
-}
-
 // Guesses as they are lent: links, of which the first are the heads.
 #[derive(Clone, Copy)]
 pub(crate) struct Guesses<'a> {
     pub heads: usize,
     pub links: &'a [u32],
     ghost few: { heads ≤ 8192 },
+}
+
+impl Guesses<'_> {
+    // The head link of a hash: a product and a quotient by a power of two bring it below the number of heads.
+    fn head_of(self, hash: usize) -> usize
+        requires { hash < 4294967296 }
+    {
+        hash * self.heads / 4294967296
+    }
+
+    // The second head link of a clause, by the hash of its hash.
+    fn second_head(self, hash: usize) -> usize {
+        self.head_of(hash_of(hash as u64))
+    }
+
+    // The link of the clause at index i for clauses that differ from it, by their next digit.
+    fn link_of(self, i: usize, digit: bool) -> usize
+        requires { i ≤ 4294967296 }
+    {
+        let first = self.heads + 2 * i;
+        if digit { first + 1 } else { first }
+    }
 }
 
 // Whether the clause at index i is the clause c.
@@ -96,7 +95,7 @@ fn way_along(clauses: Clauses<'_>, guesses: Guesses<'_>, c: Clause, s: Point, fr
         if stands_at(clauses, i, c) {
             return Way::Held;
         }
-        link = link_of(guesses.heads, i, points::member(s, d));
+        link = guesses.link_of(i, points::member(s, d));
     }
     Way::Lost(link)
 }
@@ -116,7 +115,7 @@ fn way_to(clauses: Clauses<'_>, guesses: Guesses<'_>, c: Clause) -> Way
     ensures { result ≡ Held → any (same_clause (clause_of c)) (clauses_lent clauses.entry) ≡ true }
 {
     let hash = clause_hash(c);
-    let head = head_of(hash, guesses.heads);
+    let head = guesses.head_of(hash);
     let number = number_at(guesses.links, head);
     if number == 0 {
         return Way::Free(head);
@@ -124,7 +123,7 @@ fn way_to(clauses: Clauses<'_>, guesses: Guesses<'_>, c: Clause) -> Way
     if stands_at(clauses, number as usize - 1, c) {
         return Way::Held;
     }
-    way_behind(clauses, guesses, c, second_head(hash, guesses.heads))
+    way_behind(clauses, guesses, c, guesses.second_head(hash))
 }
 
 // Whether a guess for the clause is right: then it is among those of the slices. The first guess is tried here, since it
@@ -133,7 +132,7 @@ pub(crate) fn guessed(clauses: Clauses<'_>, guesses: Guesses<'_>, c: Clause) -> 
     ensures { result ≡ true → any (same_clause (clause_of c)) (clauses_lent clauses.entry) ≡ true }
 {
     let hash = clause_hash(c);
-    let head = head_of(hash, guesses.heads);
+    let head = guesses.head_of(hash);
     let number = number_at(guesses.links, head);
     if number == 0 {
         return false;
@@ -141,7 +140,7 @@ pub(crate) fn guessed(clauses: Clauses<'_>, guesses: Guesses<'_>, c: Clause) -> 
     if stands_at(clauses, number as usize - 1, c) {
         return true;
     }
-    let way = way_behind(clauses, guesses, c, second_head(hash, guesses.heads));
+    let way = way_behind(clauses, guesses, c, guesses.second_head(hash));
     matches!(way, Way::Held)
 }
 
