@@ -23,20 +23,6 @@ use point_slices::{clause_at, clause_count};
 use points::{Clause, Point};
 use text_output::{put_byte, put_field, put_text};
 
-// 1 for a test that passes, 0 for one that does not.
-fn one_if(passes: bool) -> usize
-    ensures { result ≡ cond passes 1 0 }
-{
-    if passes { 1 } else { 0 }
-}
-
-// The byte of a digit 0 or 1.
-fn binary_digit(is_one: bool) -> u8
-    ensures { result ≡ cond is_one 49 48 }
-{
-    if is_one { 49 } else { 48 }
-}
-
 // Puts the word of a literal, and a blank behind it. Its minus and the first of two digits are put in any case, and the
 // byte behind stands on them where there are none, so that no branch is needed on what a processor can hardly foresee.
 fn put_literal(out: &mut [u8], at: usize, unwanted: bool, v: u32) -> usize
@@ -45,15 +31,15 @@ fn put_literal(out: &mut [u8], at: usize, unwanted: bool, v: u32) -> usize
         × (result ≤ at + longest_literal) }
 {
     let number = v + 1;
-    let tens = 48 + (number / 10) as u8;
-    let ones = 48 + (number % 10) as u8;
+    let tens = b'0' + (number / 10) as u8;
+    let ones = b'0' + (number % 10) as u8;
     let two = 10 <= number;
-    put_byte(out, at, 45);
-    let first = at + one_if(unwanted);
+    put_byte(out, at, b'-');
+    let first = at + usize::from(unwanted);
     put_byte(out, first, tens);
-    let last = first + one_if(two);
+    let last = first + usize::from(two);
     let behind = put_byte(out, last, ones);
-    put_byte(out, behind, 32)
+    put_byte(out, behind, b' ')
 }
 
 // Q02.2: "a name listed both ways yes before no": puts the literals of the variable of bit v. `put_clause` sees to it
@@ -85,8 +71,8 @@ fn put_clause(out: &mut [u8], at: usize, n: u32, c: Clause) -> usize
         left = points::flip(left, v);
         v = points::next_variable(left);
     }
-    let last = put_byte(out, place, 48);
-    put_byte(out, last, 10)
+    let last = put_byte(out, place, b'0');
+    put_byte(out, last, b'\n')
 }
 
 // Q02.2: "then a line a rule": puts the lines of all clauses. One step a clause and one a variable that it lists.
@@ -96,13 +82,10 @@ pub fn put_clauses(out: &mut [u8], at: usize, n: u32, positive: &[u64], negative
     ensures { Put at (flat_map (clause_part n) (lent_clauses positive.now negative.now))
         out.old result out.new }
 {
-    let end = clause_count(positive, negative);
     let mut place = at;
-    let mut i = 0;
-    while i < end {
+    for i in 0..clause_count(positive, negative) {
         let c = clause_at(positive, negative, i);
         place = put_clause(out, place, n, c);
-        i += 1;
     }
     place
 }
@@ -113,11 +96,9 @@ fn put_digits(out: &mut [u8], at: usize, n: u32, x: Point) -> usize
     ensures { Put at (flat_map (digit_part x) (below n)) out.old result out.new }
 {
     let mut place = at;
-    let mut i = 0;
-    while i < n {
-        let digit = binary_digit(points::member(x, i));
+    for i in 0..n {
+        let digit = b'0' + u8::from(points::member(x, i));
         place = put_byte(out, place, digit);
-        i += 1;
     }
     place
 }
@@ -129,7 +110,7 @@ pub fn put_target(out: &mut [u8], at: usize, n: u32, x: Point) -> usize
 {
     let first = put_text(out, at, b"c wish ");
     let last = put_digits(out, first, n, x);
-    put_byte(out, last, 10)
+    put_byte(out, last, b'\n')
 }
 
 // Puts the line of a permutation, which has an image at least. One step an image.
@@ -138,15 +119,11 @@ fn put_permutation(out: &mut [u8], at: usize, e: &[u8]) -> usize
     ensures { Put at (permutation_part (record { images = e.now })) out.old result
         out.new }
 {
-    let end = e.len();
     let mut place = put_text(out, at, b"c exch");
-    let mut i = 0;
-    while i < end {
-        let image = e[i] as u64;
-        place = put_field(out, place, b" ", image);
-        i += 1;
+    for image in e {
+        place = put_field(out, place, b" ", *image as u64);
     }
-    put_byte(out, place, 10)
+    put_byte(out, place, b'\n')
 }
 
 // Puts the lines of all permutations. One step an image. Refusal 11 sees to what it requires.
@@ -163,14 +140,10 @@ pub fn put_permutations(
     ensures { Put at (flat_map permutation_part (permutations_in n permutations images.now))
         out.old result out.new }
 {
-    let size = n as usize;
-    let end = permutations as usize;
     let mut place = at;
-    let mut i = 0;
-    while i < end {
-        let e = permutation_at(size, images, i);
+    for i in 0..permutations as usize {
+        let e = permutation_at(n as usize, images, i);
         place = put_permutation(out, place, e);
-        i += 1;
     }
     place
 }

@@ -1,7 +1,7 @@
 // Formulas as numbers and bytes in lent slices, and the reader's answer beside them, for programs in other languages.
 #![tactic(auto)]
 
-ghost use Rattle.std.specs.Prelude.{◌≡◌, ◌≤◌, length, take, replicate, true};
+ghost use Rattle.std.specs.Prelude.{◌≡◌, ◌≤◌, length, take, true};
 ghost use Rattle.math.specs.Lists.{over};
 ghost use Rattle.formula.specs.Limits.{max_images};
 ghost use Rattle.formula.specs.Laws.Contracts.{formula_with};
@@ -13,66 +13,47 @@ ghost use Rattle.export_formulas.specs.Laws.FormulaLaws.{Unused};
 use dimacs_lines::{Parse, ParsedNumbers};
 use export_words::{copy_bytes, put_words};
 use formula::{Formula, Numbers};
-use point_slices::least;
 
 // Puts lent bytes over the images of a formula, as many as there can be. One step a byte.
 fn put_images(to: &mut [u8; Formula::MAX_IMAGES], bytes: &[u8])
     ensures { to.new ≡ over (take max_images bytes.now) to.old }
 {
-    let count = least(bytes.len(), Formula::MAX_IMAGES);
+    let count = bytes.len().min(Formula::MAX_IMAGES);
     copy_bytes(to, bytes, count);
 }
 
 // The formula by value that numbers and bytes make: 0 for the images that are not lent. They are copied to where they
 // stay.
-pub fn formula_from(
-    variables: u32,
-    clauses: u32,
-    target: u64,
-    permutations: u32,
-    images: &[u8],
-) -> Formula
-    ensures { result ≡ formula_from variables clauses target permutations images.now }
+pub fn formula_from(f: Numbers, images: &[u8]) -> Formula
+    ensures { result ≡ formula_from f.variables f.clauses f.target f.permutations images.now }
 {
-    let mut f = Formula {
-        variables,
-        clauses,
-        target,
-        permutations,
+    let mut made = Formula {
+        variables: f.variables,
+        clauses: f.clauses,
+        target: f.target,
+        permutations: f.permutations,
         images: [0u8; Formula::MAX_IMAGES],
     };
-    put_images(&mut f.images, images);
-    f
-}
-
-// Makes the first `count` bytes of a slice 0. One step a byte.
-fn clear_bytes(to: &mut [u8], count: usize)
-    requires { count ≤ length to.old }
-    ensures { to.new ≡ over (replicate count 0) to.old }
-{
-    let mut i = 0;
-    while i < count {
-        to[i] = 0;
-        i += 1;
-    }
+    put_images(&mut made.images, images);
+    made
 }
 
 // Writes a formula's images. Where there are no permutations they are zeros, which need not be read. One step a byte.
 // `put_formula` sees to what it requires.
-fn put_held(images: &mut [u8], permutations: u32, held: &[u8])
-    requires { (max_images ≤ length images.old) × (length held.now ≡ max_images) × Unused permutations held.now }
+fn put_held(images: &mut [u8], permutations: u32, held: &[u8; Formula::MAX_IMAGES])
+    requires { (max_images ≤ length images.old) × Unused permutations held.now }
     ensures { images.new ≡ over held.now images.old }
 {
     if permutations == 0 {
-        clear_bytes(images, Formula::MAX_IMAGES);
+        images[..Formula::MAX_IMAGES].fill(0);
     } else {
-        copy_bytes(images, held, Formula::MAX_IMAGES);
+        images[..Formula::MAX_IMAGES].copy_from_slice(held);
     }
 }
 
 // Writes a formula's four numbers and its images; `put_parsed` sees to what it requires.
-fn put_formula(numbers: &mut [u64], images: &mut [u8], f: Numbers, held: &[u8])
-    requires { (4 ≤ length numbers.old) × (max_images ≤ length images.old) × (length held.now ≡ max_images)
+fn put_formula(numbers: &mut [u64], images: &mut [u8], f: Numbers, held: &[u8; Formula::MAX_IMAGES])
+    requires { (4 ≤ length numbers.old) × (max_images ≤ length images.old)
         × Unused f.permutations held.now }
     ensures { (numbers.new ≡ over (numbers_of (formula_with f held.now)) numbers.old)
         × (images.new ≡ over held.now images.old) }
@@ -113,10 +94,9 @@ pub fn put_parsed(
     images: &mut [u8],
     reply: &mut [u64],
     r: ParsedNumbers,
-    held: &[u8],
+    held: &[u8; Formula::MAX_IMAGES],
 )
     requires { (4 ≤ length numbers.old) × (max_images ≤ length images.old) × (4 ≤ length reply.old)
-        × (length held.now ≡ max_images)
         × (is_parsed (reply_of_parse r.answer) ≡ true → Unused r.numbers.permutations held.now) }
     ensures { (numbers.new ≡ put_if_parsed (reply_of_parse r.answer)
         (numbers_of (formula_with r.numbers held.now)) numbers.old)

@@ -25,7 +25,7 @@ pub fn sheet_from(
 {
     let whole = Formula::MAX_IMAGES;
     if images.len() < whole {
-        let g = formula_from(f.variables, f.clauses, f.target, f.permutations, images);
+        let g = formula_from(f, images);
         return write(g, positive, negative, out);
     }
     write_lent(f, &images[..whole], positive, negative, out)

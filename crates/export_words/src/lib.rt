@@ -20,16 +20,17 @@ use solver::{Settled, Solution};
 // How many words an answer takes.
 pub const WORDS: usize = 4;
 
+// How many words an entry of a body takes, and how many a file's contents.
+pub const ENTRY: usize = 2;
+
+pub const CONTENTS: usize = 8;
+
 // Copies the first `count` bytes of one slice to the front of another. One step a byte.
 pub fn copy_bytes(to: &mut [u8], from: &[u8], count: usize)
     requires { (count ≤ length to.old) × (count ≤ length from.now) }
     ensures { to.new ≡ over (take count from.now) to.old }
 {
-    let mut i = 0;
-    while i < count {
-        to[i] = from[i];
-        i += 1;
-    }
+    to[..count].copy_from_slice(&from[..count]);
 }
 
 // Writes four words to the front of a slice; the callers see to its length.
@@ -37,16 +38,8 @@ pub fn put_words(to: &mut [u64], a: u64, b: u64, c: u64, d: u64)
     requires { 4 ≤ length to.old }
     ensures { to.new ≡ over (a ∷ b ∷ c ∷ d ∷ []) to.old }
 {
-    to[0] = a;
-    to[1] = b;
-    to[2] = c;
-    to[3] = d;
+    to[..WORDS].copy_from_slice(&[a, b, c, d]);
 }
-
-// How many words an entry of a body takes, and how many a file's contents.
-pub const ENTRY: usize = 2;
-
-pub const CONTENTS: usize = 8;
 
 // Writes the words of the search's answer; the callers see to the room for them.
 pub fn put_found(reply: &mut [u64], r: Found)
@@ -106,14 +99,16 @@ fn put_contents(to: &mut [u64], c: Contents)
     requires { 8 ≤ length to.old }
     ensures { to.new ≡ over (contents_words (some (contents_in c))) to.old }
 {
-    to[0] = c.variables as u64;
-    to[1] = c.clauses as u64;
-    to[2] = c.permutations as u64;
-    to[3] = c.permutations_at as u64;
-    to[4] = c.points as u64;
-    to[5] = c.points_at as u64;
-    to[6] = c.numbers as u64;
-    to[7] = c.numbers_at as u64;
+    to[..CONTENTS].copy_from_slice(&[
+        c.variables as u64,
+        c.clauses as u64,
+        c.permutations as u64,
+        c.permutations_at as u64,
+        c.points as u64,
+        c.points_at as u64,
+        c.numbers as u64,
+        c.numbers_at as u64,
+    ]);
 }
 
 // Writes the words of the file reader's answer, and the contents where there are some; the callers see to the room for

@@ -29,7 +29,7 @@ fn search_from(
 {
     let whole = Formula::MAX_IMAGES;
     if images.len() < whole {
-        let g = formula_from(f.variables, f.clauses, f.target, f.permutations, images);
+        let g = formula_from(f, images);
         return search(g, positive, negative, points, falsified, depths);
     }
     search_lent(

@@ -31,7 +31,7 @@ fn write_from(
 {
     let whole = Formula::MAX_IMAGES;
     if images.len() < whole {
-        let g = formula_from(f.variables, f.clauses, f.target, f.permutations, images);
+        let g = formula_from(f, images);
         return write(
             g, positive, negative, points, falsified, depths, filled, out,
         );

@@ -4,72 +4,39 @@
 // nobody reads any more among such, it says that there too. The exit status is 0 wherever the program ends by itself.
 #![tactic(auto)]
 
-ghost use Rattle.std.specs.Prelude.{◌≤◌, length};
+ghost use Rattle.std.specs.Prelude.{◌≤◌, length, IfOk};
 ghost use Rattle.program_text.specs.Report.{longest_text};
 
 use program::{MAX_INPUT, printed_for};
 use program_text::LONGEST;
-use std::io::{Read, Stdin};
+use std::io::{self, Read, Stdin};
 
-// How many bytes were read, and whether a read failed.
-#[derive(Clone, Copy)]
-struct Got {
-    count: usize,
-    failed: bool,
-}
-
-// One read of standard input to the front of the buffer. It may bring fewer bytes than there is room for; at the end of
-// the input it brings none.
-fn read_some(mut stdin: Stdin, buffer: &mut [u8]) -> Got
-    ensures { result.count ≤ length buffer.new }
-{
-    match stdin.read(buffer) {
-        Ok(count) => Got {
-            count,
-            failed: false,
-        },
-        Err(_) => Got {
-            count: 0,
-            failed: true,
-        },
-    }
-}
-
-// Reads standard input to the front of the buffer, until that is full, the input ends or a read fails. One step a read.
-fn read_input(stdin: Stdin, buffer: &mut [u8]) -> Got
-    ensures { result.count ≤ length buffer.new }
+// Reads standard input to the front of the buffer, until that is full, the input ends or a read fails, and answers how
+// many bytes there are. One step a read: it may bring fewer bytes than there is room for, and none at the end of the
+// input.
+fn read_input(mut stdin: Stdin, buffer: &mut [u8]) -> io::Result<usize>
+    ensures { IfOk result (λ count. count ≤ length buffer.new) }
 {
     let mut count = 0;
     while count < buffer.len() {
-        let got = read_some(stdin, &mut buffer[count..]);
-        if got.failed {
-            return Got {
-                count,
-                failed: true,
-            };
-        }
-        let more = got.count;
+        let more = stdin.read(&mut buffer[count..])?;
         if more == 0 {
             break;
         }
         count += more;
     }
-    Got {
-        count,
-        failed: false,
-    }
+    Ok(count)
 }
 
 // Answers the input, with the two arrays of `main` lent. A write that fails is told on standard error.
 fn respond(rt: HostRuntime, input: &mut [u8], out: &mut [u8])
     requires { longest_text ≤ length out.old }
 {
-    let got = read_input(rt.stdin(), input);
-    if got.failed {
+    let Ok(count) = read_input(rt.stdin(), input) else {
         let _ = rt.eprintln("nearest: cannot read standard input");
         return;
-    }
-    let text = printed_for(input, got.count, out);
+    };
+    let text = printed_for(input, count, out);
     if rt.write_all(text).is_err() {
         let _ = rt.eprintln("nearest: cannot write standard output");
     }

@@ -26,11 +26,11 @@ fn put_literal(out: &mut [u8], at: usize, x: Point, i: u32) -> usize
     ensures { Put at (literal x i) out.old result out.new }
 {
     let name = i as u64 + 1;
-    let wanted = member(x, i);
-    if wanted {
-        return put_field(out, at, b" ", name);
+    if member(x, i) {
+        put_field(out, at, b" ", name)
+    } else {
+        put_field(out, at, b" -", name)
     }
-    put_field(out, at, b" -", name)
 }
 
 // P3: puts the first n names of a point, ascending. One step a name. `put_satisfiable` sees to the room.
@@ -39,11 +39,8 @@ fn put_literals(out: &mut [u8], at: usize, x: Point, n: u32) -> usize
     ensures { Put at (literals x n) out.old result out.new }
 {
     let mut place = at;
-    let mut left = n;
-    while 0 < left {
-        let i = n - left;
+    for i in 0..n {
         place = put_literal(out, place, x, i);
-        left -= 1;
     }
     place
 }

@@ -54,13 +54,11 @@ pub fn copy_out(
         × ((falsified.new ≡ front k (falsified_in slots.now) falsified.old)
         × (depths.new ≡ front k (depths_in slots.now) depths.old)) }
 {
-    let mut i = 0;
-    while i < k {
+    for i in 0..k {
         let s = slots[i];
         points[i] = s.point;
         falsified[i] = s.falsified;
         depths[i] = s.depth;
-        i = i + 1;
     }
 }
 
@@ -70,14 +68,11 @@ pub fn copy_back(slots: &mut [Slot], k: usize, points: &[u64], falsified: &[u32]
     ensures { slots.new ≡ front k (joined points.now falsified.now
         depths.now) slots.old }
 {
-    let mut j = 0;
-    while j < k {
-        let made = Slot {
+    for j in 0..k {
+        slots[j] = Slot {
             point: points[j],
             falsified: falsified[j],
             depth: depths[j],
         };
-        slots[j] = made;
-        j = j + 1;
     }
 }

@@ -9,6 +9,7 @@ ghost use Rattle.export_formulas.specs.Formulas.{formula_from};
 
 use export_formulas::formula_from;
 use export_words::{WORDS, put_found, put_written};
+use formula::Numbers;
 use slot_columns::Slot;
 use slot_search::search_slots;
 use slot_writer::write_slots;
@@ -34,7 +35,13 @@ pub extern "C" fn jugbowo_search_slots(
     if reply.len() < WORDS {
         return 0;
     }
-    let f = formula_from(variables, clauses, target, permutations, images);
+    let numbers = Numbers {
+        variables,
+        clauses,
+        target,
+        permutations,
+    };
+    let f = formula_from(numbers, images);
     let r = search_slots(f, positive, negative, slots);
     put_found(reply, r);
     1
@@ -63,7 +70,13 @@ pub extern "C" fn jugbowo_write_slots(
     if reply.len() < WORDS {
         return 0;
     }
-    let f = formula_from(variables, clauses, target, permutations, images);
+    let numbers = Numbers {
+        variables,
+        clauses,
+        target,
+        permutations,
+    };
+    let f = formula_from(numbers, images);
     let r = write_slots(f, positive, negative, slots, filled, out);
     put_written(reply, r);
     1

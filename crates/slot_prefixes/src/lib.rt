@@ -14,12 +14,11 @@ ghost use Rattle.slot_prefixes.specs.Laws.PrefixLaws.{no_room, taken, bytes_in};
 
 use certificate_writer::{Written, write};
 use formula::{Formula, Numbers};
-use point_slices::least;
 use points::Depth;
 use search::{Found, Outcome, search, search_accepted};
 
 // How many places such arrays have at most: one for each slot that a search or a certificate can use.
-pub const PLACES: usize = Formula::MAX_SLOTS as usize;
+pub const MOST_PLACES: usize = Formula::MAX_SLOTS as usize;
 
 // The search on the first k places of three slices.
 pub fn search_prefix(
@@ -140,7 +139,7 @@ pub fn slots_taken(filled: u32, lent: usize) -> usize
     ensures { result ≡ taken filled lent }
 {
     let many = filled as usize;
-    if many <= least(PLACES, lent) { many } else { 0 }
+    if many <= MOST_PLACES.min(lent) { many } else { 0 }
 }
 
 // How many bytes a writer says that it put out; none where it refused.

@@ -6,7 +6,6 @@ ghost use Rattle.slot_columns.specs.Slots.{slots_in};
 ghost use Rattle.search.specs.Contract.{Searched};
 
 use formula::Formula;
-use point_slices::least;
 use points::Depth;
 use search::Found;
 use slot_columns::copy_back;
@@ -31,7 +30,7 @@ pub fn search_slots(f: Formula, positive: &[u64], negative: &[u64], slots: &mut 
     let mut falsified = [0u32; FEW_PLACES];
     let mut depths: [Depth; FEW_PLACES] = [0; FEW_PLACES];
     let lent = slots.len();
-    let k = least(FEW_PLACES, lent);
+    let k = lent.min(FEW_PLACES);
     let r = search_prefix(
         f,
         positive,
@@ -44,7 +43,6 @@ pub fn search_slots(f: Formula, positive: &[u64], negative: &[u64], slots: &mut 
     if outgrown(r, k, lent) {
         return search_many(f, positive, negative, slots);
     }
-    let n = filled(r);
-    copy_back(slots, n, &points, &falsified, &depths);
+    copy_back(slots, filled(r), &points, &falsified, &depths);
     r
 }

@@ -1,31 +1,38 @@
 // The search with the slots in one lent slice of structs, begun again on more places than the first.
 #![tactic(auto)]
 
+ghost use Rattle.std.specs.Prelude.{◌≤◌, min, length};
 ghost use Rattle.point_slices.specs.Slices.{clause_slices};
+ghost use Rattle.formula.specs.Limits.{max_slots};
 ghost use Rattle.slot_search_again.specs.Laws.Contracts.{Accepted, SearchedSlots};
 
 use formula::Formula;
-use point_slices::least;
 use points::Depth;
 use search::Found;
 use slot_columns::{Slot, copy_back};
-use slot_prefixes::{PLACES, filled, search_accepted_prefix};
+use slot_prefixes::{MOST_PLACES, filled, search_accepted_prefix};
 
 // On how many places a search is begun again where no more slots are lent.
 const MANY_PLACES: usize = 4096;
 
-// The search on as many places as can be used, 1 MiB of the stack: one step for each of them, which is made 0, and for
-// each slot filled, which is copied back. No more slots are filled than there are places, so it never calls itself: the
-// call keeps a compiler from putting these arrays into its caller.
-fn search_most(f: Formula, positive: &[u64], negative: &[u64], slots: &mut [Slot]) -> Found
-    requires { Accepted f (clause_slices positive.now negative.now) slots.old }
+// The search on so many places, which are local arrays: one step for each of them, which is made 0, and for each slot
+// filled, which is copied back. `search_many` lends no more slots than there are places for.
+#[inline(never)]
+fn search_on<const PLACES: usize>(
+    f: Formula,
+    positive: &[u64],
+    negative: &[u64],
+    slots: &mut [Slot],
+) -> Found
+    requires accepted { Accepted f (clause_slices positive.now negative.now) slots.old }
+    requires places { (1 ≤ PLACES) × (PLACES ≤ max_slots) × (min max_slots (length slots.old) ≤ PLACES) }
     ensures { SearchedSlots f (clause_slices positive.now negative.now)
         slots.old result slots.new }
 {
     let mut points = [0u64; PLACES];
     let mut falsified = [0u32; PLACES];
     let mut depths: [Depth; PLACES] = [0; PLACES];
-    let k = least(PLACES, slots.len());
+    let k = slots.len().min(PLACES);
     let r = search_accepted_prefix(
         f,
         positive,
@@ -35,42 +42,21 @@ fn search_most(f: Formula, positive: &[u64], negative: &[u64], slots: &mut [Slot
         &mut depths,
         k,
     );
-    let many = filled(r);
-    if k < many {
-        return search_most(f, positive, negative, slots);
-    }
-    copy_back(slots, many, &points, &falsified, &depths);
+    copy_back(slots, filled(r), &points, &falsified, &depths);
     r
 }
 
 // The search on 64 KiB of the stack where these have places for all the slots lent, else on as many places as can be
-// used: so a search begins again only once. As above it never calls itself. `slot_search::search_slots`, whose first
-// places were too few, sees to what it requires.
+// used, 1 MiB: so a search begins again only once. `slot_search::search_slots`, whose first places were too few, sees to
+// what it requires.
 pub fn search_many(f: Formula, positive: &[u64], negative: &[u64], slots: &mut [Slot]) -> Found
     requires { Accepted f (clause_slices positive.now negative.now) slots.old }
     ensures { SearchedSlots f (clause_slices positive.now negative.now)
         slots.old result slots.new }
 {
-    let lent = slots.len();
-    if MANY_PLACES < lent {
-        return search_most(f, positive, negative, slots);
+    if slots.len() <= MANY_PLACES {
+        search_on::<MANY_PLACES>(f, positive, negative, slots)
+    } else {
+        search_on::<MOST_PLACES>(f, positive, negative, slots)
     }
-    let mut points = [0u64; MANY_PLACES];
-    let mut falsified = [0u32; MANY_PLACES];
-    let mut depths: [Depth; MANY_PLACES] = [0; MANY_PLACES];
-    let r = search_accepted_prefix(
-        f,
-        positive,
-        negative,
-        &mut points,
-        &mut falsified,
-        &mut depths,
-        lent,
-    );
-    let many = filled(r);
-    if lent < many {
-        return search_many(f, positive, negative, slots);
-    }
-    copy_back(slots, many, &points, &falsified, &depths);
-    r
 }

@@ -7,10 +7,9 @@ ghost use Rattle.slot_columns.specs.Slots.{slots_in};
 
 use certificate_writer::Written;
 use formula::Formula;
-use points::Depth;
-use slot_columns::{Slot, copy_out};
-use slot_prefixes::{slots_taken, write_prefix};
-use slot_writer_large::write_many;
+use slot_columns::Slot;
+use slot_prefixes::slots_taken;
+use slot_writer_large::{write_many, write_on};
 
 // For how many slots the arrays are where few are taken.
 const FEW_PLACES: usize = 1024;
@@ -29,15 +28,9 @@ pub fn write_slots(
     ensures { Wrote f (clause_slices positive.now negative.now)
         (slots_in slots.now) filled out.old result out.new }
 {
-    let count = slots_taken(filled, slots.len());
-    if FEW_PLACES < count {
-        return write_many(f, positive, negative, slots, filled, out);
+    if slots_taken(filled, slots.len()) <= FEW_PLACES {
+        write_on::<FEW_PLACES>(f, positive, negative, slots, filled, out)
+    } else {
+        write_many(f, positive, negative, slots, filled, out)
     }
-    let mut points = [0u64; FEW_PLACES];
-    let mut falsified = [0u32; FEW_PLACES];
-    let mut depths: [Depth; FEW_PLACES] = [0; FEW_PLACES];
-    copy_out(slots, count, &mut points, &mut falsified, &mut depths);
-    write_prefix(
-        f, positive, negative, &points, &falsified, &depths, count, filled, out,
-    )
 }

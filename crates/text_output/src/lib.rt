@@ -29,7 +29,7 @@ fn put_digit(out: &mut [u8], at: usize, d: u64) -> usize
     requires { (d < 10) × (at < places_end) }
     ensures { Put at ((48 + d) ∷ []) out.old result out.new }
 {
-    let byte = 48 + d as u8;
+    let byte = b'0' + d as u8;
     put_byte(out, at, byte)
 }
 
@@ -50,12 +50,9 @@ pub fn put_text(out: &mut [u8], at: usize, text: &[u8]) -> usize
     requires { at + length text.now ≤ places_end }
     ensures { Put at text.now out.old result out.new }
 {
-    let end = text.len();
     let mut place = at;
-    let mut i = 0;
-    while i < end {
-        place = put_byte(out, place, text[i]);
-        i += 1;
+    for b in text {
+        place = put_byte(out, place, *b);
     }
     place
 }
@@ -76,5 +73,5 @@ pub fn put_line(out: &mut [u8], at: usize, head: &[u8], a: u64, between: &[u8], 
 {
     let first = put_field(out, at, head, a);
     let second = put_field(out, first, between, b);
-    put_byte(out, second, 10)
+    put_byte(out, second, b'\n')
 }

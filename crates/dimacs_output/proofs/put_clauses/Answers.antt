@@ -18,27 +18,21 @@ pub put_clause-place-requires : goal.put_clause-place-requires
 put_clause-place-requires c =
     let a = c.args in
     let cs = lent_clauses a.positive.now a.negative.now in
-    let lt = lt_of_lt_of_le c.loop-i-test.true (le_of_eq c.clause_count-end.ensures) in (
+    let lt = lt_of_lt_of_le c.loop-i-test.true (le_of_eq c.clause_count-i-end.ensures) in (
       c.requires.0,
       subst (λ k. listed k < 2 ^ a.n) (sym c.clause_at-c.ensures) (c.requires.1 _ (get_d_in cs c.loop-i.i empty_clause lt)),
       room_left (clause_part a.n) longest_clause cs (λ k m. le_trans (clause-length a.n k c.requires.0) (omega (arith, c.requires.0))) a.at a.out.now c.loop-i.invariant lt places_end c.requires.2,
     )
 
-pub loop-i-smaller : goal.loop-i-smaller
-loop-i-smaller c = omega (arith, c.clause_count-end.ensures, c.loop-i-test.true)
-
 pub loop-i-preserved : goal.loop-i-preserved
 loop-i-preserved c =
     let a = c.args in
     let cs = lent_clauses a.positive.now a.negative.now in
-    let lt = lt_of_lt_of_le c.loop-i-test.true (le_of_eq c.clause_count-end.ensures) in
+    let lt = lt_of_lt_of_le c.loop-i-test.true (le_of_eq c.clause_count-i-end.ensures) in
     first_next (clause_part a.n) cs a.at a.out.now c.loop-i.invariant empty_clause lt
     (put_as (ap (clause_part a.n) c.clause_at-c.ensures) c.put_clause-place.ensures) c.put_clause-place.auto.out
-
-pub shape_of-out : goal.shape_of-out
-shape_of-out c = c.loop-i.invariant.long
 
 pub returns : goal.returns
 returns c =
     let a = c.args in
-    first-all (clause_part a.n) (lent_clauses a.positive.now a.negative.now) a.at a.out.now c.loop-i.invariant (le_trans (le_of_eq (sym c.clause_count-end.ensures)) c.loop-i-test.false)
+    first-all (clause_part a.n) (lent_clauses a.positive.now a.negative.now) a.at a.out.now c.loop-i.invariant (le_trans (le_of_eq (sym c.clause_count-i-end.ensures)) c.loop-i-test.false)

@@ -1,4 +1,3 @@
-use Rattle.std.proofs.Common.{◌-◌, length}
 use Rattle.point_slices.specs.Laws.Contracts.{lent_clauses}
 use Rattle.text_output.specs.Laws.Putting.{PutFirst}
 use Rattle.dimacs_text.specs.Laws.TextParts.{clause_part}
@@ -6,6 +5,3 @@ use Rattle.dimacs_output.proofs.put_clauses.Given as goal
 
 abbrev pub invariant-loop-i : goal.invariant-loop-i
 invariant-loop-i l = PutFirst (clause_part l.n) (lent_clauses l.positive l.negative) l.at l.initial.out l.i l.place l.out
-
-abbrev pub decreases-loop-i : goal.decreases-loop-i
-decreases-loop-i l = length (lent_clauses l.positive l.negative) - l.i

@@ -1,4 +1,3 @@
-use Rattle.std.proofs.Common.{◌-◌}
 use Rattle.math.specs.Lists.{below}
 use Rattle.text_output.specs.Laws.Putting.{PutFirst}
 use Rattle.dimacs_text.specs.Laws.TextParts.{digit_part}
@@ -6,6 +5,3 @@ use Rattle.dimacs_output.proofs.put_digits.Given as goal
 
 abbrev pub invariant-loop-i : goal.invariant-loop-i
 invariant-loop-i l = PutFirst (digit_part l.x) (below l.n) l.at l.initial.out l.i l.place l.out
-
-abbrev pub decreases-loop-i : goal.decreases-loop-i
-decreases-loop-i l = l.n - l.i

@@ -1,5 +1,5 @@
 -- `dimacs_output::put_permutation` meets its contract: the head, an image each, the line end. Assumes nothing.
-use Rattle.std.proofs.Common.{◌∙◌, arith}
+use Rattle.std.proofs.Common.{arith}
 use Rattle.math.specs.Laws.ListLaws.{get_d_in}
 use Rattle.math.specs.Laws.SplitLaws.{length_flat_map_le}
 use Rattle.text_output.specs.Laws.Putting.{places_end, first-none, first_next, first-all, room_left}
@@ -10,36 +10,30 @@ use Rattle.dimacs_output.proofs.put_permutation.Goals as goal
 pub put_text-place-requires : goal.put_text-place-requires
 put_text-place-requires c = omega (arith, c.requires.2)
 
-pub loop-i-init : goal.loop-i-init
-loop-i-init c = first-none image_part c.args.e.now _ _
-
-pub overflow_cast-image : goal.overflow_cast-image
-overflow_cast-image c = omega (arith, c.shared_slice_known-in-loop-i-1.given c.loop-i.i)
+pub loop-image-init : goal.loop-image-init
+loop-image-init c = first-none image_part c.args.e.now _ _
 
 -- all images are bytes, so that four bytes each suffice
 pub put_field-place-requires : goal.put_field-place-requires
 put_field-place-requires c =
     let e = c.args.e.now in
-    let known = c.shared_slice_known-1.given in
+    let known = c.type_inv.e in
     let short = image_length e (λ i. let z = known i in omega arith) in
-    let held = get_d_in e c.loop-i.i 0 c.loop-i-test.true in
-    omega (arith, room_left image_part 4 e short _ _ c.loop-i.invariant c.loop-i-test.true places_end (omega (arith, c.put_text-place.ensures.behind, c.requires.1, c.requires.2)), short _ held)
+    let held = get_d_in e c.loop-image.image-index 0 c.loop-image-test.true in
+    omega (arith, room_left image_part 4 e short _ _ c.loop-image.invariant c.loop-image-test.true places_end (omega (arith, c.put_text-place.ensures.behind, c.requires.1, c.requires.2)), short _ held)
 
-pub loop-i-preserved : goal.loop-i-preserved
-loop-i-preserved c =
-    first_next image_part c.args.e.now _ _ c.loop-i.invariant 0 c.loop-i-test.true c.put_field-place.ensures c.put_field-place.auto.out
+pub loop-image-preserved : goal.loop-image-preserved
+loop-image-preserved c =
+    first_next image_part c.args.e.now _ _ c.loop-image.invariant 0 c.loop-image-test.true c.put_field-place.ensures c.put_field-place.auto.out
 
 pub put_byte-requires : goal.put_byte-requires
 put_byte-requires c =
     let e = c.args.e.now in
-    let known = c.shared_slice_known-1.given in
-    let all = first-all image_part e _ _ c.loop-i.invariant c.loop-i-test.false in
+    let known = c.type_inv.e in
+    let all = first-all image_part e _ _ c.loop-image.invariant c.loop-image-test.false in
     omega (arith, length_flat_map_le image_part 4 e (image_length e (λ i. let z = known i in omega arith)), all.behind, c.put_text-place.ensures.behind, c.requires.1, c.requires.2)
-
-pub shape_of-out : goal.shape_of-out
-shape_of-out c = c.put_byte.auto.out ∙ c.loop-i.invariant.long ∙ c.put_text-place.auto.out
 
 pub returns : goal.returns
 returns c =
     let e = c.args.e.now in
-    permutation_put e c.requires.0 c.put_text-place.ensures (first-all image_part e _ _ c.loop-i.invariant c.loop-i-test.false) c.put_byte.ensures
+    permutation_put e c.requires.0 c.put_text-place.ensures (first-all image_part e _ _ c.loop-image.invariant c.loop-image-test.false) c.put_byte.ensures

@@ -35,9 +35,6 @@ loop-i-preserved c =
     first_next permutation_part es a.at a.out.now c.loop-i.invariant no_permutation lt
     (put_as (ap permutation_part (ap (λ l. record { images = l }) c.permutation_at-e.ensures ∙ sym (permutation_at a.n a.permutations c.loop-i.i a.images.now no_permutation c.loop-i-test.true))) c.put_permutation-place.ensures) c.put_permutation-place.auto.out
 
-pub shape_of-out : goal.shape_of-out
-shape_of-out c = c.loop-i.invariant.long
-
 pub returns : goal.returns
 returns c =
     let a = c.args in

@@ -1,4 +1,3 @@
-use Rattle.std.proofs.Common.{◌-◌}
 use Rattle.permutation_theory.specs.Permutations.{permutations_in}
 use Rattle.text_output.specs.Laws.Putting.{PutFirst}
 use Rattle.dimacs_text.specs.Laws.TextParts.{permutation_part}
@@ -6,6 +5,3 @@ use Rattle.dimacs_output.proofs.put_permutations.Given as goal
 
 abbrev pub invariant-loop-i : goal.invariant-loop-i
 invariant-loop-i l = PutFirst permutation_part (permutations_in l.n l.permutations l.images) l.at l.initial.out l.i l.place l.out
-
-abbrev pub decreases-loop-i : goal.decreases-loop-i
-decreases-loop-i l = l.permutations - l.i

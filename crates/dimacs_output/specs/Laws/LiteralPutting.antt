@@ -4,6 +4,7 @@ use Rattle.std.specs.Prelude.{Bool, true, false, cond, ◌&&◌, ◌||◌, ◌�
 use Rattle.std.proofs.Common.{true≢false, sym, ap, ap₂, ◌∙◌, subst, add-zero, add-one, arith, length-append, leb-true, leb-false}
 use Rattle.std.proofs.lemmas.Bool.{false≢true}
 use mathlib.Core.List.{List, [], ◌∷◌, ◌++◌, flat_map, append-nil, append_assoc}
+use Rattle.std.specs.Int.{from_bool}
 use Rattle.std.specs.Int.Bits.{bit_and}
 use Rattle.std.proofs.lemmas.List.Edits.{sets}
 use Rattle.math.specs.Bits.{bit}
@@ -20,6 +21,18 @@ use Rattle.dimacs_text.specs.Laws.TextParts.{literal_part, variable_part}
 unfoldable pub signed : Bool → ℕ → Literal
 signed true v = neg v
 signed false v = pos v
+
+-- ---- a test as a number
+
+-- 1 where it passes
+pub one_if : (passes : Bool) → from_bool passes ≡ cond passes 1 0
+one_if true = refl
+one_if false = refl
+
+-- its digit
+pub digit_if : (passes : Bool) → 48 + from_bool passes ≡ cond passes 49 48
+digit_if true = refl
+digit_if false = refl
 
 -- ---- a byte that is kept or stood upon
 

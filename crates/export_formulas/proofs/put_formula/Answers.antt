@@ -6,7 +6,7 @@ pub put_words-requires : goal.put_words-requires
 put_words-requires c = search rules
 
 pub put_held-requires : goal.put_held-requires
-put_held-requires c = let p = c.requires in (p.1, p.2, p.3)
+put_held-requires c = (c.requires.1, c.requires.2)
 
 pub returns : goal.returns
 returns c = (c.put_words.ensures, c.put_held.ensures)

@@ -9,7 +9,7 @@ put_parse-read-requires c = search rules
 pub put_formula-requires : goal.put_formula-requires
 put_formula-requires c =
     let p = c.requires in
-    (p.0, p.1, p.3, p.4 (sym c.put_parse-read.ensures.1 ∙ c.if-read.true))
+    (p.0, p.1, p.3 (sym c.put_parse-read.ensures.1 ∙ c.if-read.true))
 
 pub returns-then-read : goal.returns-then-read
 returns-then-read c =

@@ -10,16 +10,16 @@ pub put_field-requires : goal.put_field-requires
 put_field-requires c =
     omega (arith, numeral-length 1 (c.args.i + 1) (let z : c.args.i + 1 < 100 = omega (arith, c.requires.0) in z), c.requires.1)
 
-pub returns-then-wanted : goal.returns-then-wanted
+pub returns-then-member : goal.returns-then-member
 unfolding sign
-returns-then-wanted c =
-    put_as (ap (λ b. field (sign b) (c.args.i + 1)) (sym c.if-wanted.true ∙ c.member-wanted.ensures)) c.put_field.ensures
+returns-then-member c =
+    put_as (ap (λ b. field (sign b) (c.args.i + 1)) (sym c.if-member.true ∙ c.member.ensures)) c.put_field.ensures
 
-pub put_field-requires-2 : goal.put_field-requires-2
-put_field-requires-2 c =
+pub put_field-requires-else-member : goal.put_field-requires-else-member
+put_field-requires-else-member c =
     omega (arith, numeral-length 1 (c.args.i + 1) (let z : c.args.i + 1 < 100 = omega (arith, c.requires.0) in z), c.requires.1)
 
-pub returns : goal.returns
+pub returns-else-member : goal.returns-else-member
 unfolding sign
-returns c =
-    put_as (ap (λ b. field (sign b) (c.args.i + 1)) (sym c.if-wanted.false ∙ c.member-wanted.ensures)) c.put_field-2.ensures
+returns-else-member c =
+    put_as (ap (λ b. field (sign b) (c.args.i + 1)) (sym c.if-member.false ∙ c.member.ensures)) c.put_field-else-member.ensures

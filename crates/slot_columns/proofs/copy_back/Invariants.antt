@@ -1,5 +1,5 @@
 -- The first j slots are copied back.
-use Rattle.std.proofs.Common.{◌-◌, ◌≡◌, ◌≤◌}
+use Rattle.std.proofs.Common.{◌≡◌, ◌≤◌}
 use Rattle.slot_columns.specs.Laws.Copies.{joined, front}
 use Rattle.slot_columns.proofs.copy_back.Given as goal
 
@@ -8,6 +8,3 @@ invariant-loop-j l = record {
   within : l.j ≤ l.k;
   slots : l.slots ≡ front l.j (joined l.points l.falsified l.depths) l.initial.slots;
 }
-
-abbrev pub decreases-loop-j : goal.decreases-loop-j
-decreases-loop-j l = l.k - l.j

@@ -1,5 +1,5 @@
 -- The first i places of each slice are copied.
-use Rattle.std.proofs.Common.{◌-◌, ◌≡◌, ◌≤◌}
+use Rattle.std.proofs.Common.{◌≡◌, ◌≤◌}
 use Rattle.slot_columns.specs.Slots.{points_in, falsified_in, depths_in}
 use Rattle.slot_columns.specs.Laws.Copies.{front}
 use Rattle.slot_columns.proofs.copy_out.Given as goal
@@ -11,6 +11,3 @@ invariant-loop-i l = record {
   falsified : l.falsified ≡ front l.i (falsified_in l.slots) l.initial.falsified;
   depths : l.depths ≡ front l.i (depths_in l.slots) l.initial.depths;
 }
-
-abbrev pub decreases-loop-i : goal.decreases-loop-i
-decreases-loop-i l = l.k - l.i

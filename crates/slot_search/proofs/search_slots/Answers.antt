@@ -14,7 +14,7 @@ search_many-requires c =
 
 pub copy_back-requires : goal.copy_back-requires
 copy_back-requires c =
-    let few : reported (reply_of_found c.search_prefix-r.result) ≤ c.least-k.result =
+    let few : reported (reply_of_found c.search_prefix-r.result) ≤ c.min-k.result =
     filled_few _ _ _ _ _ _ 256 (omega arith) (omega arith) refl refl refl c.search_prefix-r.ensures in
     places_in {places = 256} (omega arith) (length c.args.slots.now) _ _ _ (omega arith) (omega arith) (omega arith)
     (omega arith)
@@ -24,5 +24,5 @@ returns c =
     searched_left _ _ _ _ _ _ 256 (omega arith) (omega arith) refl refl refl c.search_prefix-r.ensures
     c.args.slots.now
     (same_few _ _ _ _ _ _ 256 (omega arith) (omega arith) refl refl refl c.search_prefix-r.ensures c.args.slots.now
-    (omega arith) c.least-k.ensures c.if-outgrown.ensures) c.search_prefix-r.auto.points
-    c.search_prefix-r.auto.falsified c.search_prefix-r.auto.depths c.filled-n.ensures c.copy_back.ensures
+    (omega arith) (omega arith) c.if-outgrown.ensures) c.search_prefix-r.auto.points
+    c.search_prefix-r.auto.falsified c.search_prefix-r.auto.depths c.filled.ensures c.copy_back.ensures

@@ -1,6 +1,6 @@
 -- `exports::reading::jugbowo_read` meets its contract: with room for the answer it tells what the reader answers.
 -- Assumes nothing.
-use Rattle.std.proofs.Common.{refl, sym, ap, ◌∙◌}
+use Rattle.std.proofs.Common.{refl, ap, ◌∙◌}
 use Rattle.math.specs.Lists.{over}
 use Rattle.point_slices.specs.Slices.{clause_slices}
 use Rattle.dimacs_lines.specs.Laws.ParsedAs.{parsed_in}
@@ -33,13 +33,10 @@ slice_bounds-read_lent-end c = refl
 pub read_lent-r-requires : goal.read_lent-r-requires
 read_lent-r-requires c = refl
 
-pub slice_bounds-put_parsed-end : goal.slice_bounds-put_parsed-end
-slice_bounds-put_parsed-end c = sym c.read_lent-r.auto.images
-
 pub put_parsed-requires : goal.put_parsed-requires
 put_parsed-requires c =
     let read = c.read_lent-r.result in
-    (c.if-numbers-lt-WORDS.false, c.if-images-lt-MAX_IMAGES.false, c.if-reply-lt-WORDS.false, c.read_lent-r.auto.images, none_read read.numbers read.answer c.read_lent-r.new.images c.read_lent-r.ensures)
+    (c.if-numbers-lt-WORDS.false, c.if-images-lt-MAX_IMAGES.false, c.if-reply-lt-WORDS.false, none_read read.numbers read.answer c.read_lent-r.new.images c.read_lent-r.ensures)
 
 pub shape_of-positive : goal.shape_of-positive
 shape_of-positive c = c.read_lent-r.auto.positive
