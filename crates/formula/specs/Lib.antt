@@ -2,5 +2,6 @@
 pub mod Limits
 pub mod Problem
 pub mod Reply
+pub mod Reasons
 pub mod Refusals
 pub mod Laws

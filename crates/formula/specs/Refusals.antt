@@ -1,12 +1,12 @@
 -- Document 01, 'When the desk says no': the rows 10, 11, 12 and 19, which several entry points share. Assumes nothing.
-use Rattle.std.specs.Prelude.{Bool, cond, ◌&&◌, List, ◌≡◌, ℕ, ◌^◌, ◌≤◌, ◌<◌, leb, ltb, eqb, length}
+use Rattle.std.specs.Prelude.{Result, Ok, Err, Bool, cond, ◌&&◌, List, ◌≡◌, ℕ, ◌^◌, ◌≤◌, ◌<◌, leb, ltb, eqb, length}
 use Rattle.math.specs.Lists.{◌∈◌, all, first_failing}
 use Rattle.points.specs.Points.{Numbered}
 use Rattle.point_slices.specs.Slices.{ClauseSlices}
 use Rattle.permutation_theory.specs.Permutations.{Permutation, is_permutation, keeps}
-use Rattle.formula.specs.declared.Checked.{Checked}
-use Rattle.formula.specs.declared.Checked.TheVariants.{Passed, Refused}
+use Rattle.formula.specs.declared.reasons.Refusal.{Refusal}
 use Rattle.formula.specs.declared.Formula.{Formula}
+use Rattle.formula.specs.Reasons.{code_of}
 use Rattle.formula.specs.Limits.{max_variables, max_clauses, max_permutations}
 use Rattle.formula.specs.Reply.{Fault, no_fault, fault, fault_at}
 
@@ -60,7 +60,11 @@ symmetry_fault cs es = fault_at 12 (first_failing (keeps cs) es)
 unfoldable pub room_fault : ℕ → ℕ → Fault
 room_fault needed lent = cond (leb needed lent) no_fault (fault 19 needed)
 
+-- a refusal of the code in this paper's terms: the row's number, and the place beside it
+abbrev pub refusal_fault : Refusal → Fault
+refusal_fault r = fault (code_of r.reason) r.place
+
 -- F10: what the code's answer of a test means
-abbrev pub fault_of : Checked → Fault
-fault_of Passed = no_fault
-fault_of (Refused code place) = fault code place
+abbrev pub fault_of : Result Unit Refusal → Fault
+fault_of (Ok passed) = no_fault
+fault_of (Err r) = refusal_fault r

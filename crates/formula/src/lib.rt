@@ -3,11 +3,15 @@
 
 ghost use Rattle.std.specs.Prelude.{◌≡◌};
 ghost use Rattle.formula.specs.Problem.{empty_formula};
+ghost use Rattle.formula.specs.Laws.Contracts.{formula_lent};
 
+use crate::view::FormulaView;
 use points::Point;
 
+pub mod reasons;
 pub mod refusals;
 pub mod room;
+pub mod view;
 
 // F3: a CNF formula with its target point (01: wish) and its permutations (01: exchanges), which stand in `images`
 // without gaps, `variables` bytes each. Its clauses lie in two slices beside it.
@@ -20,20 +24,13 @@ pub struct Formula {
     pub images: [u8; Formula::MAX_IMAGES],
 }
 
-// The numbers of a formula: all of it but the images, which stay where they lie while functions hand them on.
+// The numbers of a formula: all of it but the images.
 #[derive(Clone, Copy)]
 pub struct Numbers {
     pub variables: u32,
     pub clauses: u32,
     pub target: Point,
     pub permutations: u32,
-}
-
-// What a test of an entry point finds: nothing, or a refusal's number and its place.
-#[derive(Clone, Copy)]
-pub enum Checked {
-    Passed,
-    Refused { code: u32, place: usize },
 }
 
 impl Formula {
@@ -49,6 +46,21 @@ impl Formula {
     // Bytes for the images of the most permutations of the most variables.
     pub const MAX_IMAGES: usize = Formula::MAX_PERMUTATIONS as usize
         * Formula::MAX_VARIABLES as usize;
+
+    // The formula where it lies; no copy of its images is made.
+    pub fn view(&self) -> FormulaView<'_>
+        ensures { formula_lent result ≡ self.now }
+    {
+        FormulaView {
+            numbers: Numbers {
+                variables: self.variables,
+                clauses: self.clauses,
+                target: self.target,
+                permutations: self.permutations,
+            },
+            images: &self.images,
+        }
+    }
 
     // F5, N2: the formula that is 0 throughout, which a refusal carries.
     pub fn empty() -> Formula

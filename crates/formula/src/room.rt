@@ -4,16 +4,14 @@ ghost use Rattle.point_slices.specs.Slices.{slot_slices};
 ghost use Rattle.formula.specs.Limits.{capacity};
 
 use crate::Formula;
-use point_slices::{least, point_count};
+use point_slices::point_count;
 use points::Depth;
 
 // The shortest length of the three, and at most `Formula::MAX_SLOTS`.
 pub fn room(points: &[u64], falsified: &[u32], depths: &[Depth]) -> usize
     ensures { result ≡ capacity (slot_slices points.now falsified.now depths.now) }
 {
-    let most = Formula::MAX_SLOTS as usize;
-    let first = point_count(points);
-    let beside = least(falsified.len(), depths.len());
-    let shortest = least(first, beside);
-    least(most, shortest)
+    let beside = falsified.len().min(depths.len());
+    let shortest = point_count(points).min(beside);
+    shortest.min(Formula::MAX_SLOTS as usize)
 }

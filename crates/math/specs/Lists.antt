@@ -1,6 +1,6 @@
 -- Lists: membership, tests over a list, counting, ranges. Definitions alone; ListLaws has what follows from them.
 -- Assumes nothing.
-use Rattle.std.specs.Prelude.{Bool, true, false, cond, ◌&&◌, ◌||◌, ℕ, zero, suc, ◌+◌, eqb, length, take, drop}
+use Rattle.std.specs.Prelude.{Option, None, Some, Bool, true, false, cond, ◌&&◌, ◌||◌, ℕ, zero, suc, ◌+◌, eqb, length, take, drop}
 use mathlib.Core.List.{List, [], ◌∷◌, ◌++◌, Memᴰ}
 
 -- the number of the first failure in a list, from whether its head passes and the number in its tail
@@ -8,6 +8,11 @@ abbrev pub failing_at : Bool → ℕ → ℕ
 failing_at false k = 1
 failing_at true zero = 0
 failing_at true (suc k) = suc (suc k)
+
+-- the number, from 1, of an index that was found, 0 where none was
+abbrev pub place_of : Option ℕ → ℕ
+place_of None = 0
+place_of (Some i) = i + 1
 
 module _ {A : Type 0} where
   infix 50 ◌∈◌

@@ -152,12 +152,22 @@ pub fn image_of_clause(e: &[u8], fixed: Point, c: Clause) -> Clause
     }
 }
 
-// The permutation of number i + 1 among those that lie in the bytes, n each.
-pub fn permutation_at(n: usize, images: &[u8], i: usize) -> &[u8]
-    requires { i * n + n ≤ length images.now }
-    ensures { result.now ≡ take n (drop (i * n) images.now) }
-{
-    let start = i * n;
-    let end = start + n;
-    &images[start..end]
+// Permutations as they lie in bytes without gaps, `variables` bytes each.
+#[derive(Clone, Copy)]
+pub struct Permutations<'a> {
+    pub variables: u32,
+    pub count: u32,
+    pub images: &'a [u8],
+}
+
+impl<'a> Permutations<'a> {
+    // The permutation of number i + 1.
+    pub fn at(self, i: usize) -> &'a [u8]
+        requires { i * self.variables + self.variables ≤ length self.images.now }
+        ensures { result.now ≡ take self.entry.variables (drop (i * self.entry.variables) self.entry.images.now) }
+    {
+        let n = self.variables as usize;
+        let start = i * n;
+        &self.images[start..start + n]
+    }
 }

@@ -6,23 +6,25 @@
 // more before they stand in a tree.
 ghost use Rattle.std.specs.Prelude.{true, ◌≡◌, ◌≤◌, ◌<◌};
 ghost use Rattle.math.specs.Lists.{any};
-ghost use Rattle.point_slices.specs.Laws.Contracts.{lent_clauses};
+ghost use Rattle.point_slices.specs.Laws.Contracts.{clauses_lent};
 ghost use Rattle.points.specs.Laws.Contracts.{clause_of};
 ghost use Rattle.permutation_theory.specs.Permutations.{same_clause};
+ghost use Rattle.permutation_symmetry.specs.declared.guesses.Way.{Way};
+ghost use Rattle.permutation_symmetry.specs.declared.guesses.Way.TheVariants.{Held};
 
 use point_index::hash_of;
-use point_slices::{clause_at, clause_count, least, number_at, put_number};
+use point_slices::{Clauses, number_at, put};
 use points::{Clause, Point};
 
-// For how many clauses guesses are made, few or as many as there can be, and how many heads they have, so that few
-// share one; behind the heads there are as many links again.
+// For how many clauses guesses are made, few or as many as there can be, and how many links they have, so that few
+// share one: two heads for each clause, and as many links again behind the heads.
 pub(crate) const FEW_CLAUSES: usize = 256;
 
-pub(crate) const FEW_HEADS: usize = 2 * FEW_CLAUSES;
+pub(crate) const FEW_LINKS: usize = 4 * FEW_CLAUSES;
 
 const MOST_CLAUSES: usize = 4096;
 
-pub(crate) const MOST_HEADS: usize = 2 * MOST_CLAUSES;
+pub(crate) const MOST_LINKS: usize = 4 * MOST_CLAUSES;
 
 // The hash of a clause, by those of its two sets. The factor keeps clauses apart whose two sets are exchanged.
 fn clause_hash(c: Clause) -> usize
@@ -56,167 +58,110 @@ fn link_of(heads: usize, i: usize, digit: bool) -> usize
     if digit { first + 1 } else { first }
 }
 
-// Whether the clause at index i is the clause c.
-fn stands_at(positive: &[u64], negative: &[u64], i: usize, c: Clause) -> bool
-    ensures { result ≡ true → any (same_clause (clause_of c))
-        (lent_clauses positive.now negative.now) ≡ true }
-{
-    let end = clause_count(positive, negative);
-    if end <= i {
-        return false;
-    }
-    let d = clause_at(positive, negative, i);
-    crate::same_clause(c, d)
+// Guesses as they are lent: links, of which the first are the heads.
+#[derive(Clone, Copy)]
+pub(crate) struct Guesses<'a> {
+    pub heads: usize,
+    pub links: &'a [u32],
+    ghost few: { heads ≤ 8192 },
 }
 
-// Where the way to a clause has come to: whether to the clause itself, or to a link that is 0, and the link.
+// Whether the clause at index i is the clause c.
+fn stands_at(clauses: Clauses<'_>, i: usize, c: Clause) -> bool
+    ensures { result ≡ true → any (same_clause (clause_of c)) (clauses_lent clauses.entry) ≡ true }
+{
+    i < clauses.count() && c == clauses.at(i)
+}
+
+// Where the way to a clause ends: at the clause itself, at a link that is 0, or, with no digit left, at one that is not.
 #[derive(Clone, Copy)]
-struct Spot {
-    held: bool,
-    free: bool,
-    link: usize,
+enum Way {
+    Held,
+    Free(usize),
+    Lost(usize),
 }
 
 // Goes the way to a clause by the digits of one of its two sets, from a link on, until a guess is right, a link is 0, or
 // there is no digit left. Where it is right, the clause is among those of the slices. At most 64 comparisons.
-fn way_along(
-    positive: &[u64],
-    negative: &[u64],
-    guesses: &[u32],
-    heads: usize,
-    c: Clause,
-    s: Point,
-    from: usize,
-) -> Spot
-    requires { heads ≤ 8192 }
-    ensures { result.held ≡ true → any (same_clause (clause_of c))
-        (lent_clauses positive.now negative.now) ≡ true }
+fn way_along(clauses: Clauses<'_>, guesses: Guesses<'_>, c: Clause, s: Point, from: usize) -> Way
+    ensures { result ≡ Held → any (same_clause (clause_of c)) (clauses_lent clauses.entry) ≡ true }
 {
     let mut link = from;
-    let mut d = 0;
-    while d < points::DIGITS {
-        let number = number_at(guesses, link);
+    for d in 0..points::DIGITS {
+        let number = number_at(guesses.links, link);
         if number == 0 {
-            return Spot {
-                held: false,
-                free: true,
-                link,
-            };
+            return Way::Free(link);
         }
         let i = number as usize - 1;
-        if stands_at(positive, negative, i, c) {
-            return Spot {
-                held: true,
-                free: false,
-                link,
-            };
+        if stands_at(clauses, i, c) {
+            return Way::Held;
         }
-        let digit = points::member(s, d);
-        link = link_of(heads, i, digit);
-        d += 1;
+        link = link_of(guesses.heads, i, points::member(s, d));
     }
-    Spot {
-        held: false,
-        free: false,
-        link,
-    }
+    Way::Lost(link)
 }
 
 // The way to a clause behind its first head: by the digits of its positive literals, then by those of the others.
-fn way_behind(
-    positive: &[u64],
-    negative: &[u64],
-    guesses: &[u32],
-    heads: usize,
-    c: Clause,
-    from: usize,
-) -> Spot
-    requires { heads ≤ 8192 }
-    ensures { result.held ≡ true → any (same_clause (clause_of c))
-        (lent_clauses positive.now negative.now) ≡ true }
+fn way_behind(clauses: Clauses<'_>, guesses: Guesses<'_>, c: Clause, from: usize) -> Way
+    ensures { result ≡ Held → any (same_clause (clause_of c)) (clauses_lent clauses.entry) ≡ true }
 {
-    let spot = way_along(positive, negative, guesses, heads, c, c.positive, from);
-    if spot.held | spot.free {
-        return spot;
+    match way_along(clauses, guesses, c, c.positive, from) {
+        Way::Lost(link) => way_along(clauses, guesses, c, c.negative, link),
+        way => way,
     }
-    way_along(positive, negative, guesses, heads, c, c.negative, spot.link)
 }
 
 // The way to a clause, by its two heads and then its digits. At most 129 comparisons, about one where hashes differ.
-fn way_to(positive: &[u64], negative: &[u64], guesses: &[u32], heads: usize, c: Clause) -> Spot
-    requires { heads ≤ 8192 }
-    ensures { result.held ≡ true → any (same_clause (clause_of c))
-        (lent_clauses positive.now negative.now) ≡ true }
+fn way_to(clauses: Clauses<'_>, guesses: Guesses<'_>, c: Clause) -> Way
+    ensures { result ≡ Held → any (same_clause (clause_of c)) (clauses_lent clauses.entry) ≡ true }
 {
     let hash = clause_hash(c);
-    let link = head_of(hash, heads);
-    let number = number_at(guesses, link);
+    let head = head_of(hash, guesses.heads);
+    let number = number_at(guesses.links, head);
     if number == 0 {
-        return Spot {
-            held: false,
-            free: true,
-            link,
-        };
+        return Way::Free(head);
     }
-    if stands_at(positive, negative, number as usize - 1, c) {
-        return Spot {
-            held: true,
-            free: false,
-            link,
-        };
+    if stands_at(clauses, number as usize - 1, c) {
+        return Way::Held;
     }
-    let second = second_head(hash, heads);
-    way_behind(positive, negative, guesses, heads, c, second)
+    way_behind(clauses, guesses, c, second_head(hash, guesses.heads))
 }
 
 // Whether a guess for the clause is right: then it is among those of the slices. The first guess is tried here, since it
 // is right as a rule: a compiler puts these few steps into the caller, and the rest of the way stays apart.
-pub(crate) fn guessed(
-    positive: &[u64],
-    negative: &[u64],
-    guesses: &[u32],
-    heads: usize,
-    c: Clause,
-) -> bool
-    requires { heads ≤ 8192 }
-    ensures { result ≡ true → any (same_clause (clause_of c))
-        (lent_clauses positive.now negative.now) ≡ true }
+pub(crate) fn guessed(clauses: Clauses<'_>, guesses: Guesses<'_>, c: Clause) -> bool
+    ensures { result ≡ true → any (same_clause (clause_of c)) (clauses_lent clauses.entry) ≡ true }
 {
     let hash = clause_hash(c);
-    let head = head_of(hash, heads);
-    let number = number_at(guesses, head);
+    let head = head_of(hash, guesses.heads);
+    let number = number_at(guesses.links, head);
     if number == 0 {
         return false;
     }
-    if stands_at(positive, negative, number as usize - 1, c) {
+    if stands_at(clauses, number as usize - 1, c) {
         return true;
     }
-    let second = second_head(hash, heads);
-    let spot = way_behind(positive, negative, guesses, heads, c, second);
-    spot.held
+    let way = way_behind(clauses, guesses, c, second_head(hash, guesses.heads));
+    matches!(way, Way::Held)
 }
 
 // Stores a guess for the clause at index i, unless one is right already.
-fn put_guess(positive: &[u64], negative: &[u64], guesses: &mut [u32], heads: usize, i: usize)
+fn put_guess(clauses: Clauses<'_>, links: &mut [u32], heads: usize, i: usize)
     requires { (heads ≤ 8192) × (i ≤ 4096) }
 {
-    let c = clause_at(positive, negative, i);
-    let spot = way_to(positive, negative, guesses, heads, c);
-    if !spot.held {
-        put_number(guesses, spot.link, i as u32 + 1);
+    let guesses = Guesses { heads, links };
+    match way_to(clauses, guesses, clauses.at(i)) {
+        Way::Held => {}
+        Way::Free(link) | Way::Lost(link) => put(links, link, i as u32 + 1),
     }
 }
 
-// Stores guesses for as many of the first clauses as there can be; `guesses` is 0 throughout before. For each clause the
+// Stores guesses for as many of the first clauses as there can be; the links are 0 throughout before. For each clause the
 // way to it.
-pub(crate) fn make_guesses(positive: &[u64], negative: &[u64], guesses: &mut [u32], heads: usize)
+pub(crate) fn make_guesses(clauses: Clauses<'_>, links: &mut [u32], heads: usize)
     requires { heads ≤ 8192 }
 {
-    let held = clause_count(positive, negative);
-    let end = least(held, MOST_CLAUSES);
-    let mut i = 0;
-    while i < end {
-        put_guess(positive, negative, guesses, heads, i);
-        i += 1;
+    for i in 0..clauses.count().min(MOST_CLAUSES) {
+        put_guess(clauses, links, heads, i);
     }
 }

@@ -12,7 +12,7 @@ ghost use Rattle.point_slices.specs.Slices.{points_of};
 ghost use Rattle.point_index.specs.Laws.Index.{hash_of, HasHeads, head_of, child_of};
 ghost use Rattle.point_index.specs.Laws.Looking.{Askable, Addable, Ends, Adds};
 
-use point_slices::{number_at, point_at, put_number};
+use point_slices::{number_at, point_at, put};
 use points::Point;
 
 // Where a look-up ended: whether at the point itself, and the link.
@@ -99,6 +99,6 @@ pub fn add(n: u32, points: &[u64], links: &mut [u32], heads: usize, k: usize, x:
         return true;
     }
     let number = k as u32 + 1;
-    put_number(links, spot.link, number);
+    put(links, spot.link, number);
     false
 }

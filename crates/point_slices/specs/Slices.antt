@@ -2,6 +2,7 @@
 -- Assumes nothing.
 use Rattle.std.specs.Prelude.{List, [], ◌∷◌, ℕ, min, length, take}
 use Rattle.points.specs.Points.{Clause}
+use Rattle.point_slices.specs.declared.Clauses.{Clauses}
 
 -- the points of a lent slice, one word each
 unfoldable pub points_of : List ℕ → List ℕ
@@ -27,6 +28,10 @@ clause_slices positive negative =
       positive_rest = rest_of positive;
       negative_rest = rest_of negative;
     }
+
+-- the same of the two slices that a value of the code's type lends
+abbrev pub slices_lent : Clauses → ClauseSlices
+slices_lent c = clause_slices c.positive.now c.negative.now
 
 -- slices that hold these points and nothing behind them
 abbrev pub whole_clauses : List ℕ → List ℕ → ClauseSlices

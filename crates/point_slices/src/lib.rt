@@ -3,8 +3,8 @@
 // slots are structs (`slot_columns`, `slot_prefixes`).
 #![tactic(auto)]
 
-ghost use Rattle.std.specs.Prelude.{[], ◌≡◌, min, ◌≤◌, length, get_or, set, take};
-ghost use Rattle.point_slices.specs.Laws.Contracts.{lent_clauses};
+ghost use Rattle.std.specs.Prelude.{[], ◌≡◌, ◌≤◌, length, get_or, set, take};
+ghost use Rattle.point_slices.specs.Laws.Contracts.{clauses_lent};
 ghost use Rattle.points.specs.Laws.Contracts.{clause_of};
 ghost use Rattle.points.specs.Points.{satisfies, first_falsified, numbered, number_of, empty_clause};
 ghost use Rattle.point_slices.specs.Laws.SliceLaws.{falsified_from};
@@ -23,11 +23,7 @@ pub fn point_count(points: &[u64]) -> usize
 pub fn point_at(points: &[u64], i: usize) -> Point
     ensures { result ≡ get_or (points_of points.now) i 0 }
 {
-    if i < points.len() {
-        points[i]
-    } else {
-        points::EMPTY
-    }
+    points.get(i).copied().unwrap_or(points::EMPTY)
 }
 
 // Stores a point at index i; past the end nothing is stored.
@@ -45,114 +41,102 @@ pub fn first_points(points: &[u64], k: usize) -> &[u64]
     requires { k ≤ length (points_of points.now) }
     ensures { (points_of result.now ≡ take k (points_of points.now)) × (rest_of result.now ≡ []) }
 {
-    &points[0..k]
+    &points[..k]
 }
 
 // The number at index i, 0 past the end.
 pub fn number_at(numbers: &[u32], i: usize) -> u32
     ensures { result ≡ get_or numbers.now i 0 }
 {
-    if i < numbers.len() { numbers[i] } else { 0 }
+    numbers.get(i).copied().unwrap_or(0)
 }
 
-// Stores a number at index i; past the end nothing is stored.
-pub fn put_number(numbers: &mut [u32], i: usize, value: u32)
-    ensures { numbers.new ≡ set numbers.old i value }
+// Stores a value at index i; past the end nothing is stored.
+pub fn put<T: Copy>(values: &mut [T], i: usize, value: T)
+    ensures { values.new ≡ set values.old i value }
 {
-    if i < numbers.len() {
-        numbers[i] = value;
+    if i < values.len() {
+        values[i] = value;
     }
 }
 
-// The smaller of two counts.
-pub fn least(a: usize, b: usize) -> usize
-    ensures { result ≡ min a b }
-{
-    if a < b { a } else { b }
+// The clauses that two parallel slices lend, of positive and of negative literals: as many as the shorter one has.
+#[derive(Clone, Copy)]
+pub struct Clauses<'a> {
+    pub positive: &'a [u64],
+    pub negative: &'a [u64],
 }
 
-// How many clauses two parallel slices hold.
-pub fn clause_count(positive: &[u64], negative: &[u64]) -> usize
-    ensures { result ≡ length (lent_clauses positive.now negative.now) }
-{
-    least(positive.len(), negative.len())
-}
-
-// The clause at index i, the one without literals past the end.
-pub fn clause_at(positive: &[u64], negative: &[u64], i: usize) -> Clause
-    ensures { clause_of result ≡ get_or (lent_clauses positive.now negative.now) i empty_clause }
-{
-    if positive.len() <= i {
-        return Clause {
-            positive: points::EMPTY,
-            negative: points::EMPTY,
-        };
+impl Clauses<'_> {
+    // How many there are.
+    pub fn count(self) -> usize
+        ensures { result ≡ length (clauses_lent self.entry) }
+    {
+        self.positive.len().min(self.negative.len())
     }
-    if negative.len() <= i {
-        return Clause {
-            positive: points::EMPTY,
-            negative: points::EMPTY,
-        };
-    }
-    Clause {
-        positive: positive[i],
-        negative: negative[i],
-    }
-}
 
-// Whether the point satisfies the clause at index i.
-fn satisfies_at(positive: &[u64], negative: &[u64], i: usize, x: Point) -> bool
-    ensures { result ≡ satisfies (get_or (lent_clauses positive.now negative.now) i empty_clause) x }
-{
-    let c = clause_at(positive, negative, i);
-    points::satisfies(c, x)
-}
-
-// How many of the first clauses can be skipped, since the point satisfies them: four are tested together, so that no
-// step waits for the one before, until one of four is falsified or fewer are left.
-fn satisfied_first(positive: &[u64], negative: &[u64], x: Point) -> usize
-    ensures { falsified_from (lent_clauses positive.now negative.now) x 0
-        ≡ falsified_from (lent_clauses positive.now negative.now) x result }
-{
-    let end = clause_count(positive, negative);
-    let mut i = 0;
-    while i + 4 <= end {
-        let a = satisfies_at(positive, negative, i, x);
-        let b = satisfies_at(positive, negative, i + 1, x);
-        let c = satisfies_at(positive, negative, i + 2, x);
-        let d = satisfies_at(positive, negative, i + 3, x);
-        let met = (a & b) & (c & d);
-        if !met {
-            return i;
+    // The clause at index i, the one without literals past the end.
+    pub fn at(self, i: usize) -> Clause
+        ensures { clause_of result ≡ get_or (clauses_lent self.entry) i empty_clause }
+    {
+        if i < self.positive.len() && i < self.negative.len() {
+            Clause {
+                positive: self.positive[i],
+                negative: self.negative[i],
+            }
+        } else {
+            Clause {
+                positive: points::EMPTY,
+                negative: points::EMPTY,
+            }
         }
-        i += 4;
     }
-    i
-}
 
-// The number, from 1, of the first clause from index `from` on that the point falsifies; 0 where there is none. One
-// step a clause.
-fn falsified_from(positive: &[u64], negative: &[u64], from: usize, x: Point) -> usize
-    ensures { result ≡ falsified_from (lent_clauses positive.now negative.now) x from }
-{
-    let end = clause_count(positive, negative);
-    let mut i = from;
-    while i < end {
-        let met = satisfies_at(positive, negative, i, x);
-        if !met {
-            return i + 1;
+    // Whether the point satisfies the clause at index i.
+    fn satisfied_at(self, i: usize, x: Point) -> bool
+        ensures { result ≡ satisfies (get_or (clauses_lent self.entry) i empty_clause) x }
+    {
+        points::satisfies(self.at(i), x)
+    }
+
+    // How many of the first clauses can be skipped, since the point satisfies them: four are tested together, so that no
+    // step waits for the one before, until one of four is falsified or fewer are left.
+    fn satisfied_first(self, x: Point) -> usize
+        ensures { falsified_from (clauses_lent self.entry) x 0 ≡ falsified_from (clauses_lent self.entry) x result }
+    {
+        let fours = self.count() / 4;
+        for k in 0..fours {
+            let i = 4 * k;
+            let a = self.satisfied_at(i, x);
+            let b = self.satisfied_at(i + 1, x);
+            let c = self.satisfied_at(i + 2, x);
+            let d = self.satisfied_at(i + 3, x);
+            let met = (a & b) & (c & d);
+            if !met {
+                return i;
+            }
         }
-        i += 1;
+        4 * fours
     }
-    0
-}
 
-// The number, from 1, of the first clause that the point falsifies; 0 where it satisfies all. One step for four
-// clauses, and at most four more.
-pub fn first_falsified(positive: &[u64], negative: &[u64], x: Point) -> usize
-    ensures { result ≡ number_of (first_falsified (numbered
-        (lent_clauses positive.now negative.now)) x) }
-{
-    let from = satisfied_first(positive, negative, x);
-    falsified_from(positive, negative, from, x)
+    // The number, from 1, of the first clause from index `from` on that the point falsifies; 0 where there is none. One
+    // step a clause.
+    fn falsified_from(self, from: usize, x: Point) -> usize
+        ensures { result ≡ falsified_from (clauses_lent self.entry) x from }
+    {
+        for i in from..self.count() {
+            if !self.satisfied_at(i, x) {
+                return i + 1;
+            }
+        }
+        0
+    }
+
+    // The number, from 1, of the first clause that the point falsifies; 0 where it satisfies all: so a slot holds it. One
+    // step for four clauses, and at most four more.
+    pub fn first_falsified(self, x: Point) -> usize
+        ensures { result ≡ number_of (first_falsified (numbered (clauses_lent self.entry)) x) }
+    {
+        self.falsified_from(self.satisfied_first(x), x)
+    }
 }

@@ -21,7 +21,7 @@ pub const DIGITS: u32 = 64;
 pub type Depth = u32;
 
 // A clause (01: rule) by value.
-#[derive(Clone, Copy)]
+#[derive(Clone, Copy, PartialEq, Eq)]
 pub struct Clause {
     pub positive: Point,
     pub negative: Point,

@@ -2,6 +2,7 @@
 use Rattle.std.specs.Prelude.{List, [], ◌∷◌, ℕ}
 use Rattle.point_slices.specs.Slices.{ClauseSlices}
 use Rattle.formula.specs.declared.Formula.{Formula}
+use Rattle.formula.specs.declared.view.FormulaView.{FormulaView}
 use Rattle.formula.specs.declared.Numbers.{Numbers}
 use Rattle.formula.specs.Problem.{problem_of}
 use Rattle.formula.specs.Reply.{Fault, first}
@@ -17,6 +18,10 @@ formula_with f images =
       permutations = f.permutations;
       images = images;
     }
+
+-- the formula that a value of the code's type lends
+abbrev pub formula_lent : FormulaView → Formula
+formula_lent v = formula_with v.numbers v.images.now
 
 -- the rows 10, 11 and 12 in this order, which the search and the writer test first
 unfoldable pub problem_fault : Formula → ClauseSlices → Fault

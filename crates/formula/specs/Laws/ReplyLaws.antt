@@ -1,6 +1,6 @@
 -- Laws of tests in order and of replies: a test that passes is skipped, one that does not is the answer, and where
 -- nothing was found each passed. Assumes nothing.
-use Rattle.std.specs.Prelude.{Bool, true, false, cond, List, [], ◌∷◌, ◌++◌, ◌≡◌, refl, ℕ, zero, suc, ◌<◌}
+use Rattle.std.specs.Prelude.{Bool, true, false, cond, List, [], ◌∷◌, ◌++◌, ◌≡◌, refl, ℕ, zero, suc, ◌+◌, ◌<◌}
 use Rattle.std.proofs.Common.{true≢false, sym, ap, ap₂, ◌∙◌, arith}
 use Rattle.math.specs.Lists.{◌∈◌, first_failing, below}
 use Rattle.math.specs.Laws.PartLaws.{none_failing, none_failing_below, all_passing, all_passing_below}
@@ -58,6 +58,10 @@ pub fault_pos : (code k r : ℕ) → r ≡ k → (r ≡ 0 → ⊥) → fault cod
 unfolding fault_at
 fault_pos code zero r e ne = absurd (ne e)
 fault_pos code (suc k) r e ne = ap (fault code) e
+
+-- the fault of a thing by the index at which it was found
+pub fault_found : (code i k : ℕ) → i + 1 ≡ k → fault code (i + 1) ≡ fault_at code k
+fault_found code i k e = fault_pos code k (i + 1) e (λ z. omega (arith, z))
 
 -- ---- tests one after the other
 

@@ -4,6 +4,7 @@ use Rattle.math.specs.Bits.{bit}
 use Rattle.math.specs.Lists.{◌∈◌}
 use Rattle.points.specs.Points.{point_digits}
 use Rattle.permutation_theory.specs.Permutations.{Permutation, permutations_in}
+use Rattle.permutation_images.specs.declared.Permutations.{Permutations}
 
 -- no more numbers than a point has digits, each the number of one: every permutation that refusal 11 lets pass is so
 pub record Movable (es : List ℕ) : Type 0 where
@@ -22,3 +23,7 @@ pub record Listed (n k : ℕ) (bytes : List ℕ) : Type 0 where
 -- v is one of 1 to n, and not of the set of those seen
 unfoldable pub fresh : ℕ → ℕ → ℕ → Bool
 fresh n seen v = leb 1 v && leb v n && not (bit seen (v - 1))
+
+-- the permutations that a value of the code's type lends
+abbrev pub permutations_of : Permutations → List Permutation
+permutations_of es = permutations_in es.variables es.count es.images.now

@@ -10,10 +10,10 @@ pub returns-then-spot : goal.returns-then-spot
 returns-then-spot c =
     adds_none c.requires c.find-spot.ensures c.if-spot.true
 
-pub put_number-requires : goal.put_number-requires
-put_number-requires c = search rules
+pub put-requires : goal.put-requires
+put-requires c = search rules
 
 pub returns : goal.returns
 returns c =
     adds_one c.requires c.find-spot.ensures c.if-spot.false
-    _ c.put_number.ensures
+    _ c.put.ensures

@@ -1,10 +1,7 @@
 -- `formula::refusals::clauses_refusal` meets its contract. Assumes nothing.
-use Rattle.std.proofs.Common.{sym, ◌∙◌, rules}
+use Rattle.std.proofs.Common.{sym, ◌∙◌}
 use Rattle.formula.specs.Refusals.{clauses_fault}
 use Rattle.formula.proofs.refusals.clauses_refusal.Goals as goal
-
-pub fits-requires : goal.fits-requires
-fits-requires c = search rules
 
 pub returns-then-fits : goal.returns-then-fits
 unfolding clauses_fault

@@ -1,10 +1,10 @@
 -- `formula::refusals::symmetry_refusal` meets its contract: of no permutation none fails. Assumes nothing.
-use Rattle.std.proofs.Common.{List, ◌≡◌, refl, sym, ◌∙◌, ℕ, zero, suc, ◌<◌, le_of_suc-le-suc, not-suc-le-zero, rules}
+use Rattle.std.proofs.Common.{List, ◌≡◌, refl, sym, ℕ, zero, suc, ◌<◌, le_of_suc-le-suc, not-suc-le-zero}
 use Rattle.points.specs.Points.{Numbered}
 use Rattle.permutation_theory.specs.Permutations.{permutations_in}
 use Rattle.formula.specs.Refusals.{symmetry_fault}
 use Rattle.formula.specs.Reply.{no_fault}
-use Rattle.formula.specs.Laws.ReplyLaws.{fault_zero, fault_pos}
+use Rattle.formula.specs.Laws.ReplyLaws.{fault_zero, fault_found}
 use Rattle.formula.proofs.refusals.symmetry_refusal.Goals as goal
 
 -- no permutation, no fault
@@ -16,13 +16,10 @@ none_faulty cs n (suc permutations) bytes lt = absurd (not-suc-le-zero (le_of_su
 pub returns-then-permutations-lt1 : goal.returns-then-permutations-lt1
 returns-then-permutations-lt1 c = none_faulty _ _ _ _ c.if-permutations-lt1.true
 
-pub first_non_symmetry-k-requires : goal.first_non_symmetry-k-requires
-first_non_symmetry-k-requires c = search rules
-
-pub returns-then-k-eq0 : goal.returns-then-k-eq0
+pub returns-in-None : goal.returns-in-None
 unfolding symmetry_fault
-returns-then-k-eq0 c = fault_zero 12 _ (sym c.first_non_symmetry-k.ensures ∙ c.if-k-eq0.true)
+returns-in-None c = fault_zero 12 _ (sym c.in-None.ensures.first)
 
-pub returns-else-k-eq0 : goal.returns-else-k-eq0
+pub returns-in-Some : goal.returns-in-Some
 unfolding symmetry_fault
-returns-else-k-eq0 c = fault_pos 12 _ _ c.first_non_symmetry-k.ensures c.if-k-eq0.false
+returns-in-Some c = fault_found 12 _ _ c.in-Some.ensures.first

@@ -1,7 +1,0 @@
--- `point_slices::number_at` meets its contract: past the end `get_or` gives its default. Assumes nothing.
-use Rattle.std.proofs.Common.{sym}
-use lib.ListN.{get_or-eq_default}
-use Rattle.point_slices.proofs.number_at.Goals as goal
-
-pub returns-else-i-numbers : goal.returns-else-i-numbers
-returns-else-i-numbers c = sym (get_or-eq_default c.args.numbers.now 0 c.if-i-numbers.false)
