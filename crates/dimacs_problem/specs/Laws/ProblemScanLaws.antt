@@ -22,7 +22,7 @@ use Rattle.dimacs_format.specs.Laws.StepLaws.{not_some}
 use Rattle.dimacs_format.specs.Laws.TextLaws.{same_bytes_lem}
 use Rattle.dimacs_words.specs.Laws.Scans.{belongs, Stretch, lines_behind}
 use Rattle.dimacs_words.specs.Laws.ScanLaws.{here_on, run-all, words_skip, words_end, word_at, same_lengths}
-use Rattle.dimacs_words.specs.Laws.ScanLaws.{run-begins, run_exists, part_end, blanks_stop, behind-none, behind-some, lines_from_lem}
+use Rattle.dimacs_words.specs.Laws.ScanLaws.{blanks_from, blanks_stop, behind-none, behind-some, lines_from_lem}
 use Rattle.dimacs_problem.specs.Laws.ProblemScans.{spelled_from, WordMatched, NumberMatched}
 
 first_same : {w v : List ℕ} {ws vs : List (List ℕ)} → w ∷ ws ≡ v ∷ vs → w ≡ v
@@ -88,27 +88,6 @@ module _ (line : List ℕ) (at from to : ℕ) (blanks : Stretch (belongs Blank) 
   pub number_other : number_in (take (to - from) (drop from line)) ≡ none → NumberMatched line at None
   number_other e w ws f =
       ⊎_elim (λ s. ap number_in (first_same (sym f ∙ s)) ∙ e) (λ s. absurd (nil≢cons (sym s.1 ∙ f))) next_word
-
--- a run of blanks goes up to the end just where all bytes from its first on are blanks
-blank-run : (bytes : List ℕ) {from end : ℕ} → Stretch (belongs Blank) bytes from end
-    → eqb end (length bytes) ≡ all_blank (drop from bytes)
-unfolding belongs all_blank
-blank-run bytes {from} {end} s = by (dec_lt end (length bytes))
-  where
-    by : Dec (end < length bytes) → eqb end (length bytes) ≡ all is_blank (drop from bytes)
-    by (yes lt) =
-        let o = s.ordered in
-        let place : from + (end - from) ≡ end = omega arith in
-        ne_eqb end (length bytes) (λ f. let z : ⊥ = omega arith in z)
-        ∙ sym (not-all is_blank
-        (subst (λ b. b ∈ drop from bytes) (get_or-drop from bytes (end - from) 0 ∙ ap (λ j. get_or bytes j 0) place)
-        (get_d_in (drop from bytes) (end - from) 0 (omega (arith, length-drop from bytes)))) (s.stops lt))
-    by (no ge) =
-        let f : end ≡ length bytes = let w = s.within in omega arith in
-        let whole : take (end - from) (drop from bytes) ≡ drop from bytes = ap (λ j. take (j - from) (drop from bytes)) f
-        ∙ part_end bytes from in
-        eq-eqb end (length bytes) f
-        ∙ sym (ap (all is_blank) (sym whole) ∙ run-all (belongs Blank) bytes from end s)
 
 -- a byte that is no blank begins a word
 words-some : (at b : ℕ) (bs : List ℕ) → is_blank b ≡ false → words at (b ∷ bs) ≡ [] → ⊥
@@ -236,22 +215,22 @@ module _ (line : List ℕ) where
             four_words = three_words ∙ ap (λ l. problem_word ∷ format_word ∷ c.1.0 ∷ l) d.1.1
 
             -- where the blanks behind the fourth word end
-            blanks : (e : ℕ) × (m.next.at ≤ e) × Stretch (belongs Blank) line m.next.at e
-            blanks = run_exists (belongs Blank) line m.next.at m.next.at (omega arith) d.0 (run-begins (belongs Blank) line m.next.at)
+            blanks : (e : ℕ) × Stretch (belongs Blank) line m.next.at e × (eqb e (length line) ≡ all_blank (drop m.next.at line))
+            blanks = blanks_from line d.0
 
             pub problem_fifth : all_blank (drop m.next.at line) ≡ false → none ≡ problem_in (piece 0 line)
             problem_fifth e =
-                let ne : blanks.0 ≡ length line → ⊥ = eqb-false blanks.0 (length line) (blank-run line blanks.2 ∙ e) in
-                let w = blanks.2.within in
+                let ne : blanks.0 ≡ length line → ⊥ = eqb-false blanks.0 (length line) (blanks.2 ∙ e) in
+                let w = blanks.1.within in
                 sym (by_words ∙ ap problem_words four_words
                 ∙ others_fifth problem_word format_word c.1.0 d.1.0 (spelled_from line m.next.at)
-                (word-left line m.next.at blanks.0 blanks.2 (omega arith)))
+                (word-left line m.next.at blanks.0 blanks.1 (omega arith)))
 
             pub problem_read : all_blank (drop m.next.at line) ≡ true
                 → some (record { variables = v.value; total = m.value }) ≡ problem_in (piece 0 line)
             problem_read e =
-                let end : blanks.0 ≡ length line = eqb-true blanks.0 (length line) (blank-run line blanks.2 ∙ e) in
-                let last : spelled_from line m.next.at ≡ [] = ap spelled (words_skip line 0 blanks.2 ∙ words_end line 0 blanks.0 end) in
+                let end : blanks.0 ≡ length line = eqb-true blanks.0 (length line) (blanks.2 ∙ e) in
+                let last : spelled_from line m.next.at ≡ [] = ap spelled (words_skip line 0 blanks.1 ∙ words_end line 0 blanks.0 end) in
                 sym (by_words ∙ ap problem_words (four_words
                 ∙ ap (λ l. problem_word ∷ format_word ∷ c.1.0 ∷ d.1.0 ∷ l) last)
                 ∙ just_four c.1.0 d.1.0 v.value m.value c.1.2 d.1.2)

@@ -19,10 +19,11 @@ use borrow.Author.Tests.{le-leb, lt-leb, lt-ltb, le-ltb, not-true, not-false, le
 use Rattle.math.specs.Laws.ListLaws.{and_split, all_of, not-all, any_of, in_get_d, get_d_in}
 use Rattle.math.specs.Laws.QueueLaws.{drop-take}
 use Rattle.math.specs.Laws.ScanLaws.{any_ends}
-use Rattle.math.specs.Lists.{all, any}
+use Rattle.math.specs.Lists.{◌∈◌, all, any}
 use Rattle.dimacs_words.specs.declared.Class.TheVariants.{Blank, Word, Line}
 use Rattle.dimacs_words.specs.declared.Word.{Word as WordValue}
 use Rattle.dimacs_format.specs.Text.{is_blank, ends_line, is_digit, Clean, piece, lines, words, same_bytes, begins}
+use Rattle.dimacs_format.specs.Text.{all_blank}
 use Rattle.dimacs_format.specs.Text.{is_number, number_in, decimal, token_in, unsigned, negated, malformed, Token}
 use Rattle.dimacs_format.specs.Laws.TextLaws.{lines_last, lines_next, words-none, words-blank, words_last, words_next}
 use Rattle.dimacs_words.specs.Laws.Scans.{belongs, ends_word, in_word, Stretch, signed, with_sign, word_with, word_made}
@@ -454,6 +455,34 @@ digits-none text sign from le n = by (dec_lt from (length text))
 -- the part of a list up to its end
 pub part_end : (xs : List ℕ) (a : ℕ) → take (length xs - a) (drop a xs) ≡ drop a xs
 part_end xs a = take_all (length xs - a) (drop a xs) (le_of_eq (length-drop a xs))
+
+-- a run of blanks goes up to the end just where all bytes from its first on are blanks
+blank-run : (bytes : List ℕ) {from end : ℕ} → Stretch (belongs Blank) bytes from end
+    → eqb end (length bytes) ≡ all_blank (drop from bytes)
+unfolding belongs all_blank
+blank-run bytes {from} {end} s = by (dec_lt end (length bytes))
+  where
+    by : Dec (end < length bytes) → eqb end (length bytes) ≡ all is_blank (drop from bytes)
+    by (yes lt) =
+        let o = s.ordered in
+        let place : from + (end - from) ≡ end = omega arith in
+        ne_eqb end (length bytes) (λ f. let z : ⊥ = omega arith in z)
+        ∙ sym (not-all is_blank
+        (subst (λ b. b ∈ drop from bytes) (get_or-drop from bytes (end - from) 0 ∙ ap (λ j. get_or bytes j 0) place)
+        (get_d_in (drop from bytes) (end - from) 0 (omega (arith, length-drop from bytes)))) (s.stops lt))
+    by (no ge) =
+        let f : end ≡ length bytes = let w = s.within in omega arith in
+        let whole : take (end - from) (drop from bytes) ≡ drop from bytes = ap (λ j. take (j - from) (drop from bytes)) f
+        ∙ part_end bytes from in
+        eq-eqb end (length bytes) f
+        ∙ sym (ap (all is_blank) (sym whole) ∙ run-all (belongs Blank) bytes from end s)
+
+-- the blanks from a place on, which go up to the end just where all bytes from there on are blanks
+pub blanks_from : (bytes : List ℕ) {from : ℕ} → from ≤ length bytes
+    → (end : ℕ) × Stretch (belongs Blank) bytes from end × (eqb end (length bytes) ≡ all_blank (drop from bytes))
+blanks_from bytes {from} h =
+    let run = run_exists (belongs Blank) bytes from from (omega arith) h (run-begins (belongs Blank) bytes from) in
+    (run.0, run.2, blank-run bytes run.2)
 
 token_minus : (bs : List ℕ) (b : ℕ) → b ≡ 45 → token_in (b ∷ bs) ≡ negated (number_in bs)
 unfolding token_in
