@@ -1,10 +1,10 @@
 -- The code answers by a `Result`: a step that may refuse. Assumes nothing.
 use Rattle.std.specs.Prelude.{◌≡◌, Result, Ok, Err, MatchResult, IfOk}
-use Rattle.std.proofs.Math.Path.{refl}
+use Rattle.std.proofs.Math.Path.{refl, ap}
 use Rattle.std.proofs.Common.{subst}
 use Rattle.formula.specs.declared.reasons.Refusal.{Refusal}
 use Rattle.formula.specs.Reasons.{code_of}
-use Rattle.dimacs_format.specs.Reader.{Step, and_then, refuses}
+use Rattle.dimacs_format.specs.Reader.{Step, and_then, goes, refuses}
 
 -- the step that a refusal of the code is
 abbrev pub refusal_step : {S : Type 0} → Refusal → Step S
@@ -23,6 +23,13 @@ module _ {V S T : Type 0} where
   unfolding and_then
   then_next (Ok v) f k = refl
   then_next (Err r) f k = refl
+
+  -- the value is a part of another one
+  pub step_within : (a : Result V Refusal) (f : V → S) (g : S → T) {m : Step S} → step_then a (λ v. goes (f v)) ≡ m
+      → step_then a (λ v. goes (g (f v))) ≡ and_then m (λ t. goes (g t))
+  unfolding and_then
+  step_within (Ok v) f g e = ap (λ m. and_then m (λ t. goes (g t))) e
+  step_within (Err r) f g e = ap (λ m. and_then m (λ t. goes (g t))) e
 
 module _ {V S : Type 0} where
   -- what follows a refusal may be anything

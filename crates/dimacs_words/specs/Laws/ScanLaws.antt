@@ -1,5 +1,7 @@
 -- Laws of the loops over bytes: runs by position, digits, heads, the words of a line and the lines of a text from a
 -- place on. Assumes nothing.
+use Rattle.math.specs.Laws.ListLaws.{same_tests}
+use Rattle.std.proofs.Common.{ap₂}
 use Rattle.std.specs.Prelude.{Bool, cond, ◌⊎◌, ◌&&◌, ◌||◌, List, [], ◌∷◌, ◌≡◌, leb}
 use Rattle.std.proofs.Math.Bool.{true, false, not, true≢false, and-false}
 use Rattle.std.specs.Prelude.{Option as Answer, Some, None}
@@ -123,6 +125,21 @@ bytes_compared (x ∷ xs) (y ∷ ys) = ap (λ b. eqb x y && b) (bytes_compared x
 pub head_compared : (head bytes : List ℕ) → starts_with eqb bytes head ≡ begins head bytes
 unfolding begins
 head_compared head bytes = bytes_compared head (take (length head) bytes)
+
+bytes_turned : (xs ys : List ℕ) → same_bytes xs ys ≡ same_bytes ys xs
+unfolding same_bytes
+bytes_turned [] [] = refl
+bytes_turned [] (y ∷ ys) = refl
+bytes_turned (x ∷ xs) [] = refl
+bytes_turned (x ∷ xs) (y ∷ ys) = ap₂ ◌&&◌ (eqb_comm x y) (bytes_turned xs ys)
+  where
+    eqb_comm : (a b : ℕ) → eqb a b ≡ eqb b a
+    eqb_comm a b = same_tests (eqb a b) (eqb b a) (λ e. eq-eqb b a (sym (eqb-true a b e))) (λ e. eq-eqb a b (sym (eqb-true b a e)))
+
+-- the library's comparison where it hands on what stands behind the head
+pub head_stripped : (head bytes : List ℕ) → pointwise eqb (take (length head) bytes) head ≡ begins head bytes
+unfolding begins
+head_stripped head bytes = bytes_compared (take (length head) bytes) head ∙ bytes_turned (take (length head) bytes) head
 
 pub same_lengths : (xs ys : List ℕ) → same_bytes xs ys ≡ true → length xs ≡ length ys
 unfolding same_bytes
