@@ -3,31 +3,52 @@
 // where the images of the variables are in which the two points differ.
 #![tactic(auto)]
 
-ghost use Rattle.std.specs.Prelude.{◌≡◌, ◌+◌, ◌-◌, ◌*◌, ◌^◌, ◌≤◌, ◌<◌, length, get_or, take, drop};
+ghost use Rattle.std.specs.Prelude.{◌≡◌, ℕ, ◌+◌, ◌-◌, ◌*◌, ◌^◌, ◌≤◌, ◌<◌, length, get_or, take, drop};
 ghost use Rattle.std.specs.Int.Bits.{bit_xor};
 ghost use Rattle.math.specs.Bits.{flip};
 ghost use Rattle.math.specs.Lists.{any};
 ghost use Rattle.point_slices.specs.Slices.{points_of};
+ghost use Rattle.point_index.specs.Laws.Looking.{indexed_points};
 ghost use Rattle.permutation_theory.specs.Permutations.{image_in, image_of_point, covered};
 ghost use Rattle.permutation_images.specs.Laws.Contracts.{permutations_of};
 ghost use Rattle.permutation_coverage.specs.Laws.Coverage.{Permuting, Imaged, Coverable, Turns, Sends, Stays};
-ghost use Rattle.permutation_coverage.specs.Laws.Coverage.{Staying};
+ghost use Rattle.permutation_coverage.specs.Laws.Coverage.{Staying, Changes};
 
 use permutation_images::{Permutations, fixed, image_of_set};
 use point_index::Index;
 use point_slices::{point_at, point_count, put_point};
 use points::Point;
 
-// The image stored at index i, flipped where the permutation of index i sends variable v: the image of the flipped
+// The image of a point under the permutation of index i, flipped where that sends variable v: the image of the flipped
 // point (`image_flip`).
-fn flipped_image(permutations: Permutations<'_>, moved: &[u64], i: usize, v: u32) -> Point
+fn flipped_image(permutations: Permutations<'_>, i: usize, image: Point, v: u32) -> Point
     requires { Sends permutations.variables i v permutations.images.now }
-    ensures { result ≡ flip (get_or (points_of moved.now) i 0)
+    ensures { result ≡ flip image
         (get_or permutations.entry.images.now (i * permutations.entry.variables + v) 0 - 1) }
 {
     let place = i * permutations.variables as usize + v as usize;
     let to = permutations.images[place] as u32 - 1;
-    points::flip(point_at(moved, i), to)
+    points::flip(image, to)
+}
+
+// Turns the images of a point one by one, each as its index and the image say: one step for each permutation.
+fn turn_images<F: Fn(usize, Point) -> Point>(
+    permutations: Permutations<'_>,
+    moved: &mut [u64],
+    turned: F,
+)
+    requires turns { (i image : ℕ) → i < permutations.count → F.pre turned i image }
+    requires listed { Permuting permutations.variables permutations.count permutations.images.now
+        × (permutations.count ≤ length (points_of moved.old)) }
+    ensures { (s : ℕ)
+        → Changes permutations.entry.variables permutations.entry.count permutations.entry.images.now s (F.post turned)
+        → Turns permutations.entry.variables permutations.entry.count permutations.entry.images.now s
+        (points_of moved.old) (points_of moved.new) }
+{
+    for i in 0..permutations.count as usize {
+        let image = turned(i, point_at(moved, i));
+        put_point(moved, i, image);
+    }
 }
 
 // Turns the images of a point into those of the point with variable v flipped: one step for each permutation.
@@ -37,10 +58,8 @@ fn flip_images(permutations: Permutations<'_>, moved: &mut [u64], v: u32)
     ensures { Turns permutations.entry.variables permutations.entry.count permutations.entry.images.now (2 ^ v)
         (points_of moved.old) (points_of moved.new) }
 {
-    for i in 0..permutations.count as usize {
-        let image = flipped_image(permutations, moved, i, v);
-        put_point(moved, i, image);
-    }
+    let flipped = |i, image| flipped_image(permutations, i, image, v);
+    turn_images(permutations, moved, flipped);
 }
 
 // Turns the images of x into those of y: one step for each permutation and each variable in which they differ, which
@@ -61,18 +80,18 @@ pub fn move_images(permutations: Permutations<'_>, moved: &mut [u64], x: Point, 
     }
 }
 
-// The image stored at index i, changed where the permutation of index i sends the variables of s: the image of a point
-// that differs in those (`image_differing`). The set at index i of `stay` has variables that the permutation sends to
-// themselves: one step for each other variable of s.
+// The image of a point under the permutation of index i, changed where that sends the variables of s: the image of a
+// point that differs in those (`image_differing`). The set at index i of `stay` has variables that the permutation sends
+// to themselves: one step for each other variable of s.
 fn changed_image(
     permutations: Permutations<'_>,
     stay: &[u64],
-    moved: &[u64],
     i: usize,
+    image: Point,
     s: Point,
 ) -> Point
     requires { Stays permutations.variables i permutations.images.now (points_of stay.now) }
-    ensures { result ≡ bit_xor (get_or (points_of moved.now) i 0) (image_of_point
+    ensures { result ≡ bit_xor image (image_of_point
         (record {
           images = take permutations.entry.variables (drop (i * permutations.entry.variables)
               permutations.entry.images.now);
@@ -80,7 +99,7 @@ fn changed_image(
 {
     let staying = point_at(stay, i);
     let change = image_of_set(permutations.at(i), staying, s);
-    points::differing(point_at(moved, i), change)
+    points::differing(image, change)
 }
 
 // Turns the images of a point into those of the point that differs from it in the variables of s: one step for each
@@ -94,10 +113,8 @@ fn far_images(permutations: Permutations<'_>, stay: &[u64], moved: &mut [u64], s
     ensures { Turns permutations.entry.variables permutations.entry.count permutations.entry.images.now s
         (points_of moved.old) (points_of moved.new) }
 {
-    for i in 0..permutations.count as usize {
-        let image = changed_image(permutations, stay, moved, i, s);
-        put_point(moved, i, image);
-    }
+    let changed = |i, image| changed_image(permutations, stay, i, image, s);
+    turn_images(permutations, moved, changed);
 }
 
 // In how many variables two points differ at most whose images are turned one variable at a time: so few turns take no
@@ -161,11 +178,11 @@ pub fn image_covered(
     requires { Coverable index.heads permutations.variables index.count (points_of index.points.now)
         index.links.now permutations.count permutations.images.now (points_of moved.now) x
         × (v < permutations.variables) }
-    ensures { result ≡ any (image_in (take index.entry.count (points_of index.entry.points.now)) (flip x v))
+    ensures { result ≡ any (image_in (indexed_points index.entry) (flip x v))
         (permutations_of permutations.entry) }
 {
     for i in 0..permutations.count as usize {
-        let image = flipped_image(permutations, moved, i, v);
+        let image = flipped_image(permutations, i, point_at(moved, i), v);
         if index.contains(permutations.variables, image) {
             return true;
         }
@@ -186,7 +203,7 @@ pub fn flip_covered(
         index.links.now permutations.count permutations.images.now (points_of moved.now) x
         × (v < permutations.variables) }
     ensures { result ≡ covered (permutations_of permutations.entry)
-        (take index.entry.count (points_of index.entry.points.now)) (flip x v) }
+        (indexed_points index.entry) (flip x v) }
 {
     let flipped = points::flip(x, v);
     index.contains(permutations.variables, flipped)

@@ -10,7 +10,7 @@ ghost use Rattle.math.specs.Bits.{bit};
 ghost use Rattle.math.specs.Lists.{has};
 ghost use Rattle.point_slices.specs.Slices.{points_of};
 ghost use Rattle.point_index.specs.Laws.Index.{hash_of, HasHeads, head_of, child_of};
-ghost use Rattle.point_index.specs.Laws.Looking.{Askable, Addable, Ends, Adds};
+ghost use Rattle.point_index.specs.Laws.Looking.{indexed_points, Askable, Addable, Ends, Adds};
 
 use point_slices::{number_at, point_at, put};
 use points::Point;
@@ -60,10 +60,10 @@ impl Index<'_> {
     // Looks up x, a point of n digits as those of the index are: the link at which x stands, or else the one where it
     // would be added. At most n + 1 comparisons; n stands in the contract alone.
     pub fn find(self, n: u32, x: Point) -> Result<usize, usize>
-        requires { Askable self.heads n (take self.count (points_of self.points.now)) self.links.now x }
+        requires { Askable self.heads n (indexed_points self) self.links.now x }
         ensures { MatchResult result
-            (Ends self.entry.heads n (take self.entry.count (points_of self.entry.points.now)) self.entry.links.now x true)
-            (Ends self.entry.heads n (take self.entry.count (points_of self.entry.points.now)) self.entry.links.now x false) }
+            (Ends self.entry.heads n (indexed_points self.entry) self.entry.links.now x true)
+            (Ends self.entry.heads n (indexed_points self.entry) self.entry.links.now x false) }
     {
         let mut link = head_of(x, self.heads);
         let mut depth = 0;
@@ -83,8 +83,8 @@ impl Index<'_> {
 
     // Whether x is among the points: at most n + 1 comparisons.
     pub fn contains(self, n: u32, x: Point) -> bool
-        requires { Askable self.heads n (take self.count (points_of self.points.now)) self.links.now x }
-        ensures { result ≡ has x (take self.entry.count (points_of self.entry.points.now)) }
+        requires { Askable self.heads n (indexed_points self) self.links.now x }
+        ensures { result ≡ has x (indexed_points self.entry) }
     {
         self.find(n, x).is_ok()
     }

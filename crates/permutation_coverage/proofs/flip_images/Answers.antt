@@ -1,24 +1,20 @@
--- `permutation_coverage::flip_images` meets its contract: before index i the images are those of the flipped point.
--- Assumes nothing.
-use Rattle.std.proofs.Common.{refl, ◌∙◌}
-use Rattle.permutation_coverage.specs.Laws.CoverageLaws.{flip_sends, turning_begins, turning_flips}
-use Rattle.permutation_coverage.specs.Laws.CoverageLaws.{turning_ends}
+-- `permutation_coverage::flip_images` meets its contract: each image is flipped where its permutation sends v. Assumes
+-- nothing.
+use Rattle.std.proofs.Common.{◌≡◌, ℕ, ◌∙◌, ◌+◌, ◌-◌, ◌*◌, ◌<◌, ◌^◌, get_or, rules}
+use Rattle.math.specs.Bits.{flip}
+use Rattle.permutation_coverage.specs.Laws.Coverage.{Sends}
+use Rattle.permutation_coverage.specs.Laws.CoverageLaws.{flip_sends, flip_changes}
 use Rattle.permutation_coverage.proofs.flip_images.Goals as goal
 
-pub loop-i-init : goal.loop-i-init
-loop-i-init c = (refl, turning_begins _ _ _ _ _)
-
-pub flipped_image-image-requires : goal.flipped_image-image-requires
-flipped_image-image-requires c = flip_sends c.requires.0 _ c.loop-i-test.true _ c.requires.2
-
-pub loop-i-preserved : goal.loop-i-preserved
-loop-i-preserved c = (
-  c.put_point.auto.points ∙ c.loop-i.invariant.0,
-  turning_flips _ _ _ _ _ c.requires.0 c.requires.1 c.loop-i.invariant.1 c.loop-i-test.true _ _ c.put_point.ensures.0 _ c.requires.2 refl c.flipped_image-image.ensures,
-)
-
-pub shape_of-moved : goal.shape_of-moved
-shape_of-moved c = c.loop-i.invariant.0
+pub turn_images-requires-clause-turns : goal.turn_images-requires-clause-turns
+turn_images-requires-clause-turns c =
+    let p = c.args.permutations in
+    let sends : (i : ℕ) → i < p.count → Sends p.variables i c.args.v p.images.now = λ i lt. flip_sends c.requires.0 i lt c.args.v c.requires.2 in
+    search (rules, sends)
 
 pub returns : goal.returns
-returns c = turning_ends _ _ _ _ _ c.loop-i.invariant.1 c.loop-i-test.false
+returns c =
+    let p = c.args.permutations in
+    c.turn_images.ensures (2 ^ c.args.v) (λ i image new lt says.
+    let is : new ≡ flip image (get_or p.images.now (i * p.variables + c.args.v) 0 - 1) = search (rules, says) in
+    is ∙ flip_changes c.requires.0 i lt c.args.v c.requires.2 image)

@@ -11,14 +11,14 @@ flipped_image-image-requires c = let pre = c.requires in flip_sends pre.0.permut
 pub contains-requires : goal.contains-requires
 contains-requires c =
     let pre = c.requires in
-    let asked = image_askable pre.0 _ pre.1 _ c.loop-i-test.true _ c.flipped_image-image.ensures in
+    let asked = image_askable pre.0 _ pre.1 _ c.loop-i-test.true _ (rw c.point_at.ensures at c.flipped_image-image.ensures) in
     search (rules, asked)
 
 pub returns-then-contains : goal.returns-then-contains
-returns-then-contains c = let pre = c.requires in image_found pre.0 _ pre.1 _ c.loop-i-test.true _ c.flipped_image-image.ensures c.loop-i.invariant _ c.contains.ensures c.if-contains.true
+returns-then-contains c = let pre = c.requires in image_found pre.0 _ pre.1 _ c.loop-i-test.true _ (rw c.point_at.ensures at c.flipped_image-image.ensures) c.loop-i.invariant _ c.contains.ensures c.if-contains.true
 
 pub loop-i-preserved : goal.loop-i-preserved
-loop-i-preserved c = let pre = c.requires in image_not_found pre.0 _ pre.1 _ c.loop-i-test.true _ c.flipped_image-image.ensures c.loop-i.invariant _ c.contains.ensures c.if-contains.false
+loop-i-preserved c = let pre = c.requires in image_not_found pre.0 _ pre.1 _ c.loop-i-test.true _ (rw c.point_at.ensures at c.flipped_image-image.ensures) c.loop-i.invariant _ c.contains.ensures c.if-contains.false
 
 pub returns : goal.returns
 returns c = let pre = c.requires in none_found pre.0 _ pre.1 _ c.loop-i-test.false c.loop-i.invariant

@@ -75,3 +75,9 @@ pub record Stays (n i : ℕ) (images stay : List ℕ) : Type 0 where
 -- each of the first k permutations sends the variables of its set to themselves
 pub record Staying (n k : ℕ) (images stay : List ℕ) : Type 0 where
   pub still : (i : ℕ) → i < k → Fixes (numbers_at n i images) (length (numbers_at n i images)) (get_or stay i 0)
+
+-- what a call says of index i and the image there of some point is that of the point that differs from it in the
+-- variables of s, as far as the first k permutations go
+abbrev pub Changes : ℕ → ℕ → List ℕ → ℕ → (ℕ → ℕ → ℕ → Type 0) → Type 0
+Changes n k images s says = (i image new : ℕ) → i < k → says i image new
+    → new ≡ bit_xor image (image_of_point (record { images = numbers_at n i images }) s)

@@ -21,7 +21,7 @@ use Rattle.math.specs.Laws.SetLaws.{members_next}
 use Rattle.points.specs.Points.{point_digits}
 use Rattle.points.specs.Laws.Contracts.{NextVariable}
 use Rattle.points.specs.Laws.NextLaws.{next_lowest, next_empty}
-use Rattle.permutation_theory.proofs.ImageLaws.{image_differing, image_flip, image_sound, moved_none, sent_range}
+use Rattle.permutation_theory.proofs.ImageLaws.{image_differing, image_flip, image_sound, index_lt, moved-one, moved_none, sent_range}
 use Rattle.permutation_theory.specs.Permutations.{Permutation, IsPermutation, moved, image_of_point, image_in, covered}
 use Rattle.permutation_theory.specs.Permutations.{permutations_in}
 use Rattle.permutation_images.specs.Laws.Contracts.{Movable, Fixes}
@@ -137,6 +137,16 @@ module _ {n permutations : ℕ} {images : List ℕ} (g : Permuting n permutation
           → y ≡ image_of_point own (flip x v)
       image_flipped moved x y imaged is = is ∙ ap₂ (λ (z u : ℕ). flip z (u - 1)) (held moved x imaged) byte
           ∙ sym (image_flip n own own_proper x v inside)
+
+      -- to flip an image there is to change it where v alone is sent
+      pub flip_changes : (image : ℕ) → flip image (get_or images (i * n + v) 0 - 1)
+          ≡ bit_xor image (image_of_point (record { images = numbers_at n i images }) (2 ^ v))
+      unfolding flip image_of_point
+      flip_changes image =
+          ap (bit_xor image)
+          (ap (λ (u : ℕ). 2 ^ (u - 1)) byte ∙ sym (moved-one own.images v (index_lt n own own_proper v inside))
+          ∙ ap (λ (e : Permutation). moved e.images (2 ^ v))
+          (permutation_at n permutations i images no_permutation lt))
 
 -- ---- all images turned, one by one
 

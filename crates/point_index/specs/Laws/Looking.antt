@@ -3,6 +3,8 @@
 use Rattle.std.specs.Prelude.{Bool, true, false, List, [], ◌∷◌, ◌++◌, ◌≡◌, ℕ, suc, ◌+◌, ◌*◌, ◌≤◌, ◌<◌, ◌^◌, length, set, take}
 use Rattle.math.specs.Lists.{has}
 use Rattle.points.specs.Points.{point_digits}
+use Rattle.point_slices.specs.Slices.{points_of}
+use Rattle.point_index.specs.declared.Index.{Index}
 use Rattle.point_index.specs.Laws.Index.{head_of, entry, MayStand, Finds, Indexes, Indexed}
 
 -- every link is 0
@@ -55,3 +57,7 @@ pub record Adds (heads n : ℕ) (points links : List ℕ) (x : ℕ) (held : Bool
   pub tells : held ≡ has x points
   pub same : held ≡ true → links' ≡ links
   pub grown : held ≡ false → Indexed heads n (points ++ x ∷ []) links'
+
+-- the points that a value of the code's type is an index of
+abbrev pub indexed_points : Index → List ℕ
+indexed_points i = take i.count (points_of i.points.now)
