@@ -70,10 +70,7 @@ pub(crate) struct Guesses<'a> {
 fn stands_at(clauses: Clauses<'_>, i: usize, c: Clause) -> bool
     ensures { result ≡ true → any (same_clause (clause_of c)) (clauses_lent clauses.entry) ≡ true }
 {
-    if clauses.count() <= i {
-        return false;
-    }
-    c == clauses.at(i)
+    i < clauses.count() && c == clauses.at(i)
 }
 
 // Where the way to a clause ends: at the clause itself, at a link that is 0, or, with no digit left, at one that is not.
@@ -144,10 +141,8 @@ pub(crate) fn guessed(clauses: Clauses<'_>, guesses: Guesses<'_>, c: Clause) -> 
     if stands_at(clauses, number as usize - 1, c) {
         return true;
     }
-    match way_behind(clauses, guesses, c, second_head(hash, guesses.heads)) {
-        Way::Held => true,
-        _ => false,
-    }
+    let way = way_behind(clauses, guesses, c, second_head(hash, guesses.heads));
+    matches!(way, Way::Held)
 }
 
 // Stores a guess for the clause at index i, unless one is right already.

@@ -5,8 +5,8 @@ use Rattle.points.specs.Points.{empty_clause}
 use Rattle.permutation_theory.specs.Permutations.{same_clause}
 use Rattle.permutation_symmetry.proofs.guesses.stands_at.Goals as goal
 
-pub returns : goal.returns
+pub returns-then-i-count : goal.returns-then-i-count
 unfolding same_clause
-returns c e =
-    any_of (same_clause _) (get_d_in _ _ empty_clause (omega (arith, c.count.ensures, c.if-count-i.false)))
+returns-then-i-count c e =
+    any_of (same_clause _) (get_d_in _ _ empty_clause (omega (arith, c.count.ensures, c.if-i-count.true)))
     (ap (same_clause _) (sym c.at.ensures) ∙ sym c.eq.ensures ∙ e)
