@@ -1,48 +1,33 @@
 -- Laws of row 18: the set of a numbered clause's variables, the loop over it, and which entries of the lists the row
 -- looks at. Assumes nothing.
-use Rattle.std.specs.Prelude.{Bool, true, false, ◌&&◌, ◌≡◌, refl, ℕ, suc, ◌+◌, ◌≤◌, ◌<◌, ◌^◌, length, get_or, take}
+use Rattle.std.specs.Prelude.{Bool, true, false, ◌&&◌, ◌≡◌, refl, ℕ, suc, ◌≤◌, ◌<◌, ◌^◌, length, get_or, take}
 use mathlib.Core.List.{List, ◌∷◌, map}
 use Rattle.std.proofs.Math.Option.{Option, some, none}
 use Rattle.std.proofs.Math.Path.{sym, ap, ap₂}
 use Rattle.std.proofs.Common.{◌∙◌, subst, le_of_eq, pow_pos, get_or-take, length-take-le}
 use Rattle.std.proofs.lemmas.Nat.{or_lt}
 use Rattle.formula.specs.Laws.RefusalLaws.{digits_suffice}
-use Rattle.permutation_coverage.specs.declared.Lookup.{Lookup}
+use Rattle.permutation_images.specs.declared.Permutations.{Permutations}
+use Rattle.point_index.specs.declared.Index.{Index}
+use Rattle.point_slices.specs.Slices.{points_of}
 use Rattle.math.specs.Laws.BitLaws.{flip-lt}
 use Rattle.math.specs.Bits.{flip, members}
 use Rattle.math.specs.Lists.{all, first_failing, below}
-use Rattle.math.specs.Laws.PartLaws.{index_some, index_none, same_failing_below}
+use Rattle.math.specs.Laws.PartLaws.{same_failing_below}
 use Rattle.math.specs.Laws.SetLaws.{members_next, members-none}
 use Rattle.points.specs.Laws.Contracts.{NextVariable}
 use Rattle.points.specs.Laws.NextLaws.{next_lowest, next_none}
-use Rattle.points.specs.Points.{point_digits, Clause, Numbered, listed, variables, numbered, empty_clause}
+use Rattle.points.specs.Points.{point_digits, Clause, Numbered, listed, variables}
 use Rattle.point_theory.specs.Laws.Notions.{ClausesBelow}
 use Rattle.permutation_theory.specs.Permutations.{Permutation, covered}
 use Rattle.permutation_coverage.specs.Laws.Coverage.{Permuting, Imaged, Coverable, Staying}
 use Rattle.formula.specs.Reply.{fault_at}
 use Rattle.certificate.specs.Laws.RowLaws.{clause_found}
 use Rattle.certificate.specs.Rows.{clause_numbered}
-use Rattle.check_falsified.specs.Laws.FalsifiedLaws.{numbered-at, numbered_below}
 use Rattle.check_flips.specs.Flips.{flips_of, flips_pass, flips_fault}
 use Rattle.check_flips.specs.Laws.Loops.{listed_by, all_flips, Testable, Follows, Flipping}
 
 -- ---- the variables of the clause of a number
-
-module _ (cs : List Clause) where
-  pub listed-none : (k : ℕ) → k < 1 → ◌≡◌ {A = ℕ} 0 (listed_by (clause_numbered (numbered cs) k))
-  unfolding listed_by
-  listed-none k h = sym (ap listed_by (numbered_below 1 cs k h))
-
-  pub listed_past : (k i : ℕ) → k ≡ 1 + i → length cs ≤ i → ◌≡◌ {A = ℕ} 0 (listed_by (clause_numbered (numbered cs) k))
-  unfolding listed_by
-  listed_past k i e h = sym (ap (λ (j : ℕ). listed_by (clause_numbered (numbered cs) j)) e
-      ∙ ap listed_by (numbered-at 1 cs i ∙ index_none cs i h))
-
-  pub listed_at : (k i : ℕ) → k ≡ 1 + i → i < length cs
-      → listed (get_or cs i empty_clause) ≡ listed_by (clause_numbered (numbered cs) k)
-  unfolding listed_by
-  listed_at k i e h = sym (ap (λ (j : ℕ). listed_by (clause_numbered (numbered cs) j)) e
-      ∙ ap listed_by (numbered-at 1 cs i ∙ index_some cs i empty_clause h))
 
 -- a clause of a formula lists none but the variables below n
 pub listed_within : (n : ℕ) (cs : List Numbered) → ClausesBelow n cs → (k : ℕ) → listed_by (clause_numbered cs k) < 2 ^ n
@@ -102,9 +87,8 @@ module _ (t : ℕ → Bool) (n x s : ℕ) (few : n ≤ point_digits) where
 
 -- ---- what can be looked up
 
-module _ {g : Lookup} {images : List ℕ} {clauses : List Clause} {points links : List ℕ} {count : ℕ}
-    (t : Testable g images clauses points links count) where
-  pub tested-permuting : Permuting g.variables g.permutations images
+module _ {g : Permutations} {clauses : List Clause} {index : Index} (t : Testable g clauses index) where
+  pub tested-permuting : Permuting g.variables g.count g.images.now
   tested-permuting = record {
     few = digits_suffice
         t.given.few;
@@ -113,16 +97,17 @@ module _ {g : Lookup} {images : List ℕ} {clauses : List Clause} {points links 
   }
 
   -- an indexed point has n digits
-  pub tested_narrow : (i : ℕ) → i < count → get_or points i 0 < 2 ^ g.variables
+  pub tested_narrow : (i : ℕ) → i < index.count → get_or (points_of index.points.now) i 0 < 2 ^ g.variables
   tested_narrow i lt =
-      subst (λ (y : ℕ). y < 2 ^ g.variables) (get_or-take count points i 0 lt)
-      (t.indexed.indexes.narrow i (subst (λ (m : ℕ). i < m) (sym (length-take-le count points t.enough)) lt))
+      let points = points_of index.points.now in
+      subst (λ (y : ℕ). y < 2 ^ g.variables) (get_or-take index.count points i 0 lt)
+      (t.indexed.indexes.narrow i
+      (subst (λ (m : ℕ). i < m) (sym (length-take-le index.count points t.enough)) lt))
 
   -- the flips of a point that is indexed
-  pub tested_follows : (i x : ℕ) → x ≡ get_or points i 0 → i < count → {seen : ℕ} {stay moved : List ℕ}
-      → Staying g.variables g.permutations images stay
-      → Imaged g.variables g.permutations images seen moved
-      → Follows g images points links stay moved count seen x
+  pub tested_follows : (i x : ℕ) → x ≡ get_or (points_of index.points.now) i 0 → i < index.count
+      → {seen : ℕ} {stay moved : List ℕ} → Staying g.variables g.count g.images.now stay
+      → Imaged g.variables g.count g.images.now seen moved → Follows g index stay moved seen x
   tested_follows i x at lt sets known =
       record {
         askable = record {
@@ -135,32 +120,33 @@ module _ {g : Lookup} {images : List ℕ} {clauses : List Clause} {points links 
         imaged = known;
       }
 
--- where the images are those of x itself, its images can be looked up too
-pub follows_covers : {g : Lookup} {images points links stay moved₀ : List ℕ} {count seen x : ℕ}
-    → Follows g images points links stay moved₀ count seen x → {moved : List ℕ}
-    → Imaged g.variables g.permutations images x moved
-    → Coverable g.heads g.variables count points links g.permutations images moved x
-follows_covers f known = record { askable = f.askable; permuting = f.permuting; imaged = known.imaged }
+module _ {g : Permutations} {index : Index} {stay moved₀ : List ℕ} {seen x : ℕ} (f : Follows g index stay moved₀ seen x) where
+  -- where the images are those of x itself, its images can be looked up too
+  pub follows_covers : {moved : List ℕ} → Imaged g.variables g.count g.images.now x moved
+      → Coverable index.heads g.variables index.count (points_of index.points.now) index.links.now g.count g.images.now moved
+      x
+  follows_covers known = record { askable = f.askable; permuting = f.permuting; imaged = known.imaged }
 
--- the images may be those of another point
-pub follows_on : {g : Lookup} {images points links stay moved₀ : List ℕ} {count seen x : ℕ}
-    → Follows g images points links stay moved₀ count seen x → {at : ℕ} {moved : List ℕ}
-    → Imaged g.variables g.permutations images at moved → Follows g images points links stay moved count at x
-follows_on f known =
-    record { askable = f.askable; permuting = f.permuting; staying = f.staying; imaged = known }
+  -- the images may be those of another point
+  pub follows_on : {at : ℕ} {moved : List ℕ} → Imaged g.variables g.count g.images.now at moved
+      → Follows g index stay moved at x
+  follows_on known = record { askable = f.askable; permuting = f.permuting; staying = f.staying; imaged = known }
 
 -- ---- the test of one point, and the row
 
 module _ (n : ℕ) (cs : List Numbered) (es : List Permutation) where
   -- the test of the point of an index, from its point and its clause's variables
-  pub flips_passed : (points falsified : List ℕ) (count i x s : ℕ) → i < count → x ≡ get_or points i 0
-      → s ≡ listed_by (clause_numbered cs (get_or falsified i 0))
-      → all_flips (covered es (take count points)) n x s ≡ flips_pass n cs es (take count points) falsified i
+  pub flips_passed : (points falsified : List ℕ) (count i x k s : ℕ) → i < count → x ≡ get_or points i 0
+      → k ≡ get_or falsified i 0 → s ≡ listed_by (clause_numbered cs k) → (passes : Bool)
+      → passes ≡ all_flips (covered es (take count points)) n x s
+      → flips_pass n cs es (take count points) falsified i ≡ passes
   unfolding flips_pass
-  flips_passed points falsified count i x s lt at set =
-      ap₂ (all_flips (covered es (take count points)) n) (at ∙ sym (get_or-take count points i 0 lt)) set
-      ∙ sym (flips-listed (covered es (take count points)) n (clause_numbered cs (get_or falsified i 0))
-      (get_or (take count points) i 0))
+  flips_passed points falsified count i x k s lt at named set passes told =
+      flips-listed (covered es (take count points)) n (clause_numbered cs (get_or falsified i 0))
+      (get_or (take count points) i 0)
+      ∙ ap₂ (all_flips (covered es (take count points)) n) (get_or-take count points i 0 lt ∙ sym at)
+      (sym (set ∙ ap (λ (j : ℕ). listed_by (clause_numbered cs j)) named))
+      ∙ sym told
 
   -- the row, of so many points
   pub flips_row : (points falsified : List ℕ) (count : ℕ) → length points ≡ count

@@ -4,158 +4,93 @@
 
 ghost use Rattle.std.specs.Prelude.{◌≡◌, ◌≤◌, ◌<◌, ◌^◌, length, take};
 ghost use Rattle.math.specs.Bits.{flip};
-ghost use Rattle.math.specs.Lists.{first_failing, below};
-ghost use Rattle.point_slices.specs.Laws.Contracts.{lent_clauses};
+ghost use Rattle.point_slices.specs.Laws.Contracts.{clauses_lent};
 ghost use Rattle.points.specs.Points.{numbered};
 ghost use Rattle.point_slices.specs.Slices.{points_of};
-ghost use Rattle.permutation_theory.specs.Permutations.{covered, permutations_in};
+ghost use Rattle.permutation_theory.specs.Permutations.{covered};
+ghost use Rattle.permutation_images.specs.Laws.Contracts.{permutations_of};
+ghost use Rattle.point_index.specs.Laws.Looking.{indexed_points};
 ghost use Rattle.permutation_coverage.specs.Laws.Coverage.{Permuting, Imaged, Staying};
 ghost use Rattle.formula.specs.Refusals.{fault_of};
 ghost use Rattle.certificate.specs.Rows.{clause_numbered};
-ghost use Rattle.check_flips.specs.Flips.{flips_pass, flips_fault};
+ghost use Rattle.check_flips.specs.Flips.{flips_fault};
 ghost use Rattle.check_flips.specs.Laws.Loops.{listed_by, all_flips, Testable, Follows};
 
-use formula::{Checked, Formula};
-use permutation_coverage::{Lookup, image_covered, next_images, staying_sets};
-use point_index::contains;
-use point_slices::{clause_at, clause_count, first_points, number_at, point_at};
+use check_falsified::clause_numbered;
+use formula::Formula;
+use formula::reasons::{Reason, Refusal};
+use permutation_coverage::{image_covered, next_images, staying_sets};
+use permutation_images::Permutations;
+use point_index::Index;
+use point_slices::{Clauses, first_points, number_at, point_at};
 use points::Point;
 
 // The set of the variables that the clause with the number k lists; the empty set where no clause has it.
-fn variables_of(positive: &[u64], negative: &[u64], k: u32) -> Point
-    ensures { result ≡ listed_by (clause_numbered (numbered
-        (lent_clauses positive.now negative.now)) k) }
+fn variables_of(clauses: Clauses<'_>, k: u32) -> Point
+    ensures { result ≡ listed_by (clause_numbered (numbered (clauses_lent clauses.entry)) k) }
 {
-    if k < 1 {
-        return points::EMPTY;
+    match clause_numbered(clauses, k) {
+        None => points::EMPTY,
+        Some(c) => points::listed(c),
     }
-    let place = k as usize - 1;
-    let end = clause_count(positive, negative);
-    if end <= place {
-        return points::EMPTY;
-    }
-    let c = clause_at(positive, negative, place);
-    points::listed(c)
 }
 
-// What a test of flips says, and the point whose images are at hand after it.
-#[derive(Clone, Copy)]
-struct Tested {
-    passed: bool,
-    seen: Point,
-}
-
-// Whether x with variable v flipped is covered by the first `count` points; `moved` has the images of `seen`, and `stay`
+// Whether x with variable v flipped is covered by the points of the index; `moved` has the images of `seen`, and `stay`
 // sets of variables that stay, or none. Where the flip itself is among the points that is one look-up. Else the images
 // are turned into those of x, at most one step for each permutation and each variable in which the two points differ,
 // and at most one look-up each follows; a look-up takes at most n + 1 comparisons. `flips_covered` hands on what it
 // requires.
 fn flip_passes(
-    g: Lookup,
-    images: &[u8],
-    points: &[u64],
-    links: &[u32],
+    permutations: Permutations<'_>,
+    index: Index<'_>,
     stay: &[u64],
     moved: &mut [u64],
-    count: usize,
-    seen: Point,
+    seen: &mut Point,
     x: Point,
     v: u32,
-) -> Tested
-    requires { Follows g images.now (points_of points.now) links.now (points_of stay.now)
-        (points_of moved.old) count seen x × (v < g.variables) }
-    ensures { (result.passed ≡ covered (permutations_in g.variables g.permutations images.now)
-        (take count (points_of points.now)) (flip x v))
-        × Imaged g.variables g.permutations images.now result.seen (points_of moved.new) }
+) -> bool
+    requires { Follows permutations index (points_of stay.now) (points_of moved.old) seen.old x
+        × (v < permutations.variables) }
+    ensures { (result ≡ covered (permutations_of permutations.entry) (indexed_points index.entry) (flip x v))
+        × Imaged permutations.entry.variables permutations.entry.count permutations.entry.images.now seen.new
+        (points_of moved.new) }
 {
-    let n = g.variables;
-    let flipped = points::flip(x, v);
-    if contains(n, points, links, g.heads, count, flipped) {
-        return Tested { passed: true, seen };
+    if index.contains(permutations.variables, points::flip(x, v)) {
+        return true;
     }
-    next_images(n, g.permutations, images, stay, moved, seen, x);
-    let passed = image_covered(g, images, points, links, moved, count, x, v);
-    Tested { passed, seen: x }
+    next_images(permutations, stay, moved, *seen, x);
+    *seen = x;
+    image_covered(permutations, index, moved, x, v)
 }
 
-// Whether each flip of x by a variable of the set is covered by the first `count` points, variables lowest first: at
-// most n flips. `first_uncovered` sees to what it requires.
+// Whether each flip of x by a variable of the set is covered by the points of the index, variables lowest first: at most
+// n flips. `flips_refusal` sees to what it requires.
 fn flips_covered(
-    g: Lookup,
-    images: &[u8],
-    points: &[u64],
-    links: &[u32],
+    permutations: Permutations<'_>,
+    index: Index<'_>,
     stay: &[u64],
     moved: &mut [u64],
-    count: usize,
-    seen: Point,
+    seen: &mut Point,
     x: Point,
     listed: Point,
-) -> Tested
-    requires { Follows g images.now (points_of points.now) links.now (points_of stay.now)
-        (points_of moved.old) count seen x × (listed < 2 ^ g.variables) }
-    ensures { (result.passed ≡ all_flips (covered (permutations_in g.variables g.permutations
-        images.now) (take count (points_of points.now))) g.variables x listed)
-        × Imaged g.variables g.permutations images.now result.seen (points_of moved.new) }
+) -> bool
+    requires { Follows permutations index (points_of stay.now) (points_of moved.old) seen.old x
+        × (listed < 2 ^ permutations.variables) }
+    ensures { (result ≡ all_flips (covered (permutations_of permutations.entry) (indexed_points index.entry))
+        permutations.entry.variables x listed)
+        × Imaged permutations.entry.variables permutations.entry.count permutations.entry.images.now seen.new
+        (points_of moved.new) }
 {
-    let n = g.variables;
-    let mut at = seen;
     let mut left = listed;
     let mut v = points::next_variable(left);
-    while v < n {
-        let tested = flip_passes(g, images, points, links, stay, moved, count, at, x, v);
-        at = tested.seen;
-        if !tested.passed {
-            return Tested {
-                passed: false,
-                seen: at,
-            };
+    while v < permutations.variables {
+        if !flip_passes(permutations, index, stay, moved, seen, x, v) {
+            return false;
         }
         left = points::flip(left, v);
         v = points::next_variable(left);
     }
-    Tested {
-        passed: true,
-        seen: at,
-    }
-}
-
-// The number, from 1, of the first of `count` points with a flip that is not covered; 0 if there is none.
-fn first_uncovered(
-    g: Lookup,
-    images: &[u8],
-    positive: &[u64],
-    negative: &[u64],
-    points: &[u64],
-    falsified: &[u32],
-    links: &[u32],
-    stay: &[u64],
-    count: usize,
-) -> usize
-    requires { Testable g images.now (lent_clauses positive.now negative.now) (points_of points.now)
-        links.now count × Staying g.variables g.permutations images.now (points_of stay.now) }
-    ensures { result ≡ first_failing (flips_pass g.variables
-        (numbered (lent_clauses positive.now negative.now))
-        (permutations_in g.variables g.permutations images.now)
-        (take count (points_of points.now)) falsified.now) (below count) }
-{
-    let mut moved = [0u64; Formula::MAX_PERMUTATIONS as usize];
-    let mut seen = points::EMPTY;
-    let mut i = 0;
-    while i < count {
-        let k = number_at(falsified, i);
-        let x = point_at(points, i);
-        let listed = variables_of(positive, negative, k);
-        let tested = flips_covered(
-            g, images, points, links, stay, &mut moved, count, seen, x, listed,
-        );
-        if !tested.passed {
-            return i + 1;
-        }
-        seen = tested.seen;
-        i += 1;
-    }
-    0
+    true
 }
 
 // For how many points at most no sets of the variables that stay are made: it would take longer than they save.
@@ -164,53 +99,49 @@ const FEW: usize = 1024;
 // Stores for each permutation the set of the variables that it sends to themselves, and says how many of the sets to go
 // by: all, or none where the points are few or the permutations move more than half of the variables. At most n steps
 // for each permutation.
-fn sets_at_hand(g: Lookup, images: &[u8], stay: &mut [u64], count: usize) -> usize
-    requires { Permuting g.variables g.permutations images.now
-        × (g.permutations ≤ length (points_of stay.old)) }
+fn sets_at_hand(permutations: Permutations<'_>, stay: &mut [u64], count: usize) -> usize
+    requires { Permuting permutations.variables permutations.count permutations.images.now
+        × (permutations.count ≤ length (points_of stay.old)) }
     ensures { (result ≤ length (points_of stay.new))
-        × Staying g.variables g.permutations images.now (take result (points_of stay.new)) }
+        × Staying permutations.entry.variables permutations.entry.count permutations.entry.images.now
+        (take result (points_of stay.new)) }
 {
     if count <= FEW {
         return 0;
     }
-    let total = staying_sets(g.variables, g.permutations, images, stay);
-    let end = g.permutations as usize;
-    let all = end * g.variables as usize;
-    if total < all / 2 {
-        return 0;
-    }
-    end
+    let total = staying_sets(permutations, stay);
+    let end = permutations.count as usize;
+    let all = end * permutations.variables as usize;
+    if total < all / 2 { 0 } else { end }
 }
 
-// R18: refusal 18, of the first `count` points and numbers. For each point at most n · (permutations + 1) look-ups, each
-// of at most n + 1 comparisons; where a flip itself is none of the points, also the images of the point, at most
-// permutations · n steps. Refusals 10, 11 and 16 see to what it requires.
+// R18: refusal 18, of the points of the index and as many numbers. For each point at most n · (permutations + 1)
+// look-ups, each of at most n + 1 comparisons; where a flip itself is none of the points, also the images of the point,
+// at most permutations · n steps. Refusals 10, 11 and 16 see to what it requires.
 pub fn flips_refusal(
-    g: Lookup,
-    images: &[u8],
-    positive: &[u64],
-    negative: &[u64],
-    points: &[u64],
+    permutations: Permutations<'_>,
+    clauses: Clauses<'_>,
+    index: Index<'_>,
     falsified: &[u32],
-    links: &[u32],
-    count: usize,
-) -> Checked
-    requires { Testable g images.now (lent_clauses positive.now negative.now) (points_of points.now)
-        links.now count }
-    ensures { fault_of result ≡ flips_fault g.variables
-        (numbered (lent_clauses positive.now negative.now))
-        (permutations_in g.variables g.permutations images.now)
-        (take count (points_of points.now)) falsified.now }
+) -> Result<(), Refusal>
+    requires { Testable permutations (clauses_lent clauses) index }
+    ensures { fault_of result ≡ flips_fault permutations.entry.variables (numbered (clauses_lent clauses.entry))
+        (permutations_of permutations.entry) (indexed_points index.entry) falsified.now }
 {
     let mut stay = [0u64; Formula::MAX_PERMUTATIONS as usize];
-    let sets = sets_at_hand(g, images, &mut stay, count);
+    let sets = sets_at_hand(permutations, &mut stay, index.count);
     let known = first_points(&stay, sets);
-    let k = first_uncovered(
-        g, images, positive, negative, points, falsified, links, known, count,
-    );
-    if k == 0 {
-        Checked::Passed
-    } else {
-        Checked::Refused { code: 18, place: k }
+    let mut moved = [0u64; Formula::MAX_PERMUTATIONS as usize];
+    let mut seen = points::EMPTY;
+    for i in 0..index.count {
+        let x = point_at(index.points, i);
+        let listed = variables_of(clauses, number_at(falsified, i));
+        if !flips_covered(permutations, index, known, &mut moved, &mut seen, x, listed) {
+            return Err(Refusal {
+                reason: Reason::CertificateFlips,
+                place: i + 1,
+            });
+        }
     }
+    Ok(())
 }

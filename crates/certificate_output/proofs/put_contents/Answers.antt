@@ -1,14 +1,13 @@
--- `certificate_output::put_contents` meets its contract. Assumes nothing.
-use Rattle.std.proofs.Common.{rules}
-use Rattle.certificate_output.specs.Laws.OutputLaws.{contents_stored}
+-- `certificate_output::put_contents` meets its contract: before turn i the first i numbers are stored. Assumes nothing.
+use Rattle.std.proofs.Common.{refl, le_refl, zero-add}
+use Rattle.certificate_output.specs.Laws.OutputLaws.{storing_begins, storing_goes_on, storing_ends, contents_stored}
 use Rattle.certificate_output.proofs.put_contents.Goals as goal
 
-pub put_fields-requires : goal.put_fields-requires
-put_fields-requires c = search rules
+pub loop-i-init : goal.loop-i-init
+loop-i-init c = storing_begins c.requires.0 (le_refl 8)
 
-pub put_fields-requires-2 : goal.put_fields-requires-2
-put_fields-requires-2 c = search rules
+pub loop-i-preserved : goal.loop-i-preserved
+loop-i-preserved c = storing_goes_on c.loop-i.invariant c.loop-i-test.true refl c.put_number.auto.out (rw zero-add c.put_number.ensures)
 
 pub returns : goal.returns
-returns c =
-    contents_stored _ _ _ _ _ _ _ _ _ c.requires.1 c.requires.2 c.put_fields.ensures c.put_fields-2.ensures
+returns c = contents_stored _ _ _ _ _ _ _ _ c.requires.1 c.requires.2 (storing_ends c.loop-i.invariant c.loop-i-test.false)

@@ -1,4 +1,3 @@
-use Rattle.std.proofs.Common.{◌-◌}
 use Rattle.point_slices.specs.Slices.{points_of}
 use Rattle.certificate.specs.Bytes.{point_width}
 use Rattle.certificate_output.specs.Laws.OutputLaws.{Storing}
@@ -6,6 +5,3 @@ use Rattle.certificate_output.proofs.put_points.Given as goal
 
 abbrev pub invariant-loop-i : goal.invariant-loop-i
 invariant-loop-i l = Storing point_width l.at l.count (points_of l.points) l.initial.out l.i l.out
-
-abbrev pub decreases-loop-i : goal.decreases-loop-i
-decreases-loop-i l = l.count - l.i

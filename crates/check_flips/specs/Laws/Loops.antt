@@ -1,5 +1,5 @@
 -- What the functions on flips cite beside the definition of row 18. Assumes nothing.
-use Rattle.std.specs.Prelude.{Bool, List, map, ◌≡◌, ℕ, ◌≤◌, ◌<◌, ◌^◌, length, take}
+use Rattle.std.specs.Prelude.{Bool, List, map, ◌≡◌, ℕ, ◌≤◌, ◌<◌, ◌^◌, length}
 use Rattle.std.proofs.Math.Option.{Option, some, none}
 use Rattle.math.specs.Bits.{flip, members}
 use Rattle.math.specs.Lists.{◌∈◌, all}
@@ -8,10 +8,12 @@ use Rattle.points.specs.Points.{Clause, listed, numbered}
 use Rattle.point_theory.specs.Laws.Notions.{ClausesBelow}
 use Rattle.permutation_theory.specs.Permutations.{Permutation, IsPermutation, permutations_in}
 use Rattle.permutation_images.specs.Laws.Contracts.{Listed}
+use Rattle.permutation_images.specs.declared.Permutations.{Permutations}
 use Rattle.point_index.specs.Laws.Index.{Indexed}
-use Rattle.point_index.specs.Laws.Looking.{Askable}
+use Rattle.point_index.specs.Laws.Looking.{Askable, indexed_points}
+use Rattle.point_index.specs.declared.Index.{Index}
+use Rattle.point_slices.specs.Slices.{points_of}
 use Rattle.permutation_coverage.specs.Laws.Coverage.{Permuting, Imaged, Staying}
-use Rattle.permutation_coverage.specs.declared.Lookup.{Lookup}
 use Rattle.formula.specs.Limits.{max_variables, max_permutations}
 
 -- the variables that a clause lists, as a set; none without a clause
@@ -32,21 +34,19 @@ pub record Proper (n count : ℕ) (images : List ℕ) (clauses : List Clause) : 
   pub proper : (e : Permutation) → e ∈ permutations_in n count images → IsPermutation n e
   pub below : ClausesBelow n (numbered clauses)
 
--- what lets flips be looked up: there are as many points as are to be tested, and the links are an index of them
-pub record Testable (g : Lookup) (images : List ℕ) (clauses : List Clause) (points links : List ℕ) (tested : ℕ)
-    : Type 0
-  where
-    pub given : Proper g.variables g.permutations images clauses
-    pub enough : tested ≤ length points
-    pub indexed : Indexed g.heads g.variables (take tested points) links
+-- what lets flips be looked up: the points that are to be tested are there, and the links are an index of them
+pub record Testable (g : Permutations) (clauses : List Clause) (index : Index) : Type 0 where
+  pub given : Proper g.variables g.count g.images.now clauses
+  pub enough : index.count ≤ length (points_of index.points.now)
+  pub indexed : Indexed index.heads g.variables (indexed_points index) index.links.now
 
 -- flips of x, a point of n digits, can be looked up, `stay` has sets of variables that stay, and `moved` has the images
 -- of `seen`
-pub record Follows (g : Lookup) (images points links stay moved : List ℕ) (tested seen x : ℕ) : Type 0 where
-  pub askable : Askable g.heads g.variables (take tested points) links x
-  pub permuting : Permuting g.variables g.permutations images
-  pub staying : Staying g.variables g.permutations images stay
-  pub imaged : Imaged g.variables g.permutations images seen moved
+pub record Follows (g : Permutations) (index : Index) (stay moved : List ℕ) (seen x : ℕ) : Type 0 where
+  pub askable : Askable index.heads g.variables (indexed_points index) index.links.now x
+  pub permuting : Permuting g.variables g.count g.images.now
+  pub staying : Staying g.variables g.count g.images.now stay
+  pub imaged : Imaged g.variables g.count g.images.now seen moved
 
 -- the loop over the variables of the set s: those of `left` are still to be tested, v the lowest of them, and they
 -- decide
