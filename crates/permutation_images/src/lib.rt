@@ -15,13 +15,7 @@ use points::{Clause, Point};
 fn fresh(n: u32, seen: Point, v: u32) -> bool
     ensures { result ≡ fresh n seen v }
 {
-    if v < 1 {
-        return false;
-    }
-    if n < v {
-        return false;
-    }
-    !points::member(seen, v - 1)
+    1 <= v && v <= n && !points::member(seen, v - 1)
 }
 
 // Whether the bytes are each of 1 to n exactly once. One step a byte. Refusal 10 sees to it that a point has n digits.
@@ -33,14 +27,12 @@ pub fn is_permutation(n: u32, e: &[u8]) -> bool
         return false;
     }
     let mut seen = points::EMPTY;
-    let mut i = 0;
-    while i < e.len() {
-        let v = e[i] as u32;
+    for &image in e {
+        let v = image as u32;
         if !fresh(n, seen, v) {
             return false;
         }
         seen = points::flip(seen, v - 1);
-        i += 1;
     }
     true
 }
@@ -52,12 +44,9 @@ fn moved_from(e: &[u8], first: usize, s: Point) -> Point
     ensures { result ≡ moved (drop first e.now) (s / 2 ^ first) }
 {
     let mut r = points::EMPTY;
-    let mut i = e.len();
-    while first < i {
-        i -= 1;
-        let image = e[i] - 1;
+    for i in (first..e.len()).rev() {
         let from = i as u32;
-        let to = image as u32;
+        let to = e[i] as u32 - 1;
         r = points::carry(r, s, from, to);
     }
     r
@@ -111,11 +100,8 @@ pub fn fixed(e: &[u8]) -> Point
     ensures { Fixes e.now (length e.now) result }
 {
     let mut r = points::EMPTY;
-    let mut i = 0;
-    while i < e.len() {
-        let image = e[i] as u32;
-        r = with_fixed(r, i as u32, image);
-        i += 1;
+    for (i, &image) in e.iter().enumerate() {
+        r = with_fixed(r, i as u32, image as u32);
     }
     r
 }

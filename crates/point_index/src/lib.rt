@@ -5,7 +5,7 @@
 // are.
 #![tactic(auto)]
 
-ghost use Rattle.std.specs.Prelude.{◌≡◌, ◌+◌, ◌*◌, ◌≤◌, ◌<◌, take};
+ghost use Rattle.std.specs.Prelude.{true, false, ◌≡◌, ◌+◌, ◌*◌, ◌≤◌, ◌<◌, take, MatchResult};
 ghost use Rattle.math.specs.Bits.{bit};
 ghost use Rattle.math.specs.Lists.{has};
 ghost use Rattle.point_slices.specs.Slices.{points_of};
@@ -14,13 +14,6 @@ ghost use Rattle.point_index.specs.Laws.Looking.{Askable, Addable, Ends, Adds};
 
 use point_slices::{number_at, point_at, put};
 use points::Point;
-
-// Where a look-up ended: whether at the point itself, and the link.
-#[derive(Clone, Copy)]
-pub struct Spot {
-    pub held: bool,
-    pub link: usize,
-}
 
 // A hash of a point, of its halves. A leaf function on points, kept beside the tree; `permutation_symmetry::guesses`
 // hashes clauses by it.
@@ -47,45 +40,54 @@ fn child_of(heads: usize, j: usize, x: Point, d: u32) -> usize
     ensures { result ≡ child_of heads j (bit x d) }
 {
     let first = heads + 2 * j;
-    let side = points::member(x, d);
-    if side { first + 1 } else { first }
+    if points::member(x, d) {
+        first + 1
+    } else {
+        first
+    }
 }
 
-// Looks x up among the first k points: at most n + 1 comparisons.
-pub fn find(n: u32, points: &[u64], links: &[u32], heads: usize, k: usize, x: Point) -> Spot
-    requires { Askable heads n (take k (points_of points.now)) links.now x }
-    ensures { Ends heads n (take k (points_of points.now)) links.now x result.held result.link }
-{
-    let mut link = head_of(x, heads);
-    let mut depth = 0;
-    let mut value = number_at(links, link);
-    while value != 0 {
-        let j = value as usize - 1;
-        let y = point_at(points, j);
-        let equal = points::same(x, y);
-        if equal {
-            return Spot {
-                held: true,
-                link: link,
-            };
+// An index of the first `count` points of a slice: the links, and how many of them are heads.
+#[derive(Clone, Copy)]
+pub struct Index<'a> {
+    pub heads: usize,
+    pub points: &'a [u64],
+    pub links: &'a [u32],
+    pub count: usize,
+}
+
+impl Index<'_> {
+    // Looks up x, a point of n digits as those of the index are: the link at which x stands, or else the one where it
+    // would be added. At most n + 1 comparisons; n stands in the contract alone.
+    pub fn find(self, n: u32, x: Point) -> Result<usize, usize>
+        requires { Askable self.heads n (take self.count (points_of self.points.now)) self.links.now x }
+        ensures { MatchResult result
+            (Ends self.entry.heads n (take self.entry.count (points_of self.entry.points.now)) self.entry.links.now x true)
+            (Ends self.entry.heads n (take self.entry.count (points_of self.entry.points.now)) self.entry.links.now x false) }
+    {
+        let mut link = head_of(x, self.heads);
+        let mut depth = 0;
+        let mut value = number_at(self.links, link);
+        while value != 0 {
+            let j = value as usize - 1;
+            let y = point_at(self.points, j);
+            if points::same(x, y) {
+                return Ok(link);
+            }
+            link = child_of(self.heads, j, x, depth);
+            depth += 1;
+            value = number_at(self.links, link);
         }
-        link = child_of(heads, j, x, depth);
-        depth += 1;
-        value = number_at(links, link);
+        Err(link)
     }
-    Spot {
-        held: false,
-        link: link,
-    }
-}
 
-// Whether x is among the first k points: at most n + 1 comparisons.
-pub fn contains(n: u32, points: &[u64], links: &[u32], heads: usize, k: usize, x: Point) -> bool
-    requires { Askable heads n (take k (points_of points.now)) links.now x }
-    ensures { result ≡ has x (take k (points_of points.now)) }
-{
-    let found = find(n, points, links, heads, k, x);
-    found.held
+    // Whether x is among the points: at most n + 1 comparisons.
+    pub fn contains(self, n: u32, x: Point) -> bool
+        requires { Askable self.heads n (take self.count (points_of self.points.now)) self.links.now x }
+        ensures { result ≡ has x (take self.entry.count (points_of self.entry.points.now)) }
+    {
+        self.find(n, x).is_ok()
+    }
 }
 
 // Adds x behind the first k points, where the caller stores it, and answers whether it was among them; then nothing is
@@ -94,11 +96,17 @@ pub fn add(n: u32, points: &[u64], links: &mut [u32], heads: usize, k: usize, x:
     requires { Addable heads n k (points_of points.now) links.old x }
     ensures { Adds heads n (take k (points_of points.now)) links.old x result links.new }
 {
-    let spot = find(n, points, links, heads, k, x);
-    if spot.held {
-        return true;
+    let index = Index {
+        heads,
+        points,
+        links,
+        count: k,
+    };
+    match index.find(n, x) {
+        Ok(_) => true,
+        Err(link) => {
+            put(links, link, k as u32 + 1);
+            false
+        }
     }
-    let number = k as u32 + 1;
-    put(links, spot.link, number);
-    false
 }

@@ -1,6 +1,5 @@
 -- `permutation_coverage::flip_covered` meets its contract: the flip itself is looked up, else its images. Assumes nothing.
-use Rattle.std.proofs.Common.{sym, ◌∙◌, lt_of_lt_of_le, rules}
-use Rattle.point_slices.specs.Slices.{points_of}
+use Rattle.std.proofs.Common.{sym, ◌∙◌, lt_of_lt_of_le}
 use Rattle.permutation_coverage.specs.Laws.CoverageLaws.{flip_askable, flip_found, flip-not_found}
 use Rattle.permutation_coverage.proofs.flip_covered.Goals as goal
 
@@ -9,15 +8,16 @@ flip-flipped-requires c = let pre = c.requires in lt_of_lt_of_le pre.1 pre.0.ask
 
 pub contains-requires : goal.contains-requires
 contains-requires c =
-    let pre = c.requires in let a = c.args in
-    let asked = flip_askable a.g.variables a.k (points_of a.points.now) a.g.permutations a.images.now a.x a.v pre.0.askable pre.1 _ c.flip-flipped.ensures in
-    search (rules, asked)
+    let pre = c.requires in
+    flip_askable _ _ _ c.args.permutations.count c.args.permutations.images.now _ _ pre.0.askable pre.1 _ c.flip-flipped.ensures
 
 pub returns-then-contains : goal.returns-then-contains
-returns-then-contains c = let pre = c.requires in let a = c.args in flip_found a.g.variables a.k (points_of a.points.now) a.g.permutations a.images.now a.x a.v pre.0.askable pre.1 _ c.flip-flipped.ensures _ c.contains.ensures c.if-contains.true
+returns-then-contains c =
+    let pre = c.requires in
+    c.if-contains.true ∙ flip_found _ _ _ _ _ _ _ pre.0.askable pre.1 _ c.flip-flipped.ensures _ c.contains.ensures c.if-contains.true
 
-pub image_covered-requires : goal.image_covered-requires
-image_covered-requires c = c.requires
-
-pub returns : goal.returns
-returns c = let pre = c.requires in let a = c.args in c.image_covered.ensures ∙ sym (flip-not_found a.g.variables a.k (points_of a.points.now) a.g.permutations a.images.now a.x a.v pre.0.askable pre.1 _ c.flip-flipped.ensures _ c.contains.ensures c.if-contains.false)
+pub returns-else-contains : goal.returns-else-contains
+returns-else-contains c =
+    let pre = c.requires in
+    c.image_covered.ensures
+    ∙ sym (flip-not_found _ _ _ _ _ _ _ pre.0.askable pre.1 _ c.flip-flipped.ensures _ c.contains.ensures c.if-contains.false)

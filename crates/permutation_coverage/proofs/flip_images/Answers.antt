@@ -1,6 +1,6 @@
 -- `permutation_coverage::flip_images` meets its contract: before index i the images are those of the flipped point.
 -- Assumes nothing.
-use Rattle.std.proofs.Common.{refl, ◌∙◌, rules}
+use Rattle.std.proofs.Common.{refl, ◌∙◌}
 use Rattle.permutation_coverage.specs.Laws.CoverageLaws.{flip_sends, turning_begins, turning_flips}
 use Rattle.permutation_coverage.specs.Laws.CoverageLaws.{turning_ends}
 use Rattle.permutation_coverage.proofs.flip_images.Goals as goal
@@ -10,9 +10,6 @@ loop-i-init c = (refl, turning_begins _ _ _ _ _)
 
 pub flipped_image-image-requires : goal.flipped_image-image-requires
 flipped_image-image-requires c = flip_sends c.requires.0 _ c.loop-i-test.true _ c.requires.2
-
-pub put_point-requires : goal.put_point-requires
-put_point-requires c = search rules
 
 pub loop-i-preserved : goal.loop-i-preserved
 loop-i-preserved c = (

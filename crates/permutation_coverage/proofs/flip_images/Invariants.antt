@@ -1,10 +1,8 @@
-use Rattle.std.proofs.Common.{◌≡◌, ◌-◌, ◌^◌, length}
+use Rattle.std.proofs.Common.{◌≡◌, ◌^◌, length}
 use Rattle.point_slices.specs.Slices.{points_of}
 use Rattle.permutation_coverage.specs.Laws.Coverage.{Turning}
 use Rattle.permutation_coverage.proofs.flip_images.Given as goal
 
 abbrev pub invariant-loop-i : goal.invariant-loop-i
-invariant-loop-i l = (length l.moved ≡ length l.initial.moved) × Turning l.n l.permutations-2 l.images (2 ^ l.v) (points_of l.initial.moved) l.i (points_of l.moved)
-
-abbrev pub decreases-loop-i : goal.decreases-loop-i
-decreases-loop-i l = l.permutations-2 - l.i
+invariant-loop-i l = (length l.moved ≡ length l.initial.moved)
+    × Turning l.permutations.variables l.permutations.count l.permutations.images.now (2 ^ l.v) (points_of l.initial.moved) l.i (points_of l.moved)

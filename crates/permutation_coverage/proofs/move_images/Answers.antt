@@ -1,15 +1,9 @@
 -- `permutation_coverage::move_images` meets its contract: a law of CoverageLaws for each event of the loop. Assumes
 -- nothing.
-use Rattle.std.proofs.Common.{refl, sym, ◌∙◌, le_of_eq, le_trans, lt_of_lt_of_le, rules}
+use Rattle.std.proofs.Common.{refl, sym, ◌∙◌, le_of_eq, le_trans, lt_of_lt_of_le}
 use Rattle.point_slices.specs.Laws.SliceLaws.{same_count}
 use Rattle.permutation_coverage.specs.Laws.CoverageLaws.{moving_begins, moving_less, moving_goes_on, moving_ends}
 use Rattle.permutation_coverage.proofs.move_images.Goals as goal
-
-pub differing-left-requires : goal.differing-left-requires
-differing-left-requires c = search rules
-
-pub next_variable-v-requires : goal.next_variable-v-requires
-next_variable-v-requires c = search rules
 
 pub loop-v-init : goal.loop-v-init
 loop-v-init c = (refl, moving_begins c.requires.0.few _ c.requires.2 _ _ _ _ c.requires.1 c.differing-left.ensures c.next_variable-v.ensures)
@@ -19,9 +13,6 @@ flip_images-requires c = (c.requires.0, le_trans c.requires.1.enough (le_of_eq (
 
 pub flip-left-requires : goal.flip-left-requires
 flip-left-requires c = lt_of_lt_of_le c.loop-v-test.true c.requires.0.few
-
-pub next_variable-v-requires-in-loop-v : goal.next_variable-v-requires-in-loop-v
-next_variable-v-requires-in-loop-v c = search rules
 
 pub loop-v-smaller : goal.loop-v-smaller
 loop-v-smaller c = moving_less c.requires.0.few _ c.requires.2 c.loop-v.invariant.1 _ c.loop-v-test.true c.flip-left.ensures

@@ -8,13 +8,13 @@ use Rattle.permutation_coverage.specs.Laws.CoverageLaws.{staying_none, staying_n
 use Rattle.permutation_coverage.proofs.staying_sets.Goals as goal
 
 pub loop-i-init : goal.loop-i-init
-loop-i-init c = (refl, staying_none, omega arith, omega arith)
+loop-i-init c = (refl, staying_none, omega arith)
 
-pub permutation_at-e-requires : goal.permutation_at-e-requires
-permutation_at-e-requires c = listed_room _ _ _ _ c.requires.0.listed c.loop-i-test.true
+pub at-requires : goal.at-requires
+at-requires c = listed_room _ _ _ _ c.requires.0.listed c.loop-i-test.true
 
 pub fixed-still-requires : goal.fixed-still-requires
-fixed-still-requires c = subst Movable (sym c.permutation_at-e.ensures) (listed_movable _ _ _ _ c.requires.0.listed c.loop-i-test.true)
+fixed-still-requires c = subst Movable (sym c.at.ensures) (listed_movable _ _ _ _ c.requires.0.listed c.loop-i-test.true)
 
 pub overflow_add-total : goal.overflow_add-total
 overflow_add-total c = omega arith
@@ -22,8 +22,7 @@ overflow_add-total c = omega arith
 pub loop-i-preserved : goal.loop-i-preserved
 loop-i-preserved c = (
   c.put_point.auto.points ∙ c.loop-i.invariant.0,
-  staying_next c.loop-i.invariant.1 (lt_of_lt_of_le c.loop-i-test.true (le_trans c.requires.1 (le_of_eq (sym (same_count _ _ c.loop-i.invariant.0))))) _ c.permutation_at-e.ensures c.fixed-still.ensures _ c.put_point.ensures.0,
-  omega arith,
+  staying_next c.loop-i.invariant.1 (lt_of_lt_of_le c.loop-i-test.true (le_trans c.requires.1 (le_of_eq (sym (same_count _ _ c.loop-i.invariant.0))))) _ c.at.ensures c.fixed-still.ensures _ c.put_point.ensures.0,
   omega arith,
 )
 

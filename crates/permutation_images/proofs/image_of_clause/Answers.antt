@@ -1,14 +1,8 @@
 -- `permutation_images::image_of_clause` meets its contract. Assumes nothing.
-use Rattle.std.proofs.Common.{ap₂, rules}
+use Rattle.std.proofs.Common.{ap₂}
 use Rattle.points.specs.Points.{Clause}
 use Rattle.permutation_theory.specs.Permutations.{image_of_clause}
 use Rattle.permutation_images.proofs.image_of_clause.Goals as goal
-
-pub image_of_set-requires : goal.image_of_set-requires
-image_of_set-requires c = search rules
-
-pub image_of_set-requires-2 : goal.image_of_set-requires-2
-image_of_set-requires-2 c = search rules
 
 pub returns : goal.returns
 unfolding image_of_clause

@@ -1,10 +1,6 @@
 -- `permutation_images::image_of_point` meets its contract. Assumes nothing.
-use Rattle.std.proofs.Common.{rules}
 use Rattle.permutation_theory.specs.Permutations.{image_of_point}
 use Rattle.permutation_images.proofs.image_of_point.Goals as goal
-
-pub moved-requires : goal.moved-requires
-moved-requires c = search rules
 
 pub returns : goal.returns
 unfolding image_of_point

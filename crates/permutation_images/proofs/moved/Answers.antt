@@ -1,8 +1,8 @@
 -- `permutation_images::moved` meets its contract: a law of SetLaws for each event of the loop, and at most eight turns.
 -- Assumes nothing.
 use Rattle.std.proofs.Common.{ap, sym, ◌∙◌, le_of_lt, lt_of_lt_of_le, arith, bit_or}
-use Rattle.math.specs.Laws.ListLaws.{get_d_in}
 use Rattle.points.specs.Laws.NextLaws.{digits_few}
+use Rattle.permutation_images.specs.Laws.LoopLaws.{movable_at}
 use Rattle.permutation_images.specs.Laws.SetLaws.{sending_begins, sending_less, sending_goes_on}
 use Rattle.permutation_images.specs.Laws.SetLaws.{sending_rest, sending_ends}
 use Rattle.permutation_images.proofs.moved.Goals as goal
@@ -29,13 +29,13 @@ returns-then-taken-ge-SINGLE c =
 
 -- the number read is that of a digit of a point
 pub overflow_sub-image : goal.overflow_sub-image
-overflow_sub-image c = (c.requires.within _ (get_d_in c.args.e.now c.loop-v.v 0 c.loop-v-test.true)).0
+overflow_sub-image c = (movable_at c.requires c.loop-v.v c.loop-v-test.true).0
 
 pub overflow_cast-image-in-loop-v : goal.overflow_cast-image-in-loop-v
-overflow_cast-image-in-loop-v c = let h = c.requires.within _ (get_d_in c.args.e.now c.loop-v.v 0 c.loop-v-test.true) in omega (arith, digits_few)
+overflow_cast-image-in-loop-v c = let h = movable_at c.requires c.loop-v.v c.loop-v-test.true in omega (arith, digits_few)
 
 pub with_variable-r-requires : goal.with_variable-r-requires
-with_variable-r-requires c = let h = c.requires.within _ (get_d_in c.args.e.now c.loop-v.v 0 c.loop-v-test.true) in omega arith
+with_variable-r-requires c = let h = movable_at c.requires c.loop-v.v c.loop-v-test.true in omega arith
 
 pub flip-left-requires : goal.flip-left-requires
 flip-left-requires c = lt_of_lt_of_le c.loop-v-test.true c.requires.size

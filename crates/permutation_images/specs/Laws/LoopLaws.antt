@@ -15,7 +15,7 @@ use Rattle.math.specs.Laws.ListLaws.{here, get_d_in, and_split, and_join, same_t
 use Rattle.math.specs.Lists.{◌∈◌, all, first_failing, Distinct, distinct_nil, distinct_cons}
 use Rattle.math.specs.Laws.ScanLaws.{on_from, failing_begins, failing_ends, failing_stops, failing_goes_on}
 use Rattle.math.specs.Laws.SetLaws.{bit_other}
-use Rattle.points.specs.Points.{Clause, numbered_from, numbered}
+use Rattle.points.specs.Points.{Clause, numbered_from, numbered, point_digits}
 use Rattle.permutation_images.specs.Laws.Contracts.{fresh, Movable, Listed}
 use Rattle.permutation_theory.specs.Laws.PermutationLaws.{is_permutation_sound, is_permutation_complete}
 use Rattle.permutation_theory.specs.Laws.PermutationLaws.{permutation_within, permutation_distinct, permutation_of}
@@ -188,6 +188,11 @@ unfolding keeps
 keeps-numbered cs e = ap (λ l. all (image_among l e) l) (clauses_in-numbered 1 cs)
 
 -- ---- the i-th of the listed permutations
+
+-- each number is that of a digit of a point
+pub movable_at : {es : List ℕ} → Movable es → (i : ℕ) → i < length es
+    → (1 ≤ get_or es i 0) × (get_or es i 0 ≤ point_digits)
+movable_at {es} m i lt = m.within _ (get_d_in es i 0 lt)
 
 -- what stands past the last: no matter, since nothing looks there
 abbrev pub no_permutation : Permutation

@@ -1,9 +1,9 @@
--- `permutation_coverage::change_images` meets its contract: before index i the images are those of the point that differs.
+-- `permutation_coverage::far_images` meets its contract: before index i the images are those of the point that differs.
 -- Assumes nothing.
 use Rattle.std.proofs.Common.{refl, ◌∙◌}
 use Rattle.permutation_coverage.specs.Laws.CoverageLaws.{staying_at, turning_begins, turning_changes}
 use Rattle.permutation_coverage.specs.Laws.CoverageLaws.{turning_ends}
-use Rattle.permutation_coverage.proofs.change_images.Goals as goal
+use Rattle.permutation_coverage.proofs.far_images.Goals as goal
 
 pub loop-i-init : goal.loop-i-init
 loop-i-init c = (refl, turning_begins _ _ _ _ _)
