@@ -1,13 +1,12 @@
 // Numbers in bytes: the fields of the contents and, F4, one function for each body, which takes that part of the file.
 ghost use Rattle.std.specs.Prelude.{◌≡◌, ◌+◌, ◌*◌, ◌^◌, ◌≤◌, ◌<◌, length, get_or, take, drop};
 ghost use Rattle.math.specs.Lists.{over};
-ghost use Rattle.certificate.specs.Laws.Contracts.{no_entry};
 ghost use Rattle.point_slices.specs.Slices.{points_of, rest_of};
 ghost use Rattle.certificate.specs.Bytes.{number_from, numbers_in, point_width, number_width, field_width};
 ghost use Rattle.certificate.specs.Certificate.{contents_length, number_at};
 ghost use Rattle.certificate.specs.Contract.{EntryIs, ImageRead, PointRead, NumberRead};
 
-use crate::{Entry, FIELD, NUMBER, POINT};
+use crate::{FIELD, NUMBER, POINT};
 use point_slices::put_point;
 
 // C1: the number that at most eight bytes stand for, low byte first. One step a byte. Its callers hand in parts of 4 or
@@ -16,13 +15,9 @@ fn number_from(bytes: &[u8]) -> u64
     requires { length bytes.now ≤ 8 }
     ensures { (result ≡ number_from bytes.now) × (result < 256 ^ length bytes.now) }
 {
-    let mut r: u64 = 0;
-    let mut i = bytes.len();
-    while 0 < i {
-        i -= 1;
-        let byte = bytes[i] as u64;
-        let higher = r * 256;
-        r = higher + byte;
+    let mut r = 0;
+    for &byte in bytes.iter().rev() {
+        r = r * 256 + byte as u64;
     }
     r
 }
@@ -34,8 +29,7 @@ fn entry(bytes: &[u8], width: usize, i: usize) -> u64
     ensures { (result ≡ number_from (take width (drop (i * width) bytes.now))) × (result < 256 ^ width) }
 {
     let start = i * width;
-    let end = start + width;
-    number_from(&bytes[start..end])
+    number_from(&bytes[start..start + width])
 }
 
 // C1: the 32-bit number of index i of the contents; `read` sees to it that all eight are there.
@@ -43,71 +37,43 @@ pub fn field(file: &[u8], i: usize) -> u32
     requires { (i < 8) × (contents_length ≤ length file.now) }
     ensures { result ≡ get_or (numbers_in field_width 8 file.now) i 0 }
 {
-    let x = entry(file, FIELD, i);
-    x as u32
-}
-
-// The answer that an index lies outside a body.
-fn outside() -> Entry
-    ensures { result ≡ no_entry }
-{
-    Entry {
-        inside: false,
-        value: 0,
-    }
+    entry(file, FIELD, i) as u32
 }
 
 // The number of index i of those that a body holds whole, 1 to 8 bytes each.
-fn entry_at(body: &[u8], width: usize, i: usize) -> Entry
+fn entry_at(body: &[u8], width: usize, i: usize) -> Option<u64>
     requires { (1 ≤ width) × (width ≤ 8) }
     ensures { EntryIs (number_at width body.now i) result }
 {
-    let whole = body.len() / width;
-    if i < whole {
-        let x = entry(body, width, i);
-        Entry {
-            inside: true,
-            value: x,
-        }
+    if i < body.len() / width {
+        Some(entry(body, width, i))
     } else {
-        outside()
+        None
     }
 }
 
 // C3, F4: the point of index i of the body of points.
-pub fn point_at(body: &[u8], i: usize) -> Entry
+pub fn point_at(body: &[u8], i: usize) -> Option<u64>
     ensures { PointRead body.now i result }
 {
     entry_at(body, POINT, i)
 }
 
 // C3, F4: the clause number of index i of the body of clause numbers.
-pub fn number_at(body: &[u8], i: usize) -> Entry
+pub fn number_at(body: &[u8], i: usize) -> Option<u64>
     ensures { NumberRead body.now i result }
 {
     entry_at(body, NUMBER, i)
 }
 
 // C3, F4: where the permutation of index j of the body of permutations sends variable i + 1.
-pub fn image_at(body: &[u8], n: usize, j: usize, i: usize) -> Entry
+pub fn image_at(body: &[u8], n: usize, j: usize, i: usize) -> Option<u64>
     ensures { ImageRead n body.now j i result }
 {
-    if n <= i {
-        return outside();
+    if n <= i || body.len() <= i || (body.len() - i - 1) / n < j {
+        return None;
     }
-    if body.len() <= i {
-        return outside();
-    }
-    let last = body.len() - i - 1;
-    if last / n < j {
-        return outside();
-    }
-    let at = j * n + i;
-    let value = body[at] as u64;
-    Entry {
-        inside: true,
-        value,
-    }
+    Some(body[j * n + i] as u64)
 }
 
 // Copies the first `count` points of a body into a slice of points. Eight steps a point. Its callers see to the room.
@@ -117,11 +83,8 @@ pub fn points_into(to: &mut [u64], body: &[u8], count: usize)
         ≡ over (numbers_in point_width count body.now) (points_of to.old))
         × (rest_of to.new ≡ rest_of to.old) }
 {
-    let mut i = 0;
-    while i < count {
-        let x = entry(body, POINT, i);
-        put_point(to, i, x);
-        i += 1;
+    for i in 0..count {
+        put_point(to, i, entry(body, POINT, i));
     }
 }
 
@@ -130,10 +93,7 @@ pub fn numbers_into(to: &mut [u32], body: &[u8], count: usize)
     requires { (count ≤ length to.old) × (count * number_width ≤ length body.now) }
     ensures { to.new ≡ over (numbers_in number_width count body.now) to.old }
 {
-    let mut i = 0;
-    while i < count {
-        let x = entry(body, NUMBER, i);
-        to[i] = x as u32;
-        i += 1;
+    for i in 0..count {
+        to[i] = entry(body, NUMBER, i) as u32;
     }
 }

@@ -7,6 +7,7 @@ ghost use Rattle.certificate.specs.Certificate.{contents_length, contents_of, fi
 ghost use Rattle.certificate.specs.Contract.{contents_in, OpenedAs};
 
 use crate::bodies::field;
+use formula::reasons::{Reason, Refusal};
 
 pub mod bodies;
 
@@ -21,20 +22,6 @@ pub struct Contents {
     pub points_at: u32,
     pub numbers: u32,
     pub numbers_at: u32,
-}
-
-// The reader of a file without checking it: its contents, or a refusal.
-#[derive(Clone, Copy)]
-pub enum Opened {
-    File(Contents),
-    Refused { code: u32, place: usize },
-}
-
-// Whether an index lies in a body, and the entry there (an image, a point or a clause number), 0 where it does not.
-#[derive(Clone, Copy)]
-pub struct Entry {
-    pub inside: bool,
-    pub value: u64,
 }
 
 // How many bytes the contents take, a number in them, a point and a clause number.
@@ -69,54 +56,39 @@ fn in_order(c: Contents, size: usize) -> bool
     requires { contents_length ≤ size }
     ensures { result ≡ fitting (contents_in c) size }
 {
-    let first = c.permutations_at as usize;
+    let images = c.permutations as usize * c.variables as usize;
+    let points = c.points as usize * POINT;
     let second = c.points_at as usize;
     let third = c.numbers_at as usize;
-    if first != CONTENTS {
+    if c.permutations_at as usize != CONTENTS
+        || c.points != c.numbers
+        || size - CONTENTS < images
+        || second != CONTENTS + images
+        || size - second < points
+        || third != second + points
+    {
         return false;
     }
-    if c.points != c.numbers {
-        return false;
-    }
-    let left = size - CONTENTS;
-    let images = (c.permutations as usize) * (c.variables as usize);
-    if left < images {
-        return false;
-    }
-    if second != CONTENTS + images {
-        return false;
-    }
-    let behind = left - images;
-    let points = (c.points as usize) * POINT;
-    if behind < points {
-        return false;
-    }
-    if third != second + points {
-        return false;
-    }
-    let numbers = (c.numbers as usize) * NUMBER;
-    behind - points == numbers
+    size - third == c.numbers as usize * NUMBER
 }
 
 // N7, R14: reads a file's contents without checking what its bodies hold; refusal 14 has the file's length as its
 // place.
-pub fn read(file: &[u8]) -> Opened
+pub fn read(file: &[u8]) -> Result<Contents, Refusal>
     ensures { OpenedAs file.now result }
 {
     let size = file.len();
+    let refusal = Refusal {
+        reason: Reason::CertificateFile,
+        place: size,
+    };
     if size < CONTENTS {
-        return Opened::Refused {
-            code: 14,
-            place: size,
-        };
+        return Err(refusal);
     }
     let c = contents_from(file);
     if in_order(c, size) {
-        Opened::File(c)
+        Ok(c)
     } else {
-        Opened::Refused {
-            code: 14,
-            place: size,
-        }
+        Err(refusal)
     }
 }

@@ -2,16 +2,17 @@
 // with the index, the writer does not; the search indexes the slots that it has filled by the same loop.
 #![tactic(auto)]
 
-ghost use Rattle.std.specs.Prelude.{◌≡◌};
+ghost use Rattle.std.specs.Prelude.{◌≡◌, ◌*◌, ◌/◌, ◌≤◌, ◌<◌, IfSome};
+ghost use Rattle.math.specs.Lists.{place_of};
 ghost use Rattle.point_slices.specs.Slices.{points_of};
 ghost use Rattle.formula.specs.Limits.{max_slots};
 ghost use Rattle.formula.specs.Refusals.{fault_of};
 ghost use Rattle.certificate.specs.Rows.{points_fault};
 ghost use Rattle.check_distinct.specs.Laws.Indexing.{Growable, Grows, Indexable, Sifts, Refuses, Counted};
-ghost use Rattle.check_distinct.specs.Laws.Indexing.{tiny_points, few_points, many_points};
 
-use formula::{Checked, Formula};
-use point_slices::{point_at, point_count};
+use formula::Formula;
+use formula::reasons::{Reason, Refusal};
+use point_slices::point_at;
 
 // Whether the point at index i has no bit at n or above and equals none of the i before it, of which the links are an
 // index; if so it is added. At most n + 1 comparisons.
@@ -20,30 +21,35 @@ fn point_enters(n: u32, points: &[u64], links: &mut [u32], heads: usize, i: usiz
     ensures { Grows heads n i (points_of points.now) result links.new }
 {
     let x = point_at(points, i);
-    let small = points::below(x, n);
-    if small {
-        let repeated = point_index::add(n, points, links, heads, i, x);
-        return !repeated;
-    }
-    false
+    points::below(x, n) && !point_index::add(n, points, links, heads, i, x)
 }
 
-// The number, from 1, of the first of `count` points that fails; 0 if all pass, and then the links are an index of
-// them. At most count · (n + 1) comparisons.
-pub fn index_points(n: u32, points: &[u64], links: &mut [u32], heads: usize, count: usize) -> usize
+// The index of the first of `count` points that fails; none if all pass, and then the links are an index of them. At
+// most count · (n + 1) comparisons.
+pub fn index_points(
+    n: u32,
+    points: &[u64],
+    links: &mut [u32],
+    heads: usize,
+    count: usize,
+) -> Option<usize>
     requires { Indexable heads n count (points_of points.now) links.old }
-    ensures { Sifts heads n count (points_of points.now) result links.new }
+    ensures sifts { Sifts heads n count (points_of points.now) (place_of result) links.new }
+    ensures inside { IfSome result (λ i. i < count) }
 {
-    let mut i = 0;
-    while i < count {
-        let fine = point_enters(n, points, links, heads, i);
-        if !fine {
-            return i + 1;
+    for i in 0..count {
+        if !point_enters(n, points, links, heads, i) {
+            return Some(i);
         }
-        i += 1;
     }
-    0
+    None
 }
+
+// Refusal 16 of a bad count: it has no place.
+const BAD_COUNT: Refusal = Refusal {
+    reason: Reason::CertificatePoints,
+    place: 0,
+};
 
 // R16: refusal 16, of the first `count` points, of which at most `limit` are allowed. Where it finds nothing the links,
 // all 0 before, are an index of the points.
@@ -54,21 +60,19 @@ pub fn points_refusal(
     heads: usize,
     count: usize,
     limit: usize,
-) -> Checked
+) -> Result<(), Refusal>
     requires { Indexable heads n count (points_of points.now) links.old }
     ensures { Refuses heads n count limit (points_of points.now) (fault_of result) links.new }
 {
-    if count < 1 {
-        return Checked::Refused { code: 16, place: 0 };
+    if count < 1 || limit < count {
+        return Err(BAD_COUNT);
     }
-    if limit < count {
-        return Checked::Refused { code: 16, place: 0 };
-    }
-    let k = index_points(n, points, links, heads, count);
-    if k == 0 {
-        Checked::Passed
-    } else {
-        Checked::Refused { code: 16, place: k }
+    match index_points(n, points, links, heads, count) {
+        None => Ok(()),
+        Some(i) => Err(Refusal {
+            reason: Reason::CertificatePoints,
+            place: i + 1,
+        }),
     }
 }
 
@@ -81,61 +85,47 @@ pub const MANY_POINTS: usize = 8192;
 
 pub const MOST_POINTS: usize = Formula::MAX_SLOTS as usize;
 
-// The same of at most `TINY_POINTS` points, with links of its own: 768 bytes of the stack.
-fn tiny_refusal(n: u32, points: &[u64], count: usize, limit: usize) -> Checked
-    requires { Counted tiny_points n count (points_of points.now) }
-    ensures { fault_of result ≡ points_fault limit n count (points_of points.now) }
-{
-    let mut links = [0u32; 3 * TINY_POINTS];
-    points_refusal(n, points, &mut links, TINY_POINTS, count, limit)
-}
+// How many links an index of so many points has, a third of them heads.
+pub const TINY_LINKS: usize = 3 * TINY_POINTS;
 
-// The same of at most `FEW_POINTS` points: 12 KiB of the stack.
-fn few_refusal(n: u32, points: &[u64], count: usize, limit: usize) -> Checked
-    requires { Counted few_points n count (points_of points.now) }
-    ensures { fault_of result ≡ points_fault limit n count (points_of points.now) }
-{
-    let mut links = [0u32; 3 * FEW_POINTS];
-    points_refusal(n, points, &mut links, FEW_POINTS, count, limit)
-}
+pub const FEW_LINKS: usize = 3 * FEW_POINTS;
 
-// The same of at most `MANY_POINTS` points: 96 KiB of the stack.
-fn many_refusal(n: u32, points: &[u64], count: usize, limit: usize) -> Checked
-    requires { Counted many_points n count (points_of points.now) }
-    ensures { fault_of result ≡ points_fault limit n count (points_of points.now) }
-{
-    let mut links = [0u32; 3 * MANY_POINTS];
-    points_refusal(n, points, &mut links, MANY_POINTS, count, limit)
-}
+pub const MANY_LINKS: usize = 3 * MANY_POINTS;
 
-// The same of as many points as there can be: 768 KiB of the stack.
-fn most_refusal(n: u32, points: &[u64], count: usize, limit: usize) -> Checked
-    requires { Counted max_slots n count (points_of points.now) }
+pub const MOST_LINKS: usize = 3 * MOST_POINTS;
+
+// The same with links of its own, a third of them heads, for a third as many points at most. The stack holds them while
+// it runs, and no longer.
+#[inline(never)]
+fn linked_refusal<const LINKS: usize>(
+    n: u32,
+    points: &[u64],
+    count: usize,
+    limit: usize,
+) -> Result<(), Refusal>
+    requires { (3 ≤ LINKS) × (LINKS ≤ 3 * max_slots) × Counted (LINKS / 3) n count (points_of points.now) }
     ensures { fault_of result ≡ points_fault limit n count (points_of points.now) }
 {
-    let mut links = [0u32; 3 * MOST_POINTS];
-    points_refusal(n, points, &mut links, MOST_POINTS, count, limit)
+    let mut links = [0u32; LINKS];
+    points_refusal(n, points, &mut links, LINKS / 3, count, limit)
 }
 
 // R16: refusal 16 for callers that need no index after it: at most count · (n + 1) comparisons. The array suits the
-// count, since each of its links is made 0 first. The limit allows no more points than there are, so it never calls
-// itself: the call keeps the arrays out of this function and its callers, whose frames are then small.
-pub fn local_refusal(n: u32, points: &[u64], count: usize, limit: usize) -> Checked
+// count, since each of its links is made 0 first: it takes from 768 bytes to 768 KiB of the stack.
+pub fn local_refusal(n: u32, points: &[u64], count: usize, limit: usize) -> Result<(), Refusal>
     requires { Counted max_slots n limit (points_of points.now) }
     ensures { fault_of result ≡ points_fault limit n count (points_of points.now) }
 {
     if limit < count {
-        return Checked::Refused { code: 16, place: 0 };
+        return Err(BAD_COUNT);
     }
     if count <= TINY_POINTS {
-        tiny_refusal(n, points, count, limit)
+        linked_refusal::<{ TINY_LINKS }>(n, points, count, limit)
     } else if count <= FEW_POINTS {
-        few_refusal(n, points, count, limit)
+        linked_refusal::<{ FEW_LINKS }>(n, points, count, limit)
     } else if count <= MANY_POINTS {
-        many_refusal(n, points, count, limit)
-    } else if count <= point_count(points) {
-        most_refusal(n, points, count, limit)
+        linked_refusal::<{ MANY_LINKS }>(n, points, count, limit)
     } else {
-        local_refusal(n, points, count, limit)
+        linked_refusal::<{ MOST_LINKS }>(n, points, count, limit)
     }
 }

@@ -1,2 +1,3 @@
 -- Laws, and what functions inside the library promise each other: no contract of an entry point cites any of it.
+pub mod Contracts
 pub mod FalsifiedLaws

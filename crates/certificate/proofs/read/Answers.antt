@@ -1,5 +1,5 @@
 -- `certificate::read` meets its contract: a law of ReaderLaws for each way out. Assumes nothing.
-use Rattle.std.proofs.Common.{sym, ap, ◌∙◌, length, rules}
+use Rattle.std.proofs.Common.{sym, ap, ◌∙◌, length}
 use Rattle.certificate.specs.Certificate.{FileContents, fitting}
 use Rattle.certificate.specs.Laws.CertificateLaws.{short_file, long_file}
 use Rattle.certificate.specs.Laws.ReaderLaws.{opens, refuses}
@@ -7,12 +7,6 @@ use Rattle.certificate.proofs.read.Goals as goal
 
 pub returns-then-size-lt-CONTENTS : goal.returns-then-size-lt-CONTENTS
 returns-then-size-lt-CONTENTS c = let a = c.args in refuses a.file.now (short_file a.file.now c.if-size-lt-CONTENTS.true)
-
-pub contents_from-c-requires : goal.contents_from-c-requires
-contents_from-c-requires c = search rules
-
-pub in_order-requires : goal.in_order-requires
-in_order-requires c = search rules
 
 pub returns-then-in_order : goal.returns-then-in_order
 returns-then-in_order c =

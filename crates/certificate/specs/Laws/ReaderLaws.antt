@@ -1,14 +1,13 @@
 -- Laws of the readers: where an entry lies, what is answered to a file, and that the entries of a well-formed file's
 -- bodies are its reading. Assumes nothing.
-use Rattle.std.specs.Prelude.{Bool, true, false, cond, List, ◌≡◌, ℕ, ◌+◌, ◌-◌, ◌*◌, ◌/◌, ◌≤◌, ◌<◌, get_or, drop}
-use Rattle.std.proofs.Common.{true≢false, sym, ◌∙◌, zero-lt-suc, arith, length-take-le, get_or-take}
-use Rattle.std.proofs.Math.Option.{Option, some, none}
+use Rattle.std.specs.Prelude.{Ok, Err, Bool, true, false, cond, List, ◌≡◌, ℕ, ◌+◌, ◌-◌, ◌*◌, ◌/◌, ◌≤◌, ◌<◌, get_or, drop}
+use Rattle.std.proofs.Common.{sym, ◌∙◌, zero-lt-suc, arith, length-take-le, get_or-take}
+use Rattle.std.proofs.Math.Option.{some, none}
 use Rattle.std.proofs.Math.Path.{ap}
 use Rattle.std.proofs.Math.Nat.{mul-div_cancel}
 use Rattle.std.proofs.Math.ListN.{length, get_elem?, take, length-take, length-drop}
 use Rattle.std.proofs.Math.Seq.{get_or-drop}
 use Rattle.math.specs.Laws.PartLaws.{index_some, index_none}
-use Rattle.certificate.specs.Laws.Contracts.{no_entry}
 use Rattle.permutation_theory.specs.Permutations.{Permutation}
 use Rattle.formula.specs.Reply.{no_fault, fault, opened, unless}
 use Rattle.certificate.specs.Bytes.{number_from, numbers_in, permutation_width, point_width, number_width}
@@ -17,19 +16,9 @@ use Rattle.certificate.specs.Certificate.{contents_of, WellFormed, well_formed, 
 use Rattle.certificate.specs.Certificate.{numbers_body, file_permutations, file_points, file_numbers, number_at}
 use Rattle.certificate.specs.Certificate.{image_at}
 use Rattle.certificate.specs.Reader.{opened_reply, opened_contents}
-use Rattle.certificate.specs.Contract.{reply_of_opened, contents_in, handed_out, OpenedAs, entry_of, EntryIs}
-use Rattle.certificate.specs.declared.Entry.{Entry}
+use Rattle.certificate.specs.Contract.{reply_of_opened, contents_in, handed_out, OpenedAs}
 use Rattle.certificate.specs.declared.Contents.{Contents}
-use Rattle.certificate.specs.declared.Opened.TheVariants.{File, Refused}
-
--- ---- an entry, or none
-
-pub holds_some : {entry : Option ℕ} (x : ℕ) → entry ≡ some x → EntryIs entry (record { inside = true; value = x })
-holds_some x e = record { held = sym e; none_is_zero = λ h. absurd (true≢false h) }
-
-pub holds_none : {entry : Option ℕ} {r : Entry} → r ≡ no_entry → entry ≡ none → EntryIs entry r
-holds_none e h =
-    record { held = ap entry_of e ∙ sym h; none_is_zero = λ _. ap (λ (r : Entry). r.value) e }
+use Rattle.formula.specs.declared.reasons.Reason.TheVariants.{CertificateFile}
 
 -- ---- where a number of a body lies
 
@@ -66,7 +55,7 @@ module _ (n : ℕ) (body : List ℕ) (j i : ℕ) where
 -- ---- the reply
 
 pub opens : (file : List ℕ) (c : Contents) → well_formed file ≡ true → contents_in c ≡ contents_of file
-    → OpenedAs file (File c)
+    → OpenedAs file (Ok c)
 unfolding opened_reply opened_contents handed_out reply_of_opened
 opens file c h e =
     record {
@@ -74,7 +63,7 @@ opens file c h e =
       contents = ap some e ∙ ap (λ (b : Bool). cond b (some (contents_of file)) none) (sym h);
     }
 
-pub refuses : (file : List ℕ) → well_formed file ≡ false → OpenedAs file (Refused 14 (length file))
+pub refuses : (file : List ℕ) → well_formed file ≡ false → OpenedAs file (Err (record { reason = CertificateFile; place = length file }))
 unfolding opened_reply opened_contents handed_out reply_of_opened
 refuses file h =
     record {

@@ -1,11 +1,8 @@
 -- `certificate::bodies::numbers_into` meets its contract: before index i the first i are copied. Assumes nothing.
 use Rattle.std.proofs.Common.{rules}
-use Rattle.certificate.specs.Laws.BytesLaws.{decoding_begins, decoding_whole, decoding_goes_on}
+use Rattle.certificate.specs.Laws.BytesLaws.{decoding_begins, decoding_goes_on}
 use Rattle.certificate.specs.Laws.BytesLaws.{decoding_ends}
 use Rattle.certificate.proofs.bodies.numbers_into.Goals as goal
-
-pub entry-x-requires : goal.entry-x-requires
-entry-x-requires c = search (rules, decoding_whole)
 
 pub loop-i-init : goal.loop-i-init
 loop-i-init c = search (rules, decoding_begins)

@@ -1,10 +1,6 @@
-use Rattle.std.proofs.Common.{◌-◌}
 use Rattle.certificate.specs.Bytes.{number_width}
 use Rattle.certificate.specs.Laws.BytesLaws.{Decoding}
 use Rattle.certificate.proofs.bodies.numbers_into.Given as goal
 
 abbrev pub invariant-loop-i : goal.invariant-loop-i
 invariant-loop-i l = Decoding number_width l.count l.body l.initial.to l.i l.to
-
-abbrev pub decreases-loop-i : goal.decreases-loop-i
-decreases-loop-i l = l.count - l.i

