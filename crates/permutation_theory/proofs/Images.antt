@@ -1,6 +1,6 @@
 -- What a permutation of the variables does to points and clauses: these facts are all that the theory knows of images.
 -- Assumes nothing.
-use Rattle.std.specs.Prelude.{Bool, true, false, [], ◌∷◌, map, ◌↔◌, ◌≡◌, refl, ℕ, suc, ◌-◌, ◌<◌, ◌^◌, get_or}
+use Rattle.std.specs.Prelude.{Bool, true, false, [], ◌∷◌, map, ◌↔◌, ◌≡◌, refl, ℕ, suc, ◌<◌, ◌^◌, get_or}
 use Rattle.std.proofs.Math.Bool.{xor}
 use Rattle.std.proofs.Math.Path.{sym, ap₂}
 use Rattle.std.proofs.Common.{ap, ◌∙◌, subst, arith}

@@ -1,6 +1,6 @@
 -- `formula::room::room` meets its contract: the smallest of four numbers, in another order. Assumes nothing.
 use Rattle.std.proofs.Common.{arith}
-use Rattle.formula.specs.Limits.{max_slots, capacity}
+use Rattle.formula.specs.Limits.{capacity}
 use Rattle.formula.proofs.room.room.Goals as goal
 
 pub returns : goal.returns
