@@ -84,7 +84,6 @@ answers_same {clauses₀ = clauses₀} {clauses₁} {r} e a = subst (λ t. Parse
 
 -- a target that is none is 0
 wanted_or : (o : Answer ℕ) → unwrap_or o 0 ≡ get_or (wanted_of o) 0
-unfolding get_or
 wanted_or (Some x) = refl
 wanted_or None = refl
 
