@@ -6,7 +6,8 @@ use Rattle.formula.specs.Limits.{max_slots}
 use Rattle.formula.specs.Reply.{Fault, first}
 use Rattle.certificate.specs.Bytes.{numbers_in, point_width, number_width}
 use Rattle.certificate.specs.Rows.{points_fault, numbers_fault}
-use Rattle.permutation_coverage.specs.declared.Lookup.{Lookup}
+use Rattle.permutation_images.specs.declared.Permutations.{Permutations}
+use Rattle.check_entries.specs.declared.Bodies.{Bodies}
 use Rattle.check_distinct.specs.Laws.Indexing.{Indexable, Links}
 use Rattle.check_flips.specs.Flips.{flips_fault}
 use Rattle.check_flips.specs.Laws.Loops.{Proper}
@@ -22,19 +23,22 @@ entries_fault n permutations images clauses points falsified count =
     lists_fault n (numbered clauses) (permutations_in n permutations images)
     (numbers_in point_width count points) (numbers_in number_width count falsified)
 
--- there are `count` points, and links that are all 0 with room for them
-pub record Ready (g : Lookup) (images : List ℕ) (clauses : List Clause) (points links : List ℕ) (count : ℕ) : Type 0
-  where
-    pub given : Proper g.variables g.permutations images clauses
-    pub indexable : Indexable g.heads g.variables count points links
+-- the same, of the entries that a value of the code's type lends
+abbrev pub bodies_fault : Permutations → List Clause → Bodies → Fault
+bodies_fault g clauses b = entries_fault g.variables g.count g.images.now clauses b.points.now b.falsified.now b.count
 
--- the bodies hold `count` entries, and no more than fit the arrays
-pub record Decodable (n permutations : ℕ) (images : List ℕ) (clauses : List Clause) (points falsified : List ℕ)
-    (count limit : ℕ) : Type 0 where
-  pub given : Proper n permutations images clauses
-  pub most : count ≤ limit
-  pub points_long : count * point_width ≤ length points
-  pub numbers_long : count * number_width ≤ length falsified
+-- there are `count` points, and links that are all 0 with room for them
+pub record Ready (g : Permutations) (clauses : List Clause) (heads : ℕ) (points links : List ℕ) (count : ℕ) : Type 0
+  where
+    pub given : Proper g.variables g.count g.images.now clauses
+    pub indexable : Indexable heads g.variables count points links
+
+-- the bodies hold the entries, and no more than fit the arrays
+pub record Decodable (g : Permutations) (clauses : List Clause) (b : Bodies) (limit : ℕ) : Type 0 where
+  pub given : Proper g.variables g.count g.images.now clauses
+  pub most : b.count ≤ limit
+  pub points_long : b.count * point_width ≤ length b.points.now
+  pub numbers_long : b.count * number_width ≤ length b.falsified.now
 
 -- slices for so many points, their numbers, and links of so many heads
 pub record Lent (heads count : ℕ) (held named links : List ℕ) : Type 0 where

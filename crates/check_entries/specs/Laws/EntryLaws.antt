@@ -1,10 +1,11 @@
 -- Laws of the rows 16, 17 and 18 of the first entries of two slices, of entries copied to an array, and of arrays of
 -- zeros. Assumes nothing.
-use Rattle.std.specs.Prelude.{true, List, ◌≡◌, ℕ, ◌≤◌, ◌<◌, length, take, replicate}
+use Rattle.std.specs.Prelude.{true, List, ◌≡◌, ℕ, ◌≤◌, length, take, replicate}
 use Rattle.std.proofs.Common.{sym, ap, ◌∙◌, le_of_eq, le_trans, le_refl, arith, length-take-le}
 use Rattle.std.proofs.lemmas.List.{length-replicate}
 use Rattle.point_slices.specs.Laws.SliceLaws.{points_blank}
-use Rattle.permutation_coverage.specs.declared.Lookup.{Lookup}
+use Rattle.permutation_images.specs.declared.Permutations.{Permutations}
+use Rattle.check_entries.specs.declared.Bodies.{Bodies}
 use Rattle.point_slices.specs.Slices.{points_of}
 use Rattle.math.specs.Lists.{over}
 use Rattle.math.specs.Laws.PartLaws.{over-front}
@@ -19,8 +20,7 @@ use Rattle.certificate.specs.Laws.RowLaws.{points_fault-take, numbers_fault-take
 use Rattle.certificate.specs.Rows.{points_fault, numbers_fault}
 use Rattle.check_flips.proofs.FlipLaws.{flips_fault-take}
 use Rattle.check_flips.specs.Flips.{flips_fault}
-use Rattle.check_flips.specs.Laws.Loops.{Testable}
-use Rattle.check_distinct.specs.Laws.Indexing.{Refuses, suits}
+use Rattle.check_distinct.specs.Laws.Indexing.{suits}
 use Rattle.check_distinct.specs.Laws.IndexingLaws.{zeros_links, links_indexable}
 use Rattle.check_entries.specs.Laws.Entries.{lists_fault, Ready, Decodable, Lent}
 
@@ -72,10 +72,9 @@ copied w count body old new e = ap (take count) e
 -- ---- what rows 16 and 18 are handed
 
 -- the first entries, copied to a slice as long as the one lent, can be indexed
-pub lent_ready : {g : Lookup} {images : List ℕ} {clauses : List Clause} {points falsified held named links : List ℕ}
-    {count limit : ℕ} → Decodable g.variables g.permutations images clauses points falsified count limit
-    → Lent g.heads count held named links → (filled : List ℕ) → length filled ≡ length held
-    → Ready g images clauses filled links count
+pub lent_ready : {g : Permutations} {clauses : List Clause} {b : Bodies} {heads limit : ℕ} {held named links : List ℕ}
+    → Decodable g clauses b limit → Lent heads b.count held named links → (filled : List ℕ)
+    → length filled ≡ length held → Ready g clauses heads filled links b.count
 lent_ready d l filled same =
     let long = l.held_long in
     record {
@@ -83,14 +82,6 @@ lent_ready d l filled same =
       indexable = links_indexable l.linked
           (record { few = d.given.few; enough = omega arith; most = le_refl _ });
     }
-
--- where row 16 finds nothing it has left an index of the points
-pub ready_testable : {g : Lookup} {images : List ℕ} {clauses : List Clause} {points links : List ℕ} {count : ℕ}
-    → Ready g images clauses points links count → {f : Fault} {links' : List ℕ}
-    → Refuses g.heads g.variables count max_slots points f links' → f ≡ no_fault
-    → Testable g images clauses points links' count
-ready_testable r w e =
-    record { given = r.given; enough = r.indexable.enough; indexed = w.full e }
 
 -- ---- arrays of zeros
 
@@ -113,9 +104,8 @@ zeros-lent heads limit k count h few =
     }
 
 -- how many entries there may be is of no account once there are no more
-pub decodable_within : {n permutations : ℕ} {images : List ℕ} {clauses : List Clause} {points falsified : List ℕ}
-    {count limit : ℕ} → Decodable n permutations images clauses points falsified count limit → limit ≤ max_slots
-    → Decodable n permutations images clauses points falsified count max_slots
+pub decodable_within : {g : Permutations} {clauses : List Clause} {b : Bodies} {limit : ℕ}
+    → Decodable g clauses b limit → limit ≤ max_slots → Decodable g clauses b max_slots
 decodable_within d few =
     record {
       given = d.given;
@@ -123,9 +113,3 @@ decodable_within d few =
       points_long = d.points_long;
       numbers_long = d.numbers_long;
     }
-
--- each number takes a byte at least
-pub numbers_fill : {n permutations : ℕ} {images : List ℕ} {clauses : List Clause} {points falsified : List ℕ}
-    {count limit : ℕ} → Decodable n permutations images clauses points falsified count limit
-    → length falsified < count → ⊥
-numbers_fill d short = let long = d.numbers_long in omega arith
