@@ -7,8 +7,8 @@ ghost use Rattle.math.specs.Bits.{bit};
 ghost use Rattle.math.specs.Lists.{below};
 ghost use Rattle.points.specs.Laws.Contracts.{clause_of};
 ghost use Rattle.points.specs.Points.{Clause, listed};
-ghost use Rattle.point_slices.specs.Laws.Contracts.{lent_clauses};
-ghost use Rattle.permutation_theory.specs.Permutations.{permutations_in};
+ghost use Rattle.point_slices.specs.Laws.Contracts.{clauses_lent};
+ghost use Rattle.permutation_images.specs.Laws.Contracts.{permutations_of};
 ghost use Rattle.formula.specs.Limits.{max_variables};
 ghost use Rattle.text_output.specs.Decimal.{line_end};
 ghost use Rattle.text_output.specs.Laws.Putting.{places_end, Put};
@@ -18,8 +18,8 @@ ghost use Rattle.dimacs_text.specs.Laws.LengthLaws.{longest_clause};
 ghost use Rattle.dimacs_output.specs.Laws.LiteralPutting.{signed, longest_literal};
 ghost use Rattle.dimacs_output.specs.Laws.LinePutting.{longest_images, ListedWithin, AllPermutations};
 
-use permutation_images::permutation_at;
-use point_slices::{clause_at, clause_count};
+use permutation_images::Permutations;
+use point_slices::Clauses;
 use points::{Clause, Point};
 use text_output::{put_byte, put_field, put_text};
 
@@ -76,16 +76,14 @@ fn put_clause(out: &mut [u8], at: usize, n: u32, c: Clause) -> usize
 }
 
 // Q02.2: "then a line a rule": puts the lines of all clauses. One step a clause and one a variable that it lists.
-pub fn put_clauses(out: &mut [u8], at: usize, n: u32, positive: &[u64], negative: &[u64]) -> usize
-    requires { (n ≤ max_variables) × ListedWithin n (lent_clauses positive.now negative.now)
-        × (at + length (lent_clauses positive.now negative.now) * longest_clause ≤ places_end) }
-    ensures { Put at (flat_map (clause_part n) (lent_clauses positive.now negative.now))
-        out.old result out.new }
+pub fn put_clauses(out: &mut [u8], at: usize, n: u32, clauses: Clauses<'_>) -> usize
+    requires { (n ≤ max_variables) × ListedWithin n (clauses_lent clauses)
+        × (at + length (clauses_lent clauses) * longest_clause ≤ places_end) }
+    ensures { Put at (flat_map (clause_part n) (clauses_lent clauses.entry)) out.old result out.new }
 {
     let mut place = at;
-    for i in 0..clause_count(positive, negative) {
-        let c = clause_at(positive, negative, i);
-        place = put_clause(out, place, n, c);
+    for i in 0..clauses.count() {
+        place = put_clause(out, place, n, clauses.at(i));
     }
     place
 }
@@ -127,23 +125,16 @@ fn put_permutation(out: &mut [u8], at: usize, e: &[u8]) -> usize
 }
 
 // Puts the lines of all permutations. One step an image. Refusal 11 sees to what it requires.
-pub fn put_permutations(
-    out: &mut [u8],
-    at: usize,
-    n: u32,
-    permutations: u32,
-    images: &[u8],
-) -> usize
-    requires { (1 ≤ n) × (n ≤ max_variables) × (permutations * n ≤ length images.now)
-        × AllPermutations n (permutations_in n permutations images.now)
-        × (at + permutations * longest_images ≤ places_end) }
-    ensures { Put at (flat_map permutation_part (permutations_in n permutations images.now))
-        out.old result out.new }
+pub fn put_permutations(out: &mut [u8], at: usize, permutations: Permutations<'_>) -> usize
+    requires { (1 ≤ permutations.variables) × (permutations.variables ≤ max_variables)
+        × (permutations.count * permutations.variables ≤ length permutations.images.now)
+        × AllPermutations permutations.variables (permutations_of permutations)
+        × (at + permutations.count * longest_images ≤ places_end) }
+    ensures { Put at (flat_map permutation_part (permutations_of permutations.entry)) out.old result out.new }
 {
     let mut place = at;
-    for i in 0..permutations as usize {
-        let e = permutation_at(n as usize, images, i);
-        place = put_permutation(out, place, e);
+    for i in 0..permutations.count as usize {
+        place = put_permutation(out, place, permutations.at(i));
     }
     place
 }

@@ -3,15 +3,15 @@
 use Rattle.std.proofs.Common.{sym, ap, ◌∙◌}
 use Rattle.formula.specs.Laws.RefusalLaws.{too_short, long_enough}
 use Rattle.formula.specs.Refusals.{room_fault}
-use Rattle.point_slices.specs.Slices.{clause_slices}
-use Rattle.formula.specs.Laws.Contracts.{formula_with}
+use Rattle.point_slices.specs.Slices.{slices_lent}
+use Rattle.formula.specs.Laws.Contracts.{formula_lent}
 use Rattle.dimacs_writer.specs.Laws.WritingLaws.{room_longest}
 use Rattle.dimacs_writer.proofs.room_refusal.Goals as goal
 
 pub returns-then-lent-ge-LONGEST : goal.returns-then-lent-ge-LONGEST
 returns-then-lent-ge-LONGEST c =
     let a = c.args in
-    room_longest (formula_with a.f a.images.now) (clause_slices a.positive.now a.negative.now) c.requires a.lent c.if-lent-ge-LONGEST.true
+    room_longest (formula_lent a.f) (slices_lent a.clauses) c.requires a.lent c.if-lent-ge-LONGEST.true
 
 pub sheet_length-needed-requires : goal.sheet_length-needed-requires
 sheet_length-needed-requires c = c.requires

@@ -1,7 +1,7 @@
 -- Two calls: what the writer left in the output is handed to the reader, and what that gave is written again. Assumes
 -- nothing.
 use mathlib.Core.List.{List, [], ◌∷◌}
-use Rattle.std.specs.Prelude.{◌≡◌, refl, drop}
+use Rattle.std.specs.Prelude.{Result, Ok, ◌≡◌, refl, drop}
 use Rattle.std.proofs.Math.Path.{sym, ap, ap₂, subst}
 use Rattle.std.proofs.Common.{◌∙◌, le_trans, le_of_eq, arith}
 use Prim.Native.Nat.{ℕ, ◌≤◌}
@@ -12,6 +12,7 @@ use Rattle.point_slices.specs.Slices.{ClauseSlices, clause_room, first_clauses}
 use Rattle.formula.specs.declared.Formula.{Formula}
 use Rattle.formula.specs.Laws.RefusalLaws.{long_enough}
 use Rattle.formula.specs.Laws.ReplyLaws.{first_split, answers-rest}
+use Rattle.formula.specs.declared.reasons.Refusal.{Refusal}
 use Rattle.formula.specs.Refusals.{formula_fault, room_fault}
 use Rattle.formula.specs.Reply.{refused, written, Fault, no_fault, fault, first, unless, unless_kept}
 use Rattle.dimacs_format.specs.Laws.Handed.{Handed, accepted_handed}
@@ -19,14 +20,11 @@ use Rattle.dimacs_format.specs.Reader.{read_reply, read_formula, read_clauses}
 use Rattle.dimacs_format.specs.Text.{max_text}
 use Rattle.dimacs_lines.specs.declared.Parsed.{Parsed}
 use Rattle.dimacs.specs.Contract.{Read}
-use Rattle.certificate_writer.specs.Contract.{reply_of_written}
-use Rattle.certificate_writer.specs.declared.Written.{Written}
-use Rattle.certificate_writer.specs.declared.Written.TheVariants.{Bytes}
 use Rattle.dimacs_text.specs.ReadBack.{unused_zero, ReadsBack}
 use Rattle.dimacs_text.specs.SheetText.{text_of}
 use Rattle.dimacs_text.specs.Writer.{text_fault, text_reply, text_output}
 use Rattle.dimacs_text.proofs.RoundTrip.{reads_back, text_again}
-use Rattle.dimacs_writer.specs.Contract.{WroteSheet}
+use Rattle.dimacs_writer.specs.Contract.{reply_of_written, WroteSheet}
 use Rattle.dimacs_writer.specs.SentBack.{SentBack}
 use Rattle.dimacs_writer.specs.Laws.Writing.{eleven_of}
 
@@ -41,7 +39,7 @@ unless_written (fault code place) k size e = absurd (other e)
     other e = let z : ◌≡◌ {A = ℕ} 0 1 = cc in omega arith
 
 module _ (f : Formula) (clauses : ClauseSlices) (out : List ℕ) (size : ℕ) (after : List ℕ)
-    (wrote : WroteSheet f clauses out (Bytes size) after) where
+    (wrote : WroteSheet f clauses out (Ok size) after) where
   answered : (text_fault f clauses (length out) ≡ no_fault) × (size ≡ length (text_of f clauses))
   unfolding text_reply reply_of_written
   answered = unless_written (text_fault f clauses (length out)) (length (text_of f clauses)) size wrote.reply
@@ -115,7 +113,7 @@ module _ (f : Formula) (clauses : ClauseSlices) (out : List ℕ) (size : ℕ) (a
             (answers-rest no_fault row19 [] (long_enough needed lent (le_trans (le_of_eq same_size) enough)) refl)))
 
         -- so that it is written as the same text: written twice is the same
-        pub written_again : (answer : Written) (after₂ : List ℕ)
+        pub written_again : (answer : Result ℕ Refusal) (after₂ : List ℕ)
             → WroteSheet r.formula (first_clauses f.clauses slices₁) out₂ answer after₂
             → (reply_of_written answer ≡ written size) × (take size after₂ ≡ take size after)
         unfolding text_reply text_output over

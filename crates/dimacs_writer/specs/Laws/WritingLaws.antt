@@ -1,6 +1,6 @@
 -- Laws of the writer: the room for each part of a text, and one law for each way out. Assumes nothing.
 use mathlib.Core.List.{List, [], ◌∷◌, ◌++◌, flat_map}
-use Rattle.std.specs.Prelude.{◌≡◌, ℕ, ◌+◌, ◌*◌, ◌≤◌, length}
+use Rattle.std.specs.Prelude.{Result, Ok, Err, ◌≡◌, ℕ, ◌+◌, ◌*◌, ◌≤◌, length}
 use Rattle.std.proofs.Math.Path.{sym, ap}
 use Rattle.std.proofs.Common.{◌∙◌, le_trans, arith}
 use Rattle.std.specs.Int.Bits.{or_lt}
@@ -9,13 +9,12 @@ use Rattle.permutation_theory.specs.Permutations.{Permutation, permutations_in}
 use Rattle.permutation_images.specs.Laws.LoopLaws.{length-permutations}
 use Rattle.point_slices.specs.Slices.{ClauseSlices, clauses_of}
 use Rattle.formula.specs.declared.Formula.{Formula}
-use Rattle.formula.specs.declared.Checked.{Checked}
-use Rattle.formula.specs.declared.Checked.TheVariants.{Passed, Refused as Faulty}
+use Rattle.formula.specs.declared.reasons.Refusal.{Refusal}
 use Rattle.formula.specs.Laws.RefusalLaws.{formula_passes, permutation_passes, passes_few, images_room, fits_count}
 use Rattle.formula.specs.Laws.RefusalLaws.{long_enough, room_passes}
 use Rattle.formula.specs.Laws.ReplyLaws.{IsFault, answers-first, answers-rest, first_last, first_split}
 use Rattle.formula.specs.Limits.{max_variables, max_clauses, max_permutations, max_images}
-use Rattle.formula.specs.Refusals.{formula_fault, room_fault, fault_of}
+use Rattle.formula.specs.Refusals.{formula_fault, room_fault, refusal_fault}
 use Rattle.formula.specs.Reply.{Fault, no_fault, fault, first, written}
 use Rattle.dimacs_format.specs.Text.{ascii}
 use Rattle.text_output.specs.Decimal.{line, line_end}
@@ -28,9 +27,7 @@ use Rattle.dimacs_text.specs.Laws.LengthLaws.{problem-length, target_length, per
 use Rattle.dimacs_text.specs.Laws.LengthLaws.{longest_sheet}
 use Rattle.dimacs_text.proofs.ClauseLines.{sheet-length}
 use Rattle.dimacs_output.specs.Laws.LinePutting.{longest_images, ListedWithin, AllPermutations}
-use Rattle.certificate_writer.specs.Contract.{reply_of_written}
-use Rattle.certificate_writer.specs.declared.Written.TheVariants.{Bytes, Refused}
-use Rattle.dimacs_writer.specs.Contract.{WroteSheet}
+use Rattle.dimacs_writer.specs.Contract.{reply_of_written, WroteSheet}
 use Rattle.dimacs_writer.specs.Laws.Writing.{eleven_of, Writable}
 
 module _ (f : Formula) (clauses : ClauseSlices) where
@@ -156,16 +153,14 @@ module _ (f : Formula) (clauses : ClauseSlices) where
 
   module _ (out : List ℕ) where
     -- N1: "Every row leaves all lent slices unchanged"
-    pub wrote_faulty : (r : Checked) → fault_of r ≡ text_fault f clauses (length out) → (code place : ℕ)
-        → r ≡ Faulty code place → WroteSheet f clauses out (Refused code place) out
+    pub wrote_faulty : (r : Refusal) → refusal_fault r ≡ text_fault f clauses (length out)
+        → WroteSheet f clauses out (Err r) out
     unfolding text_reply text_output text_fault reply_of_written
-    wrote_faulty r tested code place e =
-        let h : text_fault f clauses (length out) ≡ fault code place = sym tested ∙ ap fault_of e in
-        record { reply = rw h; output = rw h }
+    wrote_faulty r tested = record { reply = rw (sym tested); output = rw (sym tested) }
 
-    module _ (r : Checked) (tested : fault_of r ≡ text_fault f clauses (length out)) (e : r ≡ Passed) where
+    module _ (passed : no_fault ≡ text_fault f clauses (length out)) where
       nothing_found : text_fault f clauses (length out) ≡ no_fault
-      nothing_found = sym tested ∙ ap fault_of e
+      nothing_found = sym passed
 
       past_10 : (formula_fault f clauses ≡ no_fault) × (first (past10 (length out)) ≡ no_fault)
       unfolding text_fault
@@ -182,7 +177,7 @@ module _ (f : Formula) (clauses : ClauseSlices) where
       room = room_passes (length (text_of f clauses)) (length out) (sym (first_last (row19 (length out))) ∙ past_11.1)
 
       pub wrote_all : {size : ℕ} {after : List ℕ} → Put 0 (text_of f clauses) out size after
-          → WroteSheet f clauses out (Bytes size) after
+          → WroteSheet f clauses out (Ok size) after
       unfolding text_reply text_output text_fault reply_of_written
       wrote_all {size} {after} p =
           let w = put_over (text_of f clauses) out size after room p in
