@@ -1,7 +1,7 @@
 -- The code answers by a `Result`: a step that may refuse. Assumes nothing.
 use Rattle.std.specs.Prelude.{◌≡◌, Result, Ok, Err, MatchResult, IfOk}
-use Rattle.std.proofs.Math.Path.{refl, ap}
-use Rattle.std.proofs.Common.{subst}
+use Rattle.std.proofs.Math.Path.{refl, sym, ap}
+use Rattle.std.proofs.Common.{◌∙◌, subst}
 use Rattle.formula.specs.declared.reasons.Refusal.{Refusal}
 use Rattle.formula.specs.Reasons.{code_of}
 use Rattle.dimacs_format.specs.Reader.{Step, and_then, goes, refuses}
@@ -50,3 +50,37 @@ module _ {V : Type 0} where
   pub of_both : {P Q : V → Type 0} (a : Result V Refusal) → ((v : V) → P v → Q v) → IfOk a P → IfOk a Q
   of_both (Ok v) f h = f v h
   of_both (Err r) f h = tt
+
+-- ---- an answer whose value says nothing, with a value beside it
+
+module _ {V S : Type 0} where
+  -- the step that an answer is, with the value beside it
+  abbrev pub step_to : Result V Refusal → S → Step S
+  step_to a s = step_then a (λ v. goes s)
+
+-- what holds where the answer is no refusal
+abbrev pub WherePassed : {V : Type 0} → Result V Refusal → Type 0 → Type 0
+WherePassed a A = IfOk a (λ v. A)
+
+module _ {V S T : Type 0} where
+  pub then_passed : (a : Result V Refusal) (s : S) (k : S → Step T) {v : V} → a ≡ Ok v → and_then (step_to a s) k ≡ k s
+  unfolding and_then
+  then_passed a s k e = ap (λ b. and_then (step_to b s) k) e
+
+  pub then_refused : (a : Result V Refusal) (r : Refusal) (s : S) (t : T) (k : S → Step T) → a ≡ Err r
+      → and_then (step_to a s) k ≡ step_to a t
+  unfolding and_then
+  then_refused a r s t k e = ap (λ b. and_then (step_to b s) k) e ∙ sym (ap (λ b. step_to b t) e)
+
+module _ {V : Type 0} where
+  pub where_told : (A : Type 0) {a : Result V Refusal} {v : V} → a ≡ Ok v → WherePassed a A → A
+  where_told A = told (λ v. A)
+
+  pub where_passed : {A : Type 0} (a : Result V Refusal) → A → WherePassed a A
+  where_passed a h = of_any a (λ v. h)
+
+  pub where_refused : (A : Type 0) {a : Result V Refusal} {r : Refusal} → a ≡ Err r → WherePassed a A
+  where_refused A e = subst (λ x. WherePassed x A) (sym e) tt
+
+  pub where_both : {A B : Type 0} (a : Result V Refusal) → (A → B) → WherePassed a A → WherePassed a B
+  where_both a f = of_both a (λ v. f)

@@ -1,12 +1,12 @@
 -- `dimacs_permutations::next_image` meets its contract: one law for each way out. Assumes nothing.
-use Rattle.std.proofs.Common.{eq-eqb, ne_eqb}
+use Rattle.std.proofs.Common.{inr, eq-eqb, ne_eqb}
 use Rattle.dimacs_format.specs.Text.{ends_line}
-use Rattle.dimacs_permutations.specs.Laws.PermutationScanLaws.{digits_malformed, digits-over, digits_last, digits_parted}
+use Rattle.dimacs_permutations.specs.Laws.PermutationScanLaws.{digits_absent, digits-over, digits_last, digits_parted}
 use Rattle.dimacs_permutations.proofs.next_image.Goals as goal
 
 pub returns-in_err-value : goal.returns-in_err-value
 returns-in_err-value c =
-    rw c.from_residual.ensures (digits_malformed c.args.n c.args.bytes.now _ _ c.run_end-from.ensures c.in_err-value.ensures)
+    rw c.from_residual.ensures (digits_absent c.args.n c.args.bytes.now _ _ c.run_end-from.ensures c.in_err-value.ensures)
 
 pub returns-then-bytes-to : goal.returns-then-bytes-to
 returns-then-bytes-to c =
@@ -15,7 +15,7 @@ returns-then-bytes-to c =
 pub returns-then-bytes-to-eq10 : goal.returns-then-bytes-to-eq10
 unfolding ends_line
 returns-then-bytes-to-eq10 c =
-    digits-over c.args.n c.args.bytes.now _ _ c.run_end-from.ensures c.in_ok-value.field-0 c.in_ok-value.ensures c.if-bytes-to.false (eq-eqb _ _ c.if-bytes-to-eq10.true)
+    inr (digits-over c.args.n c.args.bytes.now _ _ c.run_end-from.ensures c.in_ok-value.field-0 c.in_ok-value.ensures c.if-bytes-to.false (eq-eqb _ _ c.if-bytes-to-eq10.true))
 
 pub returns : goal.returns
 unfolding ends_line

@@ -8,7 +8,7 @@ use Rattle.std.proofs.Math.Nat.{suc-mul}
 use native.Mathlib.Omega.{arith}
 use Rattle.std.proofs.Math.ListN.{take, drop, replicate}
 use Rattle.std.proofs.Math.Seq.{take-nil}
-use Rattle.permutation_images.specs.Laws.LoopLaws.{length-permutations, flat_map_permutations}
+use Rattle.permutation_images.specs.Laws.LoopLaws.{length-permutations, part_ends, flat_map_permutations}
 use Rattle.permutation_theory.specs.Permutations.{Permutation, permutations_in}
 use Rattle.formula.specs.Limits.{max_variables, max_permutations, max_images}
 use Rattle.formula.specs.declared.reasons.Reason.TheVariants.{PermutationLine}
@@ -63,6 +63,10 @@ unfolding images_of
 images-take n k bytes = flat_map_permutations n k bytes
 
 -- ---- a permutation line
+
+-- the permutations fit into their bytes
+pub images_room : (n k : ℕ) → n ≤ max_variables → k < max_permutations → k * n + n ≤ max_images
+images_room n k few lt = let a = part_ends k max_permutations n lt in omega arith
 
 -- a line before the seventeenth
 line_kept : (n place : ℕ) (bytes : List ℕ) (k : ℕ) (old : List ℕ) → k < max_permutations → (o : Option Permutation)

@@ -1,24 +1,25 @@
 -- Laws of reading a permutation line by position. Assumes nothing.
-use Rattle.std.specs.Prelude.{Bool, ◌≡◌, ℕ, ◌+◌, ◌-◌, ◌≤◌, ◌<◌, ltb, get_or, set}
+use Rattle.std.specs.Prelude.{Bool, ◌≡◌, ℕ, ◌+◌, ◌-◌, ◌≤◌, ◌<◌, eqb, ltb, get_or, set}
 use Rattle.std.proofs.Math.Bool.{true, false, cond}
-use Rattle.std.proofs.Common.{true≢false, ◌∙◌, subst, zero-le, le_refl, zero-add, add-one, length-drop, take-suc-set, length-take-le}
+use Rattle.std.proofs.Common.{true≢false, ◌∙◌, subst, zero-le, le_refl, le_trans, zero-add, add-one, length-drop, take-suc-set, length-take-le}
 use mathlib.Core.List.Memᴰ
 use mathlib.Core.List.{List, [], ◌∷◌, ◌++◌, append-nil}
-use Rattle.std.proofs.Common.{◌⊎◌, inl, inr}
+use Rattle.std.proofs.Common.{inl, inr}
 use Rattle.dimacs_format.specs.Laws.StepLaws.{not_some}
 use Rattle.std.specs.Prelude.{Option as Answer, Some, None}
 use Rattle.std.proofs.Math.Option.{Option, some, none}
 use Rattle.std.proofs.Math.Path.{refl, sym, ap, ap₂}
 use Rattle.std.proofs.Math.Nat.{add-sub_cancel_left, le_of_eq}
 use native.Mathlib.Omega.{arith}
-use Rattle.std.proofs.Math.ListN.{length, take, drop, drop_of_length-le, length-append}
+use Rattle.std.proofs.Math.ListN.{length, take, drop, drop_of_length-le, length-append, length-set}
 use Rattle.std.proofs.Math.Decide.{dec_lt}
 use Rattle.std.proofs.Math.Seq.{take-nil, take_all, append_snoc, take_at, drop_at, drop-drop}
-use borrow.Author.Tests.{ne_eqb, eqb-true, eqb-false, ltb-true, ltb-false, not-false}
+use borrow.Author.Tests.{eq-eqb, ne_eqb, eqb-true, eqb-false, ltb-true, ltb-false, not-false}
 use Rattle.math.specs.Laws.ListLaws.{not-true-false}
 use Rattle.math.specs.Lists.{◌∈◌}
 use Rattle.permutation_theory.specs.Laws.PermutationLaws.{is_permutation_sound, permutation_within}
 use Rattle.permutation_theory.specs.Permutations.{Permutation, is_permutation}
+use Rattle.formula.specs.Limits.{max_variables}
 use Rattle.dimacs_words.specs.declared.Class.TheVariants.{Blank, Word}
 use Rattle.dimacs_words.specs.declared.Word.{Word as WordValue}
 use Rattle.dimacs_permutations.specs.declared.Image.{Image}
@@ -100,26 +101,22 @@ module _ (n : ℕ) (bytes : List ℕ) (at from : ℕ) (run : Stretch (belongs Bl
         let later = there.later in
         (omega arith, there.within, le, first e)
 
-  -- less than n numbers and nothing behind them, or what spoils any permutation
-  no_number : (numbers_from bytes at ≡ some []) ⊎ Spoiled n (numbers_from bytes at) → Imaging n bytes at None
-  unfolding prepended
-  no_number (inl e) xs few =
-      ap (λ o. permuting n (prepended xs o)) e
-      ∙ spoiled_size n (xs ++ []) (λ s. let z : ⊥ = omega (arith, s, ap length (append-nil xs)) in z)
-  no_number (inr spoiled) xs few = spoiled xs
-
   -- the same, of digits: those that go up to a line's end, or are malformed, are no number
   bad_word : from < length bytes
       → (e : ℕ) × Stretch (belongs Word) bytes from e × (number_in (take (e - from) (drop from bytes)) ≡ none)
-      → Imaging n bytes at None
-  bad_word inside w = no_number (inr (image_bad w.0 w.1 inside w.2))
+      → Spoiled n (numbers_from bytes at)
+  bad_word inside w = image_bad w.0 w.1 inside w.2
 
-  pub digits_malformed : DigitsRead bytes false from None → Imaging n bytes at None
-  digits_malformed read = by (dec_lt from (length bytes))
+  pub digits_malformed : from < length bytes → DigitsRead bytes false from None → Spoiled n (numbers_from bytes at)
+  digits_malformed inside read = bad_word inside (plain_malformed read.1)
+
+  -- where no digits are read, none may be left
+  pub digits_absent : DigitsRead bytes false from None → Imaging n bytes at None
+  digits_absent read = by (dec_lt from (length bytes))
     where
       by : Dec (from < length bytes) → Imaging n bytes at None
-      by (yes inside) = bad_word inside (plain_malformed read.1)
-      by (no outside) = no_number (inl (images_end (omega arith)))
+      by (yes inside) = inr (digits_malformed inside read)
+      by (no outside) = inl (images_end (omega arith))
 
   module _ (w : WordValue) (digits : DigitsRead bytes false from (Some w)) where
     -- a word that is a number has digits
@@ -132,7 +129,7 @@ module _ (n : ℕ) (bytes : List ℕ) (at from : ℕ) (run : Stretch (belongs Bl
             absurd (not_some (sym (ap (λ l. number_in (take (w.next.at - from) l)) (drop_of_length-le bytes (omega arith))
             ∙ ap number_in (take-nil (w.next.at - from)) ∙ none_empty) ∙ plain_number w.negated w.value digits))
 
-    pub digits-over : w.next.at < length bytes → ends_line (get_or bytes w.next.at 0) ≡ true → Imaging n bytes at None
+    pub digits-over : w.next.at < length bytes → ends_line (get_or bytes w.next.at 0) ≡ true → Spoiled n (numbers_from bytes at)
     digits-over lt e = bad_word inside (plain_spoilt digits lt e)
 
     -- the number is taken, and the next is looked for behind nothing but blanks
@@ -144,8 +141,8 @@ module _ (n : ℕ) (bytes : List ℕ) (at from : ℕ) (run : Stretch (belongs Bl
         by : (b : Bool) → ltb n w.value ≡ b
             → Imaging n bytes at (cond b None (Some (record { value = w.value; next = record { at = next } })))
         by true t =
-            no_number (inr (image_above w.next.at (plain_word digits ends) inside w.value
-            (plain_number w.negated w.value digits) (ltb-true n w.value t)))
+            inr (image_above w.next.at (plain_word digits ends) inside w.value
+            (plain_number w.negated w.value digits) (ltb-true n w.value t))
         by false t =
             let i = image_next w.next.at (plain_word digits ends) inside w.value
             (plain_number w.negated w.value digits) (ltb-false n w.value t) in
@@ -170,11 +167,15 @@ module _ (n : ℕ) (bytes : List ℕ) (at from : ℕ) (run : Stretch (belongs Bl
 
 -- ---- the loop over the numbers
 
-module _ (n : ℕ) (bytes part : List ℕ) where
-  pub collect_begins : Collecting n bytes part 0 0
+module _ (n : ℕ) (bytes part₀ : List ℕ) where
+  pub collect_begins : n ≤ max_variables → length part₀ ≡ n → Collecting n bytes part₀ part₀ 0 0
   unfolding prepended
-  collect_begins =
+  collect_begins few size =
       record {
+        few = few;
+        size = size;
+        kept = refl;
+        front = zero-le;
         within = zero-le;
         left = whole (numbers_in (spelled (words 0 bytes)))
             ∙ ap (λ j. prepended [] (numbers_in (spelled (words j bytes)))) (sym (zero-add 0));
@@ -184,55 +185,93 @@ module _ (n : ℕ) (bytes part : List ℕ) where
       whole none = refl
       whole (some vs) = refl
 
-  module _ (j at : ℕ) (c : Collecting n bytes part j at) where
-    pub collect_stops : (after : List ℕ) → Imaging n bytes at None → j < length part → length part ≡ n
-        → Storing n bytes after false
-    collect_stops after k lt size = ap (permuting n) c.left ∙ k (take j part) (omega (arith, length-take-le j part (omega arith)))
+  module _ (part : List ℕ) (j at : ℕ) (c : Collecting n bytes part₀ part j at) where
+    filled : length (take j part) ≡ j
+    filled = length-take-le j part (let a = c.front in let b = c.size in omega arith)
 
-    pub collect_goes_on : (i : Image) → Imaging n bytes at (Some i) → j < length part
-        → Collecting n bytes (set part j i.value) (j + 1) i.next.at
-    unfolding prepended both_numbers
-    collect_goes_on i found room =
-        record {
-          within = found.1;
-          left = c.left ∙ ap (prepended (take j part)) found.3 ∙ by (numbers_from bytes i.next.at);
-        }
-      where
-        by : (o : Option (List ℕ)) → prepended (take j part) (both_numbers (some i.value) o)
-            ≡ prepended (take (j + 1) (set part j i.value)) o
-        by none = refl
-        by (some vs) =
-            ap some (sym (append_snoc (take j part) i.value vs)
-            ∙ ap (λ l. l ++ vs) (sym (take-suc-set part j i.value room)
-            ∙ ap (λ k. take k (set part j i.value)) (sym (add-one j))))
+    -- nothing is left
+    pub collect_ends : numbers_from bytes at ≡ some [] → (b : Bool) → eqb j (length part) ≡ b → Storing n bytes part b
+    unfolding prepended
+    collect_ends e true t =
+        let past : length part ≤ j = le_of_eq (sym (eqb-true j (length part) t)) in
+        c.left ∙ ap (prepended (take j part)) e
+        ∙ ap some (append-nil (take j part) ∙ take_all j part past)
+    collect_ends e false t =
+        ap (permuting n) (c.left ∙ ap (prepended (take j part)) e)
+        ∙ spoiled_size n (take j part ++ [])
+        (λ s. eqb-false j (length part) t (sym filled ∙ ap length (sym (append-nil (take j part))) ∙ s ∙ sym c.size))
+
+    -- what is left makes no permutation
+    pub collect_stops : Spoiled n (numbers_from bytes at) → Storing n bytes part false
+    collect_stops e = ap (permuting n) c.left ∙ e (take j part)
+
+    -- no number where one has its place
+    pub collect_short : (after : List ℕ) → Imaging n bytes at None → j < length part → Storing n bytes after false
+    collect_short after (inl e) lt = collect_ends e false (ne_eqb j (length part) (λ s. let z : ⊥ = omega arith in z))
+    collect_short after (inr e) lt = collect_stops e
+
+    module _ (i : Image) (found : Imaging n bytes at (Some i)) where
+      pub image_small : i.value ≤ max_variables
+      image_small = le_trans found.2 c.few
+
+      pub image_later : (at < i.next.at) × (i.next.at ≤ length bytes)
+      image_later = (found.0, found.1)
+
+      -- a number behind the last place
+      pub collect_full : length part ≤ j → Storing n bytes part false
+      unfolding prepended both_numbers permuting
+      collect_full full =
+          ap (permuting n) (c.left ∙ ap (prepended (take j part)) found.3) ∙ by (numbers_from bytes i.next.at)
+        where
+          by : (o : Option (List ℕ)) → permuting n (prepended (take j part) (both_numbers (some i.value) o)) ≡ none
+          by none = refl
+          by (some vs) =
+              spoiled_size n (take j part ++ i.value ∷ vs)
+              (λ s. let a = c.size in let b : ⊥ = omega (arith, filled, s, length-append (take j part) (i.value ∷ vs)) in b)
+
+      pub collect_goes_on : j < length part → Collecting n bytes part₀ (set part j i.value) (j + 1) i.next.at
+      unfolding prepended both_numbers
+      collect_goes_on room =
+          record {
+            few = c.few;
+            size = length-set part j i.value ∙ c.size;
+            kept = length-set part j i.value ∙ c.kept;
+            front = let a = c.size in omega arith;
+            within = found.1;
+            left = c.left ∙ ap (prepended (take j part)) found.3 ∙ by (numbers_from bytes i.next.at);
+          }
+        where
+          by : (o : Option (List ℕ)) → prepended (take j part) (both_numbers (some i.value) o)
+              ≡ prepended (take (j + 1) (set part j i.value)) o
+          by none = refl
+          by (some vs) =
+              ap some (sym (append_snoc (take j part) i.value vs)
+              ∙ ap (λ l. l ++ vs) (sym (take-suc-set part j i.value room)
+              ∙ ap (λ k. take k (set part j i.value)) (sym (add-one j))))
 
     -- behind n numbers only blanks may follow
-    module _ (full : length part ≤ j) (size : length part ≡ n) where
-      all_taken : numbers_in (spelled (words 0 bytes)) ≡ prepended part (numbers_from bytes at)
-      all_taken = c.left ∙ ap (λ xs. prepended xs (numbers_from bytes at)) (take_all j part full)
-
-      pub collect_ends : (b : Bool) → b ≡ all_blank (drop at bytes) → Storing n bytes part b
-      unfolding prepended both_numbers permuting
-      collect_ends true e =
-          let blanks = blanks_from bytes c.within in
-          let end : blanks.0 ≡ length bytes = eqb-true blanks.0 (length bytes) (blanks.2 ∙ sym e) in
-          all_taken ∙ ap (prepended part) (images_end n bytes at blanks.0 blanks.1 (le_of_eq (sym end)))
-          ∙ ap some (append-nil part)
-      collect_ends false e =
-          let blanks = blanks_from bytes c.within in
-          let ne : blanks.0 ≡ length bytes → ⊥ = eqb-false blanks.0 (length bytes) (blanks.2 ∙ sym e) in
-          let w = blanks.1.within in
-          let inside : blanks.0 < length bytes = omega arith in
-          let word = run_exists (belongs Word) bytes blanks.0 blanks.0 (le_refl blanks.0) w (run-begins (belongs Word) bytes blanks.0) in
-          ap (permuting n) (all_taken ∙ ap (prepended part) (first n bytes at blanks.0 blanks.1 word.0 word.2 inside refl))
-          ∙ by (number_in (take (word.0 - blanks.0) (drop blanks.0 bytes))) (numbers_from bytes word.0)
-        where
-          by : (o : Option ℕ) (os : Option (List ℕ)) → permuting n (prepended part (both_numbers o os)) ≡ none
-          by none os = refl
-          by (some v) none = refl
-          by (some v) (some vs) =
-              spoiled_size n (part ++ v ∷ vs)
-              (λ s. let z : ⊥ = omega (arith, s, length-append part (v ∷ vs)) in z)
+    pub collect_whole : length part ≤ j → (b : Bool) → b ≡ all_blank (drop at bytes) → Storing n bytes part b
+    unfolding prepended both_numbers permuting
+    collect_whole full true e =
+        let blanks = blanks_from bytes c.within in
+        let end : blanks.0 ≡ length bytes = eqb-true blanks.0 (length bytes) (blanks.2 ∙ sym e) in
+        let a = c.front in let b = c.size in
+        collect_ends (images_end n bytes at blanks.0 blanks.1 (le_of_eq (sym end))) true (eq-eqb j (length part) (omega arith))
+    collect_whole full false e =
+        let blanks = blanks_from bytes c.within in
+        let ne : blanks.0 ≡ length bytes → ⊥ = eqb-false blanks.0 (length bytes) (blanks.2 ∙ sym e) in
+        let w = blanks.1.within in
+        let inside : blanks.0 < length bytes = omega arith in
+        let word = run_exists (belongs Word) bytes blanks.0 blanks.0 (le_refl blanks.0) w (run-begins (belongs Word) bytes blanks.0) in
+        ap (permuting n) (c.left ∙ ap (prepended (take j part)) (first n bytes at blanks.0 blanks.1 word.0 word.2 inside refl))
+        ∙ by (number_in (take (word.0 - blanks.0) (drop blanks.0 bytes))) (numbers_from bytes word.0)
+      where
+        by : (o : Option ℕ) (os : Option (List ℕ)) → permuting n (prepended (take j part) (both_numbers o os)) ≡ none
+        by none os = refl
+        by (some v) none = refl
+        by (some v) (some vs) =
+            spoiled_size n (take j part ++ v ∷ vs)
+            (λ s. let a = c.size in let z : ⊥ = omega (arith, filled, s, length-append (take j part) (v ∷ vs)) in z)
 
 -- ---- the whole permutation line, behind its head
 

@@ -1,9 +1,9 @@
 -- Laws of reading a target line by position, and of one line behind those before it. Assumes nothing.
-use Rattle.std.specs.Prelude.{Option as Answer, Some, None, Err, Bool, ◌&&◌, List, ◌∷◌, ◌≡◌, ℕ, zero, suc, ◌+◌, ◌-◌, ◌*◌, ◌^◌, ◌≤◌, ◌<◌, eqb, leb, get_or, take, drop}
+use Rattle.std.specs.Prelude.{Option as Answer, Some, None, Ok, Err, Bool, ◌&&◌, ◌||◌, List, ◌∷◌, ◌≡◌, ℕ, zero, suc, ◌+◌, ◌-◌, ◌*◌, ◌^◌, ◌≤◌, ◌<◌, eqb, leb, get_or, take, drop}
 use Rattle.std.proofs.Math.Bool.{true, false, cond}
 use Rattle.std.proofs.Math.Option.{Option, some, none}
 use Rattle.std.proofs.Math.Path.{refl, sym, ap}
-use Rattle.std.proofs.Common.{ok_or, eqb-true, ◌∙◌, zero-add, one-mul, mul-zero, zero-mul, pow-suc, add-one, drop_of_length-le, get_or-take, length-take-le, le-leb, eq-eqb, ne_eqb}
+use Rattle.std.proofs.Common.{ok_or, eqb-true, ◌∙◌, subst, zero-add, one-mul, mul-zero, zero-mul, pow-suc, add-one, drop_of_length-le, get_or-take, length-take-le, le-leb, eq-eqb, ne_eqb}
 use Rattle.std.proofs.Math.Nat.{add-zero, mul-add, mul_comm, mul_assoc}
 use Rattle.std.proofs.Math.Decide.{ℕ_discrete}
 use native.Mathlib.Omega.{arith}
@@ -89,7 +89,27 @@ module _ (n : ℕ) (bytes : List ℕ) (room : n ≤ length bytes) (x i : ℕ) wh
           ∙ ap (λ j. j * rest) (pow-suc 2 i) ∙ mul_assoc (2 ^ i) 2 rest in
           omega arith
 
--- a digit 0 or 1 is one of two bytes
+-- which bytes are digits 0 and 1
+pub binary_low : (b : ℕ) → b < 48 → is_binary b ≡ false
+unfolding is_binary
+binary_low b h = rw (ne_eqb b 48 (λ e. let z : ⊥ = omega arith in z), ne_eqb b 49 (λ e. let z : ⊥ = omega arith in z))
+
+pub binary_high : (b : ℕ) → 49 < b → is_binary b ≡ false
+unfolding is_binary
+binary_high b h = rw (ne_eqb b 48 (λ e. let z : ⊥ = omega arith in z), ne_eqb b 49 (λ e. let z : ⊥ = omega arith in z))
+
+pub binary-digit : (b : ℕ) → 48 ≤ b → b ≤ 49 → is_binary b ≡ true
+unfolding is_binary
+binary-digit b lo hi = by (ℕ_discrete b 48)
+  where
+    by : Dec (b ≡ 48) → eqb b 48 || eqb b 49 ≡ true
+    by (yes e) = rw (eq-eqb b 48 e)
+    by (no ne) = rw (ne_eqb b 48 ne, eq-eqb b 49 (let z : b ≡ 49 = other in z))
+      where
+        other : b ≡ 49
+        other = omega arith
+
+-- a digit 0 or 1 is one of them
 pub binary_within : (b : ℕ) → is_binary b ≡ true → (48 ≤ b) × (b ≤ 49)
 unfolding is_binary
 binary_within b e = by (ℕ_discrete b 48)
@@ -134,3 +154,15 @@ module _ {n place : ℕ} {bytes : List ℕ} where
   unfolding target_said target_kept
   target_first (Some x) f = record { step = ap (target_kept place) f }
   target_first None f = record { step = ap (target_kept place) f }
+
+  module _ {w : Answer ℕ} (read : Answer ℕ) (f : wanted_of read ≡ target_in n bytes) where
+    pub target_malformed : read ≡ None → TargetRead n place bytes w (Err (record { reason = TargetLine; place = place }))
+    target_malformed g = by w
+      where
+        by : (w : Answer ℕ) → TargetRead n place bytes w (Err (record { reason = TargetLine; place = place }))
+        by (Some x) = target_second x
+        by None = target_first None (ap wanted_of (sym g) ∙ f)
+
+    pub target_good : {x : ℕ} → w ≡ None → read ≡ Some x → TargetRead n place bytes w (Ok x)
+    target_good {x} e g =
+        subst (λ v. TargetRead n place bytes v (Ok x)) (sym e) (target_first (Some x) (ap wanted_of (sym g) ∙ f))

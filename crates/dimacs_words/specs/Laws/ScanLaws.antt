@@ -10,7 +10,7 @@ use Rattle.std.specs.Bool.{MatchBool}
 use Rattle.std.specs.List.{AllWithin, HoldsAt, starts_with}
 use Rattle.std.specs.Cmp.Lexicographic.{pointwise}
 use Rattle.std.proofs.Math.Path.{refl, ap, subst}
-use Rattle.std.proofs.Common.{inl, inr, eqb-true, sym, ◌∙◌, pow-suc, le_of_eq, add-zero, add-one, drop-cons, get_or-take, get_or-drop, take_all, length-take-le, drop-drop, take-take}
+use Rattle.std.proofs.Common.{inl, inr, eqb-true, sym, ◌∙◌, pow-suc, le_of_eq, add-zero, add-one, length-take, drop-cons, get_or-take, get_or-drop, take_all, length-take-le, drop-drop, take-take}
 use Prim.Native.Nat.{ℕ, zero, suc, ◌+◌, ◌-◌, ◌*◌, ◌^◌, ◌≤◌, ◌<◌}
 use Rattle.std.proofs.Math.Nat.{pow-le-pow_right}
 use Rattle.std.proofs.Math.Decide.{dec_lt}
@@ -126,7 +126,7 @@ pub head_compared : (head bytes : List ℕ) → starts_with eqb bytes head ≡ b
 unfolding begins
 head_compared head bytes = bytes_compared head (take (length head) bytes)
 
-bytes_turned : (xs ys : List ℕ) → same_bytes xs ys ≡ same_bytes ys xs
+pub bytes_turned : (xs ys : List ℕ) → same_bytes xs ys ≡ same_bytes ys xs
 unfolding same_bytes
 bytes_turned [] [] = refl
 bytes_turned [] (y ∷ ys) = refl
@@ -147,6 +147,54 @@ same_lengths [] [] e = refl
 same_lengths [] (y ∷ ys) e = absurd (true≢false (sym e))
 same_lengths (x ∷ xs) [] e = absurd (true≢false (sym e))
 same_lengths (x ∷ xs) (y ∷ ys) e = ap suc (same_lengths xs ys (and_split (eqb x y) (same_bytes xs ys) e).1)
+
+-- ---- heads
+
+pub head_long : (head bytes : List ℕ) → length bytes < length head → false ≡ begins head bytes
+unfolding begins
+head_long head bytes h = by (same_bytes head (take (length head) bytes)) refl
+  where
+    by : (b : Bool) → same_bytes head (take (length head) bytes) ≡ b → false ≡ b
+    by false e = refl
+    by true e =
+        let l = same_lengths head (take (length head) bytes) e in
+        absurd (let z : ⊥ = omega (arith, length-take (length head) bytes) in z)
+
+-- the head from i on against the bytes from i on
+unfoldable pub begins_from : ℕ → List ℕ → List ℕ → Bool
+unfolding same_bytes
+begins_from i head bytes = same_bytes (drop i head) (drop i (take (length head) bytes))
+
+pub head-begins : (head bytes : List ℕ) → begins head bytes ≡ begins_from 0 head bytes
+unfolding begins begins_from
+head-begins head bytes = refl
+
+module _ (head bytes : List ℕ) (room : length head ≤ length bytes) (i : ℕ) where
+  size : length (take (length head) bytes) ≡ length head
+  size = length-take-le (length head) bytes room
+
+  pub head_ends : length head ≤ i → begins_from i head bytes ≡ true
+  unfolding begins_from
+  head_ends h =
+      ap (λ l. same_bytes l (drop i (take (length head) bytes))) (drop_of_length-le head h)
+      ∙ ap (same_bytes []) (let z : length (take (length head) bytes)
+      ≤ i = omega (arith, size) in drop_of_length-le (take (length head) bytes) z)
+
+  next : i < length head
+      → begins_from i head bytes ≡ (eqb (get_or head i 0) (get_or bytes i 0) && begins_from (i + 1) head bytes)
+  unfolding begins_from
+  next h =
+      ap (λ l. same_bytes l (drop i (take (length head) bytes))) (here_on head i h)
+      ∙ ap (same_bytes (get_or head i 0 ∷ drop (i + 1) head)) (here_on (take (length head) bytes) i (omega (arith, size)))
+      ∙ ap (λ b. eqb (get_or head i 0) b && same_bytes (drop (i + 1) head) (drop (i + 1) (take (length head) bytes)))
+      (get_or-take (length head) bytes i 0 h)
+
+  pub head_stops : i < length head → (get_or head i 0 ≡ get_or bytes i 0 → ⊥) → begins_from i head bytes ≡ false
+  head_stops h ne = next h ∙ ap (λ b. b && begins_from (i + 1) head bytes) (ne_eqb (get_or head i 0) (get_or bytes i 0) ne)
+
+  pub head_goes_on : i < length head → get_or head i 0 ≡ get_or bytes i 0
+      → begins_from i head bytes ≡ begins_from (i + 1) head bytes
+  head_goes_on h e = next h ∙ ap (λ b. b && begins_from (i + 1) head bytes) (eq-eqb (get_or head i 0) (get_or bytes i 0) e)
 
 -- ---- runs by position
 
@@ -474,7 +522,7 @@ pub part_end : (xs : List ℕ) (a : ℕ) → take (length xs - a) (drop a xs) �
 part_end xs a = take_all (length xs - a) (drop a xs) (le_of_eq (length-drop a xs))
 
 -- a run of blanks goes up to the end just where all bytes from its first on are blanks
-blank-run : (bytes : List ℕ) {from end : ℕ} → Stretch (belongs Blank) bytes from end
+pub blank-run : (bytes : List ℕ) {from end : ℕ} → Stretch (belongs Blank) bytes from end
     → eqb end (length bytes) ≡ all_blank (drop from bytes)
 unfolding belongs all_blank
 blank-run bytes {from} {end} s = by (dec_lt end (length bytes))
