@@ -2,13 +2,13 @@
 use Rattle.std.specs.Prelude.{Bool, true, false, ◌&&◌, ◌⊎◌, ◌≡◌, refl, ℕ, suc, ◌+◌, ◌-◌, ◌≤◌, ◌<◌, eqb, length, get_or, take, drop}
 use Rattle.std.proofs.Math.Bool.{cond}
 use mathlib.Core.List.{List, [], ◌∷◌, nil≢cons}
-use Rattle.std.proofs.Common.{inl, inr, ⊎_elim, sym, ◌∙◌, arith, le-leb, eqb-true, eq-eqb, ne_eqb, length-drop, get_or-drop, subst}
+use Rattle.std.proofs.Common.{inl, inr, ⊎_elim, sym, ◌∙◌, le_of_eq, arith, take_all, le-leb, eqb-true, eq-eqb, ne_eqb, length-drop, get_or-drop, subst}
 use Rattle.std.specs.Prelude.{Some, None}
 use Rattle.std.proofs.Math.Option.{Option, some, none}
 use Rattle.std.proofs.Math.Path.{ap}
 use Rattle.std.proofs.lemmas.Bool.{eqb-false}
 use Rattle.std.proofs.Math.Decide.{dec_lt}
-use Rattle.math.specs.Laws.ListLaws.{not-all, get_d_in}
+use Rattle.math.specs.Laws.ListLaws.{not-true-false, not-all, get_d_in}
 use Rattle.math.specs.Lists.{all, ◌∈◌, select}
 use Rattle.math.specs.Laws.SplitLaws.{select-cons, map-nil}
 use Rattle.dimacs_words.specs.declared.Class.TheVariants.{Blank, Word as WordBytes, Line as LineBytes}
@@ -22,8 +22,17 @@ use Rattle.dimacs_format.specs.Laws.StepLaws.{not_some}
 use Rattle.dimacs_format.specs.Laws.TextLaws.{same_bytes_lem}
 use Rattle.dimacs_words.specs.Laws.Scans.{belongs, Stretch, lines_behind}
 use Rattle.dimacs_words.specs.Laws.ScanLaws.{here_on, run-all, words_skip, words_end, word_at, same_lengths}
-use Rattle.dimacs_words.specs.Laws.ScanLaws.{blanks_from, blanks_stop, behind-none, behind-some, lines_from_lem}
+use Rattle.dimacs_words.specs.Laws.ScanLaws.{bytes_turned, blanks_from, blanks_stop, behind-none, behind-some, lines_from_lem}
 use Rattle.dimacs_problem.specs.Laws.ProblemScans.{spelled_from, WordMatched, NumberMatched}
+
+-- ---- equal runs of bytes
+
+pub bytes_apart : (xs ys : List ℕ) → (length xs ≡ length ys → ⊥) → false ≡ same_bytes xs ys
+bytes_apart xs ys ne = sym (not-true-false (same_bytes xs ys) (λ e. ne (same_lengths xs ys e)))
+
+pub bytes_begin : (part word : List ℕ) → length part ≡ length word → begins word part ≡ same_bytes part word
+unfolding begins
+bytes_begin part word e = ap (same_bytes word) (take_all (length word) part (le_of_eq e)) ∙ bytes_turned word part
 
 first_same : {w v : List ℕ} {ws vs : List (List ℕ)} → w ∷ ws ≡ v ∷ vs → w ≡ v
 first_same e = cc
