@@ -9,13 +9,14 @@ use Rattle.point_slices.specs.Slices.{ClauseSlices, clause_room}
 use Rattle.formula.specs.Limits.{max_variables, max_clauses}
 use Rattle.dimacs_lines.specs.declared.Parsed.{Parsed}
 use Rattle.dimacs_problem.specs.declared.Line.{Line as FoundLine}
+use Rattle.dimacs_words.specs.declared.Class.TheVariants.{Line as LineBytes}
 use Rattle.dimacs_format.specs.Reader.{refuses, Sizes, problem_words, problem_in, within_limits, text_says, with_room}
 use Rattle.dimacs_format.specs.Reader.{with_sizes, with_problem, with_lines, reading, read_reply, read_formula}
 use Rattle.dimacs_format.specs.Reader.{read_clauses}
 use Rattle.dimacs.specs.Contract.{Read}
 use Rattle.dimacs_lines.specs.Laws.ParsedAs.{ParsedAs}
 use Rattle.dimacs_problem.specs.Laws.ProblemScans.{ProblemFound}
-use Rattle.dimacs_words.specs.Laws.Scans.{lines_behind}
+use Rattle.dimacs_words.specs.Laws.Scans.{belongs, Stretch, lines_behind}
 use Rattle.dimacs_format.specs.Text.{max_text, Line, piece, begins, problem_word}
 use Rattle.dimacs_format.specs.Laws.TextLaws.{words_bytes}
 use Rattle.dimacs_format.specs.Laws.ReaderLaws.{text_lines}
@@ -23,15 +24,27 @@ use Rattle.dimacs_format.specs.Laws.ReaderLaws.{text_lines}
 -- ---- sizes and room
 
 module _ (size room : ℕ) (l : Line) (after : List Line) (z : Sizes) where
+  pub sizes_low : z.variables < 1 → with_sizes size room l after z ≡ refuses 3 l.start
+  unfolding with_sizes within_limits
+  sizes_low h = rw (lt-leb 1 z.variables h)
+
+  pub sizes_high : 1 ≤ z.variables → max_variables < z.variables → with_sizes size room l after z ≡ refuses 3 l.start
+  unfolding with_sizes within_limits
+  sizes_high lo h = rw (le-leb 1 z.variables lo, lt-leb z.variables max_variables h)
+
+  pub sizes_many : 1 ≤ z.variables → z.variables ≤ max_variables → max_clauses < z.total
+      → with_sizes size room l after z ≡ refuses 3 l.start
+  unfolding with_sizes within_limits
+  sizes_many lo hi h =
+      rw (le-leb 1 z.variables lo, le-leb z.variables max_variables hi, lt-leb z.total max_clauses h)
+
   -- n or C outside its limits
   pub sizes_outside : (z.variables < 1) ⊎ (((1 ≤ z.variables) × (max_variables < z.variables)) ⊎
       ((1 ≤ z.variables) × (z.variables ≤ max_variables) × (max_clauses < z.total)))
       → with_sizes size room l after z ≡ refuses 3 l.start
-  unfolding with_sizes within_limits
-  sizes_outside (inl h) = rw (lt-leb 1 z.variables h)
-  sizes_outside (inr (inl h)) = rw (le-leb 1 z.variables h.0, lt-leb z.variables max_variables h.1)
-  sizes_outside (inr (inr h)) =
-      rw (le-leb 1 z.variables h.0, le-leb z.variables max_variables h.1, lt-leb z.total max_clauses h.2)
+  sizes_outside (inl h) = sizes_low h
+  sizes_outside (inr (inl h)) = sizes_high h.0 h.1
+  sizes_outside (inr (inr h)) = sizes_many h.0 h.1 h.2
 
   module _ (lo : 1 ≤ z.variables) (hi : z.variables ≤ max_variables) (few : z.total ≤ max_clauses) where
     sizes_fit : with_sizes size room l after z ≡ with_room size room l after z
@@ -70,6 +83,9 @@ module _ (text : List ℕ) (room : ℕ) where
     text_absent f = text_lines text room h ∙ ap (with_lines (length text) room) f
 
     module _ (l : FoundLine) (found : ProblemFound text (Some l)) where
+      pub problem_place : Stretch (belongs LineBytes) text l.start l.stop
+      problem_place = found.0
+
       by_problem : (o : Option Sizes) → o ≡ problem_in (piece 0 (take (l.stop - l.start) (drop l.start text)))
           → reading text room ≡ with_problem (length text) room (piece l.start (take (l.stop - l.start) (drop l.start text)))
           (lines_behind text l.stop) o

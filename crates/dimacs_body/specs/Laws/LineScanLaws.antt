@@ -1,7 +1,7 @@
 -- Laws of the lines behind the problem line, as the code goes along them. Assumes nothing.
 use Rattle.std.proofs.Math.Option.{some}
 use Rattle.std.specs.Prelude.{Option as Answer, Some, None, Result, Ok, Err, Bool, true, false, not, ◌&&◌, List, [], ◌∷◌, ◌≡◌, ℕ, suc, ◌+◌, ◌-◌, ◌≤◌, ◌<◌, eqb, ltb, length, take, drop}
-use Rattle.std.proofs.Common.{true≢false, ◌∙◌}
+use Rattle.std.proofs.Common.{true≢false, ◌∙◌, length-append}
 use Rattle.std.proofs.Math.Path.{refl, sym, ap, subst}
 use Rattle.std.proofs.Math.Decide.{dec_lt, ℕ_discrete}
 use native.Mathlib.Omega.{arith}
@@ -24,9 +24,10 @@ use Rattle.dimacs_format.specs.Reader.{clause_line_lem, target_line_lem, permuta
 use Rattle.dimacs_format.specs.Laws.AnswerLaws.{step_then, step_within, then_next, then_alike, of_both}
 use Rattle.dimacs_format.specs.Laws.LineLaws.{kind_clauses, kind_target, kind_permutation, kind_remark, line_remark}
 use Rattle.dimacs_format.specs.Laws.LineLaws.{line_of_kind}
+use Rattle.dimacs_format.specs.Laws.TextLaws.{begins_split}
 use Rattle.dimacs_format.specs.Laws.ReaderLaws.{says_percent, says_line}
 use Rattle.dimacs_words.specs.Laws.Scans.{belongs, Stretch, lines_behind}
-use Rattle.dimacs_words.specs.Laws.ScanLaws.{here_on, behind-none, behind-some, lines_from_lem}
+use Rattle.dimacs_words.specs.Laws.ScanLaws.{here_on, part_end, behind-none, behind-some, lines_from_lem}
 use Rattle.dimacs_words.specs.Laws.ScanLaws.{run-begins, run_exists, run_later}
 use Rattle.dimacs_clauses.specs.Laws.ClauseScans.{clauses_from, Ready, Scanning}
 use Rattle.dimacs_targets.specs.Laws.TargetScans.{TargetRead}
@@ -39,6 +40,18 @@ use Rattle.dimacs_body.specs.Laws.LineScans.{WordsThere, lines_from, lines_after
 use Rattle.dimacs_body.specs.Laws.LineScans.{said, onward, Advancing, LinesRead, Passing}
 
 -- ---- a line of any kind
+
+-- a line with a head is at least as long
+pub head-length : (head line : List ℕ) → begins head line ≡ true → length head ≤ length line
+head-length head line e = subst (λ l. length head ≤ length l) (sym (begins_split head line e))
+    (omega (arith, length-append head (drop (length head) line)))
+
+-- what is handed on is what stands behind the head
+abbrev pub handed_on : List ℕ → List ℕ → List ℕ
+handed_on head line = take (length line - length head) (drop (length head) line)
+
+pub handed_behind : (head line : List ℕ) → handed_on head line ≡ drop (length head) line
+handed_behind head line = part_end line (length head)
 
 module _ {z : Sizes} {start : ℕ} (line : List ℕ) {s : State} {images : List ℕ} (kept : Kept z s images) where
   -- a target line: its part is replaced

@@ -33,12 +33,15 @@ parsed_in (Err r) images = refused_with r
 abbrev pub no_images : List ℕ
 no_images = replicate max_images 0
 
--- how many clauses the smallest arrays have room for
+-- how many clauses the smaller arrays have room for
 abbrev pub tiny_clauses : ℕ
 tiny_clauses = 32
 
 abbrev pub few_clauses : ℕ
 few_clauses = 256
+
+abbrev pub some_clauses : ℕ
+some_clauses = 1024
 
 -- n and C are within their limits
 pub record Limited (z : Sizes) : Type 0 where

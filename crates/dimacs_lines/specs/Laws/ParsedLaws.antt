@@ -15,6 +15,7 @@ use Rattle.point_slices.specs.Slices.{ClauseSlices, points_of, clause_slices, be
 use Rattle.permutation_images.specs.Laws.LoopLaws.{length-permutations}
 use Rattle.permutation_theory.specs.Permutations.{permutations_in}
 use Rattle.formula.specs.Limits.{max_variables, max_permutations, max_images}
+use Rattle.formula.specs.Laws.Contracts.{formula_with}
 use Rattle.formula.specs.declared.Numbers.{Numbers}
 use Rattle.formula.specs.declared.reasons.Refusal.{Refusal}
 use Rattle.formula.specs.declared.reasons.Reason.TheVariants.{ClauseCount}
@@ -25,9 +26,9 @@ use Rattle.dimacs_format.specs.Input.{Input, images_of, padded, formula_of, posi
 use Rattle.dimacs_format.specs.Reader.{Step, goes, refuses, Sizes, input_of, at_end, reply_to}
 use Rattle.dimacs_format.specs.Reader.{formula_from}
 use Rattle.dimacs_format.specs.Reader.{slices_from, text_says}
-use Rattle.dimacs_format.specs.Laws.AnswerLaws.{refusal_step}
+use Rattle.dimacs_format.specs.Laws.AnswerLaws.{refusal_step, told}
 use Rattle.dimacs_words.specs.Laws.Scans.{lines_behind}
-use Rattle.dimacs_clauses.specs.Laws.ClauseScans.{clauses_from}
+use Rattle.dimacs_clauses.specs.Laws.ClauseScans.{clauses_from, Ready}
 use Rattle.dimacs_clauses.specs.Laws.ClauseScanLaws.{closed_length}
 use Rattle.dimacs_targets.specs.Laws.TargetScans.{wanted_of}
 use Rattle.dimacs_permutations.specs.Laws.HandlerScans.{KeptImages}
@@ -81,6 +82,19 @@ answers_refused {clauses = clauses} {e} f =
 pub answers_same : {m k : Step Input} {clauses₀ clauses₁ : ClauseSlices} {r : Parsed} → k ≡ m
     → ParsedAs m clauses₀ r clauses₁ → ParsedAs k clauses₀ r clauses₁
 answers_same {clauses₀ = clauses₀} {clauses₁} {r} e a = subst (λ t. ParsedAs t clauses₀ r clauses₁) (sym e) a
+
+pub answers_as : {m : Step Input} {clauses₀ clauses₁ : ClauseSlices} {r x : Parsed} → r ≡ x
+    → ParsedAs m clauses₀ x clauses₁ → ParsedAs m clauses₀ r clauses₁
+answers_as {m} {clauses₀} {clauses₁} e a = subst (λ y. ParsedAs m clauses₀ y clauses₁) (sym e) a
+
+-- the answer with the images, by the answer
+pub parsed_refused : (r : Result Numbers Refusal) (images : List ℕ) {e : Refusal} → r ≡ Err e
+    → parsed_in r images ≡ refused_with e
+parsed_refused r images f = rw f
+
+pub parsed_accepted : (r : Result Numbers Refusal) (images : List ℕ) {numbers : Numbers} → r ≡ Ok numbers
+    → parsed_in r images ≡ record { formula = formula_with numbers images; answer = Ok tt }
+parsed_accepted r images f = rw f
 
 -- a target that is none is 0
 wanted_or : (o : Answer ℕ) → unwrap_or o 0 ≡ get_or (wanted_of o) 0
@@ -140,6 +154,10 @@ module _ (place : ℕ) {z : Sizes} {s : State} {clauses : ClauseSlices} {clauses
 
 -- the lines were read: on to the end of the sheet, or refused
 module _ {z : Sizes} {text : List ℕ} {end : ℕ} {clauses : ClauseSlices} {images : List ℕ} where
+  pub ready_then : {read : Result Lined Refusal} {l : Lined} → LinesRead z text end read clauses images → read ≡ Ok l
+      → Ready z l.state.begun.closed clauses
+  ready_then k e = (told (λ l. Standing z l.state clauses images) e k.stands).ready
+
   pub text_ends : {read : Lined} (r : Result Numbers Refusal) {clauses₀ clauses₁ : ClauseSlices}
       → LinesRead z text end (Ok read) clauses images
       → Accepting read.stop z read.state clauses clauses₀ r clauses₁
@@ -176,3 +194,8 @@ pub blank_room : (z : Sizes) (k : ℕ) → z.total ≤ k → HasRoom z (clause_s
 blank_room z k le =
     let size : length (points_of (replicate k 0)) ≡ k = ap length (points_blank k) ∙ length-replicate {A = ℕ} k 0 in
     record { room = subst (λ j. z.total ≤ min j j) (sym size) (omega arith) }
+
+-- slices with room for C clauses are not shorter
+pub never_short : (z : Sizes) (p q : List ℕ) → HasRoom z (clause_slices p q) → length p < z.total → ⊥
+unfolding points_of
+never_short z p q has lt = let room = has.room in omega arith
