@@ -1,6 +1,6 @@
 -- Laws of row 18: the set of a numbered clause's variables, the loop over it, and which entries of the lists the row
 -- looks at. Assumes nothing.
-use Rattle.std.specs.Prelude.{Bool, true, false, ◌&&◌, ◌≡◌, refl, ℕ, suc, ◌≤◌, ◌<◌, ◌^◌, length, get_or, take}
+use Rattle.std.specs.Prelude.{Bool, true, false, ◌&&◌, ◌≡◌, refl, ℕ, suc, ◌+◌, ◌≤◌, ◌<◌, ◌^◌, length, get_or, take}
 use mathlib.Core.List.{List, ◌∷◌, map}
 use Rattle.std.proofs.Math.Option.{Option, some, none}
 use Rattle.std.proofs.Math.Path.{sym, ap, ap₂}
@@ -13,21 +13,38 @@ use Rattle.point_slices.specs.Slices.{points_of}
 use Rattle.math.specs.Laws.BitLaws.{flip-lt}
 use Rattle.math.specs.Bits.{flip, members}
 use Rattle.math.specs.Lists.{all, first_failing, below}
-use Rattle.math.specs.Laws.PartLaws.{same_failing_below}
+use Rattle.math.specs.Laws.PartLaws.{index_some, index_none, same_failing_below}
 use Rattle.math.specs.Laws.SetLaws.{members_next, members-none}
 use Rattle.points.specs.Laws.Contracts.{NextVariable}
 use Rattle.points.specs.Laws.NextLaws.{next_lowest, next_none}
-use Rattle.points.specs.Points.{point_digits, Clause, Numbered, listed, variables}
+use Rattle.points.specs.Points.{point_digits, Clause, Numbered, listed, variables, numbered, empty_clause}
 use Rattle.point_theory.specs.Laws.Notions.{ClausesBelow}
 use Rattle.permutation_theory.specs.Permutations.{Permutation, covered}
 use Rattle.permutation_coverage.specs.Laws.Coverage.{Permuting, Imaged, Coverable, Staying}
 use Rattle.formula.specs.Reply.{fault_at}
 use Rattle.certificate.specs.Laws.RowLaws.{clause_found}
 use Rattle.certificate.specs.Rows.{clause_numbered}
+use Rattle.check_falsified.specs.Laws.FalsifiedLaws.{numbered-at, numbered_below}
 use Rattle.check_flips.specs.Flips.{flips_of, flips_pass, flips_fault}
 use Rattle.check_flips.specs.Laws.Loops.{listed_by, all_flips, Testable, Follows, Flipping}
 
 -- ---- the variables of the clause of a number
+
+module _ (cs : List Clause) where
+  pub listed-none : (k : ℕ) → k < 1 → ◌≡◌ {A = ℕ} 0 (listed_by (clause_numbered (numbered cs) k))
+  unfolding listed_by
+  listed-none k h = sym (ap listed_by (numbered_below 1 cs k h))
+
+  pub listed_past : (k i : ℕ) → k ≡ 1 + i → length cs ≤ i → ◌≡◌ {A = ℕ} 0 (listed_by (clause_numbered (numbered cs) k))
+  unfolding listed_by
+  listed_past k i e h = sym (ap (λ (j : ℕ). listed_by (clause_numbered (numbered cs) j)) e
+      ∙ ap listed_by (numbered-at 1 cs i ∙ index_none cs i h))
+
+  pub listed_at : (k i : ℕ) → k ≡ 1 + i → i < length cs
+      → listed (get_or cs i empty_clause) ≡ listed_by (clause_numbered (numbered cs) k)
+  unfolding listed_by
+  listed_at k i e h = sym (ap (λ (j : ℕ). listed_by (clause_numbered (numbered cs) j)) e
+      ∙ ap listed_by (numbered-at 1 cs i ∙ index_some cs i empty_clause h))
 
 -- a clause of a formula lists none but the variables below n
 pub listed_within : (n : ℕ) (cs : List Numbered) → ClausesBelow n cs → (k : ℕ) → listed_by (clause_numbered cs k) < 2 ^ n
@@ -136,17 +153,23 @@ module _ {g : Permutations} {index : Index} {stay moved₀ : List ℕ} {seen x :
 
 module _ (n : ℕ) (cs : List Numbered) (es : List Permutation) where
   -- the test of the point of an index, from its point and its clause's variables
-  pub flips_passed : (points falsified : List ℕ) (count i x k s : ℕ) → i < count → x ≡ get_or points i 0
+  pub flips_passed : (points falsified : List ℕ) (count i x s : ℕ) → i < count → x ≡ get_or points i 0
+      → s ≡ listed_by (clause_numbered cs (get_or falsified i 0))
+      → all_flips (covered es (take count points)) n x s ≡ flips_pass n cs es (take count points) falsified i
+  unfolding flips_pass
+  flips_passed points falsified count i x s lt at set =
+      ap₂ (all_flips (covered es (take count points)) n) (at ∙ sym (get_or-take count points i 0 lt)) set
+      ∙ sym (flips-listed (covered es (take count points)) n (clause_numbered cs (get_or falsified i 0))
+      (get_or (take count points) i 0))
+
+  -- the same, from what a test of it told
+  pub flips_told : (points falsified : List ℕ) (count i x k s : ℕ) → i < count → x ≡ get_or points i 0
       → k ≡ get_or falsified i 0 → s ≡ listed_by (clause_numbered cs k) → (passes : Bool)
       → passes ≡ all_flips (covered es (take count points)) n x s
       → flips_pass n cs es (take count points) falsified i ≡ passes
-  unfolding flips_pass
-  flips_passed points falsified count i x k s lt at named set passes told =
-      flips-listed (covered es (take count points)) n (clause_numbered cs (get_or falsified i 0))
-      (get_or (take count points) i 0)
-      ∙ ap₂ (all_flips (covered es (take count points)) n) (get_or-take count points i 0 lt ∙ sym at)
-      (sym (set ∙ ap (λ (j : ℕ). listed_by (clause_numbered cs j)) named))
-      ∙ sym told
+  flips_told points falsified count i x k s lt at named set passes told =
+      sym (told ∙ flips_passed points falsified count i x s lt at
+      (set ∙ ap (λ (j : ℕ). listed_by (clause_numbered cs j)) named))
 
   -- the row, of so many points
   pub flips_row : (points falsified : List ℕ) (count : ℕ) → length points ≡ count

@@ -1,8 +1,8 @@
 -- Laws of the readers: where an entry lies, what is answered to a file, and that the entries of a well-formed file's
 -- bodies are its reading. Assumes nothing.
-use Rattle.std.specs.Prelude.{Ok, Err, Bool, true, false, cond, List, ◌≡◌, ℕ, ◌+◌, ◌-◌, ◌*◌, ◌/◌, ◌≤◌, ◌<◌, get_or, drop}
+use Rattle.std.specs.Prelude.{Option as Found, Some, None, Ok, Err, Bool, true, false, cond, List, ◌≡◌, ℕ, ◌+◌, ◌-◌, ◌*◌, ◌/◌, ◌≤◌, ◌<◌, get_or, drop}
 use Rattle.std.proofs.Common.{sym, ◌∙◌, zero-lt-suc, arith, length-take-le, get_or-take}
-use Rattle.std.proofs.Math.Option.{some, none}
+use Rattle.std.proofs.Math.Option.{Option, some, none}
 use Rattle.std.proofs.Math.Path.{ap}
 use Rattle.std.proofs.Math.Nat.{mul-div_cancel}
 use Rattle.std.proofs.Math.ListN.{length, get_elem?, take, length-take, length-drop}
@@ -16,9 +16,17 @@ use Rattle.certificate.specs.Certificate.{contents_of, WellFormed, well_formed, 
 use Rattle.certificate.specs.Certificate.{numbers_body, file_permutations, file_points, file_numbers, number_at}
 use Rattle.certificate.specs.Certificate.{image_at}
 use Rattle.certificate.specs.Reader.{opened_reply, opened_contents}
-use Rattle.certificate.specs.Contract.{reply_of_opened, contents_in, handed_out, OpenedAs}
+use Rattle.certificate.specs.Contract.{reply_of_opened, contents_in, handed_out, OpenedAs, entry_of, EntryIs}
 use Rattle.certificate.specs.declared.Contents.{Contents}
 use Rattle.formula.specs.declared.reasons.Reason.TheVariants.{CertificateFile}
+
+-- ---- an entry, or none
+
+pub holds_some : {entry : Option ℕ} (x : ℕ) → entry ≡ some x → EntryIs entry (Some x)
+holds_some x e = sym e
+
+pub holds_none : {entry : Option ℕ} {r : Found ℕ} → r ≡ None → entry ≡ none → EntryIs entry r
+holds_none e h = ap entry_of e ∙ sym h
 
 -- ---- where a number of a body lies
 

@@ -13,7 +13,7 @@ use Rattle.std.proofs.Math.Path.{sym}
 use Rattle.std.proofs.Common.{ap, ap₂, ◌∙◌, zero-le, add-zero, zero-add, le_of_lt, le_antisymm, lt_of_lt_of_le, add-one, pow-suc, mul-suc, ⊎_elim, arith, length-take-le, take-suc, take_all, le_refl}
 use Rattle.math.specs.Lists.{spliced}
 use Rattle.math.specs.Laws.SpliceLaws.{spliced-none, spliced_next}
-use Rattle.math.specs.Laws.SplitLaws.{length_flat_map, flat_map_snoc}
+use Rattle.math.specs.Laws.SplitLaws.{length_flat_map, flat_map_append, flat_map_snoc}
 use Rattle.certificate.specs.Bytes.{bytes_of, field_width, point_width}
 use Rattle.math.specs.Laws.NumeralLaws.{length_digits, digit_at, digit_above}
 use Rattle.certificate.specs.Certificate.{fields_of, layout, contents_length}
@@ -76,16 +76,43 @@ module _ {w at count : ℕ} {xs old : List ℕ} where
   storing_ends s all =
       s.stored ∙ ap (λ (k : ℕ). spliced at (flat_map (bytes_of w) (take k xs)) old) (le_antisymm s.within all)
 
+-- four numbers of the contents, one behind the other
+pub four_stored : (at : ℕ) (old : List ℕ) → at ≤ length old → (a b c d : ℕ) (one two three four : List ℕ)
+    → one ≡ spliced at (bytes_of field_width a) old → two ≡ spliced (at + 4) (bytes_of field_width b) one
+    → three ≡ spliced (at + 8) (bytes_of field_width c) two → four ≡ spliced (at + 12) (bytes_of field_width d) three
+    → four ≡ spliced at (flat_map (bytes_of field_width) (a ∷ b ∷ c ∷ d ∷ [])) old
+four_stored at old room a b c d one two three four e f g h =
+    let none = none_stored field_width at old room in
+    let first = one_stored field_width at old room [] a at old one (sym (add-zero at)) none e in
+    let second = one_stored field_width at old room (a ∷ []) b (at + 4) one two refl first f in
+    let third = one_stored field_width at old room (a ∷ b ∷ []) c (at + 8) two three refl second g in
+    one_stored field_width at old room (a ∷ b ∷ c ∷ []) d (at + 12) three four refl third h
+
 -- C2: "n, m (rules), then count and offset of each body": the eight numbers of the contents
-pub contents_stored : (n m a k points numbers : ℕ) (old new : List ℕ)
+pub fields_stored : (n m a k points numbers : ℕ) (old new : List ℕ)
     → points ≡ contents_length + a * n → numbers ≡ contents_length + a * n + k * point_width
     → new ≡ spliced 0 (flat_map (bytes_of field_width) (n ∷ m ∷ a ∷ contents_length ∷ k ∷ points ∷ k ∷ numbers ∷ [])) old
     → new ≡ spliced 0 (flat_map (bytes_of field_width) (fields_of (layout n m a k k))) old
 unfolding fields_of layout
-contents_stored n m a k points numbers old new p q e =
+fields_stored n m a k points numbers old new p q e =
     e
     ∙ ap₂ (λ (u v : ℕ). spliced 0 (flat_map (bytes_of field_width) (n ∷ m ∷ a ∷ contents_length ∷ k ∷ u ∷ k ∷ v ∷ [])) old) p
     q
+
+-- the same, four of the eight numbers and then the others
+pub contents_stored : (n m a k points numbers : ℕ) (old half whole : List ℕ)
+    → points ≡ contents_length + a * n → numbers ≡ contents_length + a * n + k * point_width
+    → half ≡ spliced 0 (flat_map (bytes_of field_width) (n ∷ m ∷ a ∷ contents_length ∷ [])) old
+    → whole ≡ spliced 16 (flat_map (bytes_of field_width) (k ∷ points ∷ k ∷ numbers ∷ [])) half
+    → whole ≡ spliced 0 (flat_map (bytes_of field_width) (fields_of (layout n m a k k))) old
+contents_stored n m a k points numbers old half whole p q e f =
+    let front : List ℕ = n ∷ m ∷ a ∷ contents_length ∷ [] in
+    let back : List ℕ = k ∷ points ∷ k ∷ numbers ∷ [] in
+    fields_stored n m a k points numbers old whole p q
+    (part_stored 0 16 (flat_map (bytes_of field_width) front) (flat_map (bytes_of field_width) back) old half whole zero-le
+    (sym (zero-add (length (flat_map (bytes_of field_width) front))
+    ∙ length_flat_map (bytes_of field_width) field_width front (λ y _. length_digits 8 field_width y))) e f
+    ∙ ap (λ l. spliced 0 l old) (sym (flat_map_append (bytes_of field_width) front back)))
 
 -- a part that is overwritten
 pub overwritten : (at k : ℕ) (new old : List ℕ) → length new ≡ k → put_mid at (at + k - at) old new ≡ spliced at new old

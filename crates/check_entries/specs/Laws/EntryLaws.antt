@@ -1,10 +1,11 @@
 -- Laws of the rows 16, 17 and 18 of the first entries of two slices, of entries copied to an array, and of arrays of
 -- zeros. Assumes nothing.
-use Rattle.std.specs.Prelude.{true, List, ◌≡◌, ℕ, ◌≤◌, length, take, replicate}
+use Rattle.std.specs.Prelude.{true, List, ◌≡◌, ℕ, ◌≤◌, ◌<◌, length, take, replicate}
 use Rattle.std.proofs.Common.{sym, ap, ◌∙◌, le_of_eq, le_trans, le_refl, arith, length-take-le}
 use Rattle.std.proofs.lemmas.List.{length-replicate}
 use Rattle.point_slices.specs.Laws.SliceLaws.{points_blank}
 use Rattle.permutation_images.specs.declared.Permutations.{Permutations}
+use Rattle.point_index.specs.declared.Index.{Index}
 use Rattle.check_entries.specs.declared.Bodies.{Bodies}
 use Rattle.point_slices.specs.Slices.{points_of}
 use Rattle.math.specs.Lists.{over}
@@ -20,7 +21,8 @@ use Rattle.certificate.specs.Laws.RowLaws.{points_fault-take, numbers_fault-take
 use Rattle.certificate.specs.Rows.{points_fault, numbers_fault}
 use Rattle.check_flips.proofs.FlipLaws.{flips_fault-take}
 use Rattle.check_flips.specs.Flips.{flips_fault}
-use Rattle.check_distinct.specs.Laws.Indexing.{suits}
+use Rattle.check_flips.specs.Laws.Loops.{Testable}
+use Rattle.check_distinct.specs.Laws.Indexing.{Refuses, suits}
 use Rattle.check_distinct.specs.Laws.IndexingLaws.{zeros_links, links_indexable}
 use Rattle.check_entries.specs.Laws.Entries.{lists_fault, Ready, Decodable, Lent}
 
@@ -83,6 +85,14 @@ lent_ready d l filled same =
           (record { few = d.given.few; enough = omega arith; most = le_refl _ });
     }
 
+-- where row 16 finds nothing it has left an index of the points
+pub ready_testable : {g : Permutations} {clauses : List Clause} {index : Index} {links : List ℕ}
+    → Ready g clauses index.heads (points_of index.points.now) links index.count → {f : Fault}
+    → Refuses index.heads g.variables index.count max_slots (points_of index.points.now) f index.links.now → f ≡ no_fault
+    → Testable g clauses index
+ready_testable r w e =
+    record { given = r.given; enough = r.indexable.enough; indexed = w.full e }
+
 -- ---- arrays of zeros
 
 pub zeros-lent : (heads limit k count : ℕ) → suits heads limit k ≡ true → count ≤ limit
@@ -113,3 +123,8 @@ decodable_within d few =
       points_long = d.points_long;
       numbers_long = d.numbers_long;
     }
+
+-- each number takes a byte at least
+pub numbers_fill : {g : Permutations} {clauses : List Clause} {b : Bodies} {limit : ℕ} → Decodable g clauses b limit
+    → length b.falsified.now < b.count → ⊥
+numbers_fill d short = let long = d.numbers_long in omega arith

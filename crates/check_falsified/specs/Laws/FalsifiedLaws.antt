@@ -1,12 +1,12 @@
 -- Laws of row 17: the clause of a number by its index. Assumes nothing.
-use Rattle.std.specs.Prelude.{List, [], ◌∷◌, ◌≡◌, refl, ℕ, zero, suc, ◌+◌, ◌-◌, ◌≤◌, ◌<◌, length, get_or}
+use Rattle.std.specs.Prelude.{false, not, List, [], ◌∷◌, ◌≡◌, refl, ℕ, zero, suc, ◌+◌, ◌-◌, ◌≤◌, ◌<◌, length, get_or}
 use Rattle.std.proofs.Math.Option.{some, none}
 use Rattle.std.proofs.Math.Path.{sym, ap}
 use Rattle.std.proofs.Common.{◌∙◌, add-zero, add-suc, suc-add, arith, eq-eqb, ne_eqb}
 use Rattle.std.proofs.Math.ListN.{get_elem?}
 use Rattle.math.specs.Laws.PartLaws.{index_some, index_none}
-use Rattle.points.specs.Points.{Clause, numbered_from, numbered, empty_clause}
-use Rattle.certificate.specs.Rows.{clause_numbered}
+use Rattle.points.specs.Points.{Clause, satisfies, numbered_from, numbered, empty_clause}
+use Rattle.certificate.specs.Rows.{clause_numbered, falsifies}
 
 -- of clauses numbered from a on, the one whose number is a + i stands at index i
 pub numbered-at : (a : ℕ) (cs : List Clause) (i : ℕ) → clause_numbered (numbered_from a cs) (a + i) ≡ get_elem? cs i
@@ -43,3 +43,18 @@ module _ (cs : List Clause) where
   number-at (suc k) some-number h =
       let back : suc k - 1 ≡ k = omega arith in
       ap (λ (j : ℕ). some (get_or cs j empty_clause)) back ∙ sym (here k ∙ index_some cs k empty_clause (omega arith))
+
+module _ (cs : List Clause) (x : ℕ) where
+  pub falsifies-none : (k : ℕ) → k < 1 → false ≡ falsifies (clause_numbered (numbered cs) k) x
+  unfolding falsifies
+  falsifies-none k h = ap (λ o. falsifies o x) (number-none cs k h)
+
+  pub falsifies_past : (k i : ℕ) → k ≡ 1 + i → length cs ≤ i → false ≡ falsifies (clause_numbered (numbered cs) k) x
+  unfolding falsifies
+  falsifies_past k i e h = ap (λ o. falsifies o x) (number_past cs k (omega arith))
+
+  pub falsifies-at : (k i : ℕ) → k ≡ 1 + i → i < length cs
+      → not (satisfies (get_or cs i empty_clause) x) ≡ falsifies (clause_numbered (numbered cs) k) x
+  unfolding falsifies
+  falsifies-at k i e h = sym (ap (λ (j : ℕ). falsifies (clause_numbered (numbered cs) j) x) e
+      ∙ ap (λ o. falsifies o x) (numbered-at 1 cs i ∙ index_some cs i empty_clause h))

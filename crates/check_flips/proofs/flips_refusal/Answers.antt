@@ -9,7 +9,7 @@ use Rattle.formula.specs.Limits.{max_permutations}
 use Rattle.formula.specs.Laws.ReplyLaws.{fault_zero, fault_found}
 use Rattle.permutation_coverage.specs.Laws.Coverage.{Imaged, Staying}
 use Rattle.permutation_coverage.specs.Laws.CoverageLaws.{imaged_none}
-use Rattle.check_flips.proofs.FlipLaws.{tested-permuting, tested_follows, listed_within, flips_passed, flips_row}
+use Rattle.check_flips.proofs.FlipLaws.{tested-permuting, tested_follows, listed_within, flips_told, flips_row}
 use Rattle.check_flips.proofs.flips_refusal.Goals as goal
 
 pub sets_at_hand-sets-requires : goal.sets_at_hand-sets-requires
@@ -31,14 +31,14 @@ flips_covered-requires c =
 pub returns-then-not-flips_covered : goal.returns-then-not-flips_covered
 returns-then-not-flips_covered c =
     let l = c.loop-i in
-    let passes = flips_passed _ _ _ _ _ _ l.i _ _ _ c.loop-i-test.true c.point_at-x.ensures c.number_at.ensures c.variables_of-listed.ensures _ c.flips_covered.ensures.0 in
+    let passes = flips_told _ _ _ _ _ _ l.i _ _ _ c.loop-i-test.true c.point_at-x.ensures c.number_at.ensures c.variables_of-listed.ensures _ c.flips_covered.ensures.0 in
     fault_found 18 _ _ (sym (l.invariant.0 ∙ below_stops _ _ l.i c.loop-i-test.true (passes ∙ c.if-not-flips_covered.true)))
     ∙ flips_row _ _ _ _ _ _ (length-take-le _ (points_of c.args.index.points.now) c.requires.enough)
 
 pub loop-i-preserved : goal.loop-i-preserved
 loop-i-preserved c =
     let l = c.loop-i in
-    let passes = flips_passed _ _ _ _ _ _ l.i _ _ _ c.loop-i-test.true c.point_at-x.ensures c.number_at.ensures c.variables_of-listed.ensures _ c.flips_covered.ensures.0 in
+    let passes = flips_told _ _ _ _ _ _ l.i _ _ _ c.loop-i-test.true c.point_at-x.ensures c.number_at.ensures c.variables_of-listed.ensures _ c.flips_covered.ensures.0 in
     (l.invariant.0 ∙ below_goes_on _ _ l.i c.loop-i-test.true (passes ∙ c.if-not-flips_covered.false), c.flips_covered.ensures.1)
 
 pub returns : goal.returns
