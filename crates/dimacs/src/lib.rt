@@ -1,4 +1,4 @@
-// The reader: for any bytes a formula and its clauses, or a numbered refusal with its place. It tests the size of the
+// The reader: for any bytes a formula and its clauses, or a refusal with its reason and place. It tests the size of the
 // text, its problem line, its limits and the room, then reads the lines.
 #![tactic(auto)]
 
@@ -12,10 +12,11 @@ ghost use Rattle.dimacs.specs.Contract.{Read};
 
 use dimacs_arrays::read_clauses;
 use dimacs_format::Sizes;
-use dimacs_lines::{Parsed, ParsedNumbers, refused, with_images};
-use dimacs_problem::{Located, Sizing, find_problem, read_problem};
-use formula::Formula;
-use point_slices::clause_count;
+use dimacs_lines::{Parsed, with_images};
+use dimacs_problem::{Line, find_problem, read_problem};
+use formula::reasons::{Reason, Refusal};
+use formula::{Formula, Numbers};
+use point_slices::point_count;
 
 // S7: "The text is at most 1,048,576 bytes."
 const MAX_TEXT: usize = 1048576;
@@ -24,39 +25,42 @@ const MAX_TEXT: usize = 1048576;
 // Refusal 1 and the place of the problem line see to what it requires.
 fn read_sized(
     text: &[u8],
-    start: usize,
-    stop: usize,
+    line: Line,
     sizes: Sizes,
     positive: &mut [u64],
     negative: &mut [u64],
     images: &mut [u8],
-) -> ParsedNumbers
-    requires { (length text.now ≤ max_text) × (stop ≤ length text.now) × (images.old ≡ no_images) }
+) -> Result<Numbers, Refusal>
+    requires { (length text.now ≤ max_text) × (line.stop ≤ length text.now) × (images.old ≡ no_images) }
     ensures { ParsedAs (with_sizes (length text.now)
         (clause_room (clause_slices positive.old negative.old))
-        (piece start (take (stop - start) (drop start text.now)))
-        (lines_behind text.now stop) sizes)
+        (piece line.start (take (line.stop - line.start) (drop line.start text.now)))
+        (lines_behind text.now line.stop) sizes)
         (clause_slices positive.old negative.old) (parsed_in result images.new)
         (clause_slices positive.new negative.new) }
 {
-    if sizes.variables < 1 {
-        return refused(3, start);
-    }
-    if Formula::MAX_VARIABLES < sizes.variables {
-        return refused(3, start);
-    }
-    if Formula::MAX_CLAUSES < sizes.total {
-        return refused(3, start);
+    let place = line.start;
+    if sizes.variables < 1
+        || Formula::MAX_VARIABLES < sizes.variables
+        || Formula::MAX_CLAUSES < sizes.total
+    {
+        return Err(Refusal {
+            reason: Reason::Sizes,
+            place,
+        });
     }
     let total = sizes.total as usize;
-    let room = clause_count(positive, negative);
+    let room = point_count(positive).min(point_count(negative));
     if room < total {
-        return refused(4, start);
+        return Err(Refusal {
+            reason: Reason::ClauseRoom,
+            place,
+        });
     }
-    read_clauses(text, stop, sizes, positive, negative, images)
+    read_clauses(text, line.stop, sizes, positive, negative, images)
 }
 
-// The reader, to lent images, which are 0 before: the numbers of the formula, beside the answer. The work is linear in
+// The reader, to lent images, which are 0 before: the numbers of the formula, or a refusal. The work is linear in
 // the text: a byte before the problem line is visited at most four times, one of that line at most nine times, one
 // behind it at most twenty-one times (`read_lines`).
 pub fn read_lent(
@@ -64,24 +68,31 @@ pub fn read_lent(
     positive: &mut [u64],
     negative: &mut [u64],
     images: &mut [u8],
-) -> ParsedNumbers
+) -> Result<Numbers, Refusal>
     requires { images.old ≡ no_images }
     ensures { Read text.now (clause_slices positive.old negative.old)
         (parsed_in result images.new) (clause_slices positive.new negative.new) }
 {
     let size = text.len();
     if MAX_TEXT < size {
-        return refused(1, MAX_TEXT);
+        return Err(Refusal {
+            reason: Reason::LongText,
+            place: MAX_TEXT,
+        });
     }
-    let found = find_problem(text);
-    let Located::Line { start, stop } = found else {
-        return refused(2, size);
+    let Some(line) = find_problem(text) else {
+        return Err(Refusal {
+            reason: Reason::ProblemLine,
+            place: size,
+        });
     };
-    let sizing = read_problem(&text[start..stop]);
-    let Sizing::Read(sizes) = sizing else {
-        return refused(2, start);
+    let Some(sizes) = read_problem(&text[line.start..line.stop]) else {
+        return Err(Refusal {
+            reason: Reason::ProblemLine,
+            place: line.start,
+        });
     };
-    read_sized(text, start, stop, sizes, positive, negative, images)
+    read_sized(text, line, sizes, positive, negative, images)
 }
 
 // D2.1: "A sheet is read as DIMACS CNF, as document 01 fixes it." The formula by value: its images are read to 1 KiB of

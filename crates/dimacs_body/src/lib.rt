@@ -1,34 +1,28 @@
 // The body of a text: the lines behind the problem line, one after the other, up to the end of the sheet.
 #![tactic(auto)]
 
-ghost use Rattle.std.specs.Prelude.{true, false, ◌≡◌, ◌≤◌, length};
+ghost use Rattle.std.specs.Prelude.{true, ◌≡◌, ◌≤◌, length};
 ghost use Rattle.point_slices.specs.Slices.{clause_slices};
 ghost use Rattle.dimacs_format.specs.Text.{max_text, piece, is_comment};
 ghost use Rattle.dimacs_clauses.specs.Laws.ClauseScans.{Ready};
 ghost use Rattle.dimacs_body.specs.Laws.LineScans.{nothing_said, Kept, Standing, CommentRead};
 ghost use Rattle.dimacs_body.specs.Laws.LineScans.{opens_with, opens_comment, opens_apart, percent_at};
-ghost use Rattle.dimacs_body.specs.Laws.LineScans.{WordsThere, Following, Advancing, ended_with, LinesRead};
+ghost use Rattle.dimacs_body.specs.Laws.LineScans.{WordsThere, Following, Advancing, LinesRead};
 
 use dimacs_clauses::{Begun, Stepped, clause_line, none_begun};
 use dimacs_format::Sizes;
 use dimacs_permutations::permutation_line;
-use dimacs_targets::{Wanted, no_target, target_line};
-use dimacs_words::{begins, blank_from, line_end};
-use formula::Checked;
+use dimacs_targets::target_line;
+use dimacs_words::{blank_from, line_end};
+use formula::reasons::Refusal;
+use points::Point;
 
 // What the lines have said so far, beside the slices of the clauses and the images: a part for each kind of line.
 #[derive(Clone, Copy)]
 pub struct State {
     pub begun: Begun,
-    pub wanted: Wanted,
+    pub wanted: Option<Point>,
     pub permutations: u32,
-}
-
-// What comes of lines: on with what was said, or a refusal.
-#[derive(Clone, Copy)]
-pub struct Advanced {
-    pub answer: Checked,
-    pub state: State,
 }
 
 // S17: "After the problem line two comments have meaning, also inside a rule." F2: the heads are fixed byte strings. A
@@ -40,60 +34,41 @@ fn read_comment(
     sizes: Sizes,
     state: State,
     images: &mut [u8],
-) -> Advanced
+) -> Result<State, Refusal>
     requires { Kept sizes state images.old × (is_comment (piece start line.now) ≡ true) }
     ensures { CommentRead sizes start line.now state images.old result
         images.new }
 {
     let n = sizes.variables;
-    let mut more = state;
-    let head: &[u8] = b"c wish ";
-    let targeting = begins(head, line);
-    if targeting {
-        let from = head.len();
-        let wanted = state.wanted;
-        let taken = target_line(&line[from..], start, n, wanted);
-        let answer = taken.answer;
-        let wanted = taken.wanted;
-        more.wanted = wanted;
-        return Advanced {
-            answer,
-            state: more,
-        };
+    if let Some(rest) = line.strip_prefix(b"c wish ") {
+        let target = target_line(rest, start, n, state.wanted)?;
+        return Ok(State {
+            wanted: Some(target),
+            ..state
+        });
     }
-    let head: &[u8] = b"c exch ";
-    let permuting = begins(head, line);
-    if permuting {
-        let from = head.len();
-        let taken = permutation_line(&line[from..], start, n, state.permutations, images);
-        let answer = taken.answer;
-        more.permutations = taken.permutations;
-        return Advanced {
-            answer,
-            state: more,
-        };
+    if let Some(rest) = line.strip_prefix(b"c exch ") {
+        let permutations = permutation_line(rest, start, n, state.permutations, images)?;
+        return Ok(State {
+            permutations,
+            ..state
+        });
     }
-    Advanced {
-        answer: Checked::Passed,
-        state,
-    }
+    Ok(state)
 }
 
 // Whether the line that begins at the place has the byte first.
 fn opens_with(text: &[u8], at: usize, byte: u8) -> bool
     ensures { result ≡ opens_with byte text.now at }
 {
-    if text.len() <= at {
-        return false;
-    }
-    text[at] == byte
+    at < text.len() && text[at] == byte
 }
 
 // S10: "A line whose first byte is `c` is a comment.": whether one begins at the place.
 fn opens_comment(text: &[u8], at: usize) -> bool
     ensures { result ≡ opens_comment text.now at }
 {
-    opens_with(text, at, 99)
+    opens_with(text, at, b'c')
 }
 
 // Q01.2: "a line whose first byte is `%` and that otherwise holds blanks": whether one begins at the place. Lines with
@@ -102,8 +77,7 @@ fn percent_line(text: &[u8], at: usize) -> bool
     requires { at ≤ length text.now }
     ensures { result ≡ percent_at text.now at }
 {
-    let percent = opens_with(text, at, 37);
-    if !percent {
+    if !opens_with(text, at, b'%') {
         return false;
     }
     let stop = line_end(text, at);
@@ -114,11 +88,7 @@ fn percent_line(text: &[u8], at: usize) -> bool
 fn opens_apart(text: &[u8], at: usize) -> bool
     ensures { result ≡ opens_apart text.now at }
 {
-    if text.len() <= at {
-        return false;
-    }
-    let first = text[at];
-    (first == 99) | (first == 37)
+    at < text.len() && ((text[at] == b'c') | (text[at] == b'%'))
 }
 
 // The lines of words from the one that begins at `start` up to the next that begins with `c` or `%`, or the end of the
@@ -131,7 +101,7 @@ fn clause_lines(
     begun: Begun,
     positive: &mut [u64],
     negative: &mut [u64],
-) -> Stepped
+) -> Result<Stepped, Refusal>
     requires { Ready sizes begun.closed (clause_slices positive.old negative.old) × (start ≤ length text.now)
         × WordsThere text.now start }
     ensures { Following sizes text.now start
@@ -141,52 +111,28 @@ fn clause_lines(
     let mut state = begun;
     let mut first = start;
     loop {
-        let step = clause_line(text, first, sizes, state, positive, negative);
-        let taken = step.taken;
-        let answer = taken.answer;
-        let Checked::Passed = answer else {
-            return step;
-        };
-        let end = step.next;
-        let stop = end.at;
+        let step = clause_line(text, first, sizes, state, positive, negative)?;
+        let stop = step.next.at;
         if text.len() <= stop {
-            return step;
+            return Ok(step);
         }
         let next = stop + 1;
-        let apart = opens_apart(text, next);
-        if apart {
-            return step;
+        if opens_apart(text, next) {
+            return Ok(step);
         }
-        state = taken.begun;
+        state = step.begun;
         first = next;
     }
 }
 
-// What lines lead to, and where the last of them ends. Where the sheet ends with them, `stop` is the place of its end:
-// the first byte of a percent line, or the text's length.
+// What was said up to the end of a line, or of the sheet, and where that is.
 #[derive(Clone, Copy)]
 pub struct Lined {
-    pub advanced: Advanced,
+    pub state: State,
     pub stop: usize,
-    pub ended: bool,
 }
 
-// What was said up to the end of the sheet.
-fn ended_with(state: State, stop: usize) -> Lined
-    ensures { result ≡ ended_with state stop }
-{
-    let advanced = Advanced {
-        answer: Checked::Passed,
-        state,
-    };
-    Lined {
-        advanced,
-        stop,
-        ended: true,
-    }
-}
-
-// A comment, a percent line, or lines of words: what begins at `start` decides. The heads are at most fourteen bytes to
+// A comment, or lines of words: what begins at `start` decides; none is read on at a percent line, which ends the sheet. The heads are at most fourteen bytes to
 // compare, and each handler says how often it visits a byte. Comments are asked for first, so that remarks pay nothing
 // for percent lines; lines of words pay one step a part, which is many lines. `read_lines` sees to what it requires.
 fn read_part(
@@ -197,55 +143,39 @@ fn read_part(
     positive: &mut [u64],
     negative: &mut [u64],
     images: &mut [u8],
-) -> Lined
+) -> Result<Option<Lined>, Refusal>
     requires { Standing sizes state (clause_slices positive.old negative.old) images.old
         × (start ≤ length text.now) }
     ensures { Advancing sizes text.now start state
         (clause_slices positive.old negative.old) images.old result
         (clause_slices positive.new negative.new) images.new }
 {
-    let comment = opens_comment(text, start);
-    if comment {
+    if opens_comment(text, start) {
         let stop = line_end(text, start);
-        let advanced = read_comment(&text[start..stop], start, sizes, state, images);
-        return Lined {
-            advanced,
-            stop,
-            ended: false,
-        };
+        let more = read_comment(&text[start..stop], start, sizes, state, images)?;
+        return Ok(Some(Lined { state: more, stop }));
     }
-    let ended = percent_line(text, start);
-    if ended {
-        return ended_with(state, start);
+    if percent_line(text, start) {
+        return Ok(None);
     }
-    let mut more = state;
-    let begun = state.begun;
-    let step = clause_lines(text, start, sizes, begun, positive, negative);
-    let taken = step.taken;
-    let answer = taken.answer;
-    let begun = taken.begun;
-    more.begun = begun;
-    let end = step.next;
-    let advanced = Advanced {
-        answer,
-        state: more,
+    let step = clause_lines(text, start, sizes, state.begun, positive, negative)?;
+    let more = State {
+        begun: step.begun,
+        ..state
     };
-    Lined {
-        advanced,
-        stop: end.at,
-        ended: false,
-    }
+    Ok(Some(Lined {
+        state: more,
+        stop: step.next.at,
+    }))
 }
 
 // What the lines have said before the first of them.
 fn begin() -> State
     ensures { result ≡ nothing_said }
 {
-    let begun = none_begun(0);
-    let wanted = no_target();
     State {
-        begun,
-        wanted,
+        begun: none_begun(0),
+        wanted: None,
         permutations: 0,
     }
 }
@@ -256,17 +186,13 @@ fn afresh(state: State) -> State
     ensures { result ≡ state }
 {
     let begun = state.begun;
-    let wanted = state.wanted;
     State {
         begun: Begun {
             closed: begun.closed,
             positive: begun.positive,
             negative: begun.negative,
         },
-        wanted: Wanted {
-            found: wanted.found,
-            target: wanted.target,
-        },
+        wanted: state.wanted,
         permutations: state.permutations,
     }
 }
@@ -283,7 +209,7 @@ pub fn read_lines(
     positive: &mut [u64],
     negative: &mut [u64],
     images: &mut [u8],
-) -> Lined
+) -> Result<Lined, Refusal>
     requires { Standing sizes nothing_said (clause_slices positive.old negative.old) images.old
         × (length text.now ≤ max_text) × (end ≤ length text.now) }
     ensures { LinesRead sizes text.now end result
@@ -293,19 +219,14 @@ pub fn read_lines(
     let mut last = end;
     while last < text.len() {
         let start = last + 1;
-        let part = read_part(text, start, sizes, state, positive, negative, images);
-        let step = part.advanced;
-        let answer = step.answer;
-        let Checked::Passed = answer else {
-            return part;
+        let Some(part) = read_part(text, start, sizes, state, positive, negative, images)? else {
+            return Ok(Lined { state, stop: start });
         };
-        if part.ended {
-            return part;
-        }
-        let told = step.state;
-        state = afresh(told);
+        state = afresh(part.state);
         last = part.stop;
     }
-    let size = text.len();
-    ended_with(state, size)
+    Ok(Lined {
+        state,
+        stop: text.len(),
+    })
 }

@@ -1,15 +1,15 @@
 // The words of the lines that are no comments: literals, and the zeros that close clauses.
 #![tactic(auto)]
 
-ghost use Rattle.std.specs.Prelude.{false, ◌≡◌, ◌+◌, ◌≤◌, ◌<◌, length, get_or};
+ghost use Rattle.std.specs.Prelude.{false, ◌≡◌, ◌≤◌, ◌<◌, length, get_or};
 ghost use Rattle.point_slices.specs.Slices.{clause_slices};
 ghost use Rattle.dimacs_format.specs.Text.{ends_line};
-ghost use Rattle.dimacs_clauses.specs.Laws.ClauseScans.{none_begun, Room, Taking, stopped_with, Ready};
+ghost use Rattle.dimacs_clauses.specs.Laws.ClauseScans.{none_begun, Room, Taking, Ready};
 ghost use Rattle.dimacs_clauses.specs.Laws.ClauseScans.{Stepping, Placing, Scanning};
 
 use dimacs_format::Sizes;
 use dimacs_words::{Cursor, Word, ends_word, read_digits};
-use formula::Checked;
+use formula::reasons::{Reason, Refusal};
 use point_slices::put_point;
 use points::{Point, with_variable};
 
@@ -32,17 +32,10 @@ pub fn none_begun(closed: u32) -> Begun
     }
 }
 
-// What comes of reading: on with the clauses, or a refusal.
-#[derive(Clone, Copy)]
-pub struct Taken {
-    pub answer: Checked,
-    pub begun: Begun,
-}
-
 // What a part of a text leads to, and the place where the text is to be read on.
 #[derive(Clone, Copy)]
 pub struct Stepped {
-    pub taken: Taken,
+    pub begun: Begun,
     pub next: Cursor,
 }
 
@@ -52,98 +45,66 @@ fn take_number(
     n: u32,
     place: usize,
     begun: Begun,
-    negated: bool,
-    value: u32,
+    word: Word,
     positive: &mut [u64],
     negative: &mut [u64],
-) -> Taken
+) -> Result<Begun, Refusal>
     requires { Room n begun.closed (clause_slices positive.old negative.old) }
     ensures { Taking n place (clause_slices positive.old negative.old) begun
-        negated value result (clause_slices positive.new negative.new) }
+        word.negated word.value result (clause_slices positive.new negative.new) }
 {
-    let k = begun.closed;
-    if value == 0 {
-        let at = k as usize;
+    if word.value == 0 {
+        let at = begun.closed as usize;
         put_point(positive, at, begun.positive);
         put_point(negative, at, begun.negative);
-        let more = none_begun(k + 1);
-        return Taken {
-            answer: Checked::Passed,
-            begun: more,
-        };
+        return Ok(none_begun(begun.closed + 1));
     }
-    if n < value {
-        return Taken {
-            answer: Checked::Refused { code: 6, place },
-            begun,
-        };
+    if n < word.value {
+        return Err(Refusal {
+            reason: Reason::Literal,
+            place,
+        });
     }
-    let v = value - 1;
+    let v = word.value - 1;
     let mut more = begun;
-    if negated {
-        let wider = with_variable(begun.negative, v);
-        more.negative = wider;
-        return Taken {
-            answer: Checked::Passed,
-            begun: more,
-        };
+    if word.negated {
+        more.negative = with_variable(begun.negative, v);
+    } else {
+        more.positive = with_variable(begun.positive, v);
     }
-    let wider = with_variable(begun.positive, v);
-    more.positive = wider;
-    Taken {
-        answer: Checked::Passed,
-        begun: more,
-    }
+    Ok(more)
 }
 
-// A refusal; nothing is read on.
-fn stopped(code: u32, place: usize, begun: Begun, next: Cursor) -> Stepped
-    ensures { result ≡ stopped_with code place begun next }
-{
-    let taken = Taken {
-        answer: Checked::Refused { code, place },
-        begun,
-    };
-    Stepped { taken, next }
-}
-
-// N3: "7 precedes 5 and 6 at a word". The word that was read at `place`, with the place behind its first byte.
-// `clause_word` sees to what it requires.
+// N3: "7 precedes 5 and 6 at a word". What was read for the word at `place`. `clause_word` sees to what it requires.
 fn take_word(
     sizes: Sizes,
     place: usize,
-    behind: Cursor,
-    word: Word,
+    word: Option<Word>,
     begun: Begun,
     positive: &mut [u64],
     negative: &mut [u64],
-) -> Stepped
-    requires { Ready sizes begun.closed (clause_slices positive.old negative.old)
-        × (behind.at ≡ place + 1) }
+) -> Result<Stepped, Refusal>
+    requires { Ready sizes begun.closed (clause_slices positive.old negative.old) }
     ensures { Placing sizes place (clause_slices positive.old negative.old) begun word result
         (clause_slices positive.new negative.new) }
 {
     if sizes.total <= begun.closed {
-        return stopped(7, place, begun, behind);
+        return Err(Refusal {
+            reason: Reason::ClauseCount,
+            place,
+        });
     }
-    let Word::Read {
-        negated,
-        value,
-        next,
-    } = word
-    else {
-        return stopped(5, place, begun, behind);
+    let Some(word) = word else {
+        return Err(Refusal {
+            reason: Reason::Word,
+            place,
+        });
     };
-    let taken = take_number(
-        sizes.variables,
-        place,
-        begun,
-        negated,
-        value,
-        positive,
-        negative,
-    );
-    Stepped { taken, next }
+    let more = take_number(sizes.variables, place, begun, word, positive, negative)?;
+    Ok(Stepped {
+        begun: more,
+        next: word.next,
+    })
 }
 
 // F7; S13: "an optional minus, one to four digits". The word at the cursor, or the one blank there; the line does not
@@ -155,7 +116,7 @@ fn clause_word(
     begun: Begun,
     positive: &mut [u64],
     negative: &mut [u64],
-) -> Stepped
+) -> Result<Stepped, Refusal>
     requires { Ready sizes begun.closed (clause_slices positive.old negative.old)
         × (cursor.at < length text.now) × (ends_line (get_or text.now cursor.at 0) ≡ false) }
     ensures { Stepping sizes text.now cursor.at
@@ -163,26 +124,20 @@ fn clause_word(
         (clause_slices positive.new negative.new) }
 {
     let place = cursor.at;
-    let after = place + 1;
-    let behind = Cursor { at: after };
+    let behind = place + 1;
     let first = text[place];
-    let parted = ends_word(first);
-    if parted {
-        let taken = Taken {
-            answer: Checked::Passed,
+    if ends_word(first) {
+        return Ok(Stepped {
             begun,
-        };
-        return Stepped {
-            taken,
-            next: behind,
-        };
+            next: Cursor { at: behind },
+        });
     }
-    if first == 45 {
-        let word = read_digits(text, true, after);
-        return take_word(sizes, place, behind, word, begun, positive, negative);
+    if first == b'-' {
+        let word = read_digits(text, true, behind);
+        return take_word(sizes, place, word, begun, positive, negative);
     }
     let word = read_digits(text, false, place);
-    take_word(sizes, place, behind, word, begun, positive, negative)
+    take_word(sizes, place, word, begun, positive, negative)
 }
 
 // The words of the line that begins at `start`, and where it ends. A byte of the line is visited at most four times: to
@@ -195,7 +150,7 @@ pub fn clause_line(
     begun: Begun,
     positive: &mut [u64],
     negative: &mut [u64],
-) -> Stepped
+) -> Result<Stepped, Refusal>
     requires { Ready sizes begun.closed (clause_slices positive.old negative.old)
         × (start ≤ length text.now) }
     ensures { Scanning sizes text.now start
@@ -205,32 +160,15 @@ pub fn clause_line(
     let mut state = begun;
     let mut cursor = Cursor { at: start };
     while cursor.at < text.len() {
-        let at = cursor.at;
-        if text[at] == 10 {
-            let taken = Taken {
-                answer: Checked::Passed,
-                begun: state,
-            };
-            return Stepped {
-                taken,
-                next: cursor,
-            };
+        if text[cursor.at] == b'\n' {
+            break;
         }
-        let step = clause_word(text, cursor, sizes, state, positive, negative);
-        let taken = step.taken;
-        let answer = taken.answer;
-        let Checked::Passed = answer else {
-            return step;
-        };
-        state = taken.begun;
+        let step = clause_word(text, cursor, sizes, state, positive, negative)?;
+        state = step.begun;
         cursor = step.next;
     }
-    let taken = Taken {
-        answer: Checked::Passed,
+    Ok(Stepped {
         begun: state,
-    };
-    Stepped {
-        taken,
         next: cursor,
-    }
+    })
 }

@@ -6,26 +6,21 @@ ghost use Rattle.std.specs.Prelude.{◌≡◌, ◌≤◌, ◌<◌, length};
 ghost use Rattle.points.specs.Points.{point_digits};
 ghost use Rattle.formula.specs.Limits.{max_variables};
 ghost use Rattle.dimacs_format.specs.Reader.{target_in};
-ghost use Rattle.dimacs_targets.specs.Laws.TargetScans.{wanted_of, no_target, with_digit, binary_in, TargetRead};
+ghost use Rattle.dimacs_targets.specs.Laws.TargetScans.{wanted_of, DigitRead, with_digit, binary_in, TargetRead};
 
 use dimacs_words::blank_from;
-use formula::Checked;
+use formula::reasons::{Reason, Refusal};
 use points::{Point, with_variable};
 
-// What the target lines have said, or what one holds: a target, if it was found.
-#[derive(Clone, Copy)]
-pub struct Wanted {
-    pub found: bool,
-    pub target: Point,
-}
-
-// No target.
-pub fn no_target() -> Wanted
-    ensures { result ≡ no_target }
+// The digit 0 or 1 that a byte is.
+#[tactic(auto, unfolding(dimacs_format::specs::Reader::is_binary))]
+fn binary_digit(b: u8) -> Option<bool>
+    ensures { DigitRead b result }
 {
-    Wanted {
-        found: false,
-        target: points::EMPTY,
+    match b {
+        b'0' => Some(false),
+        b'1' => Some(true),
+        _ => None,
     }
 }
 
@@ -38,80 +33,50 @@ fn with_digit(x: Point, i: u32, one: bool) -> Point
 }
 
 // S18: "holds n digits 0 or 1 unparted, name 1 first". One step a digit. The caller has seen to n and to the length.
-fn target_digits(bytes: &[u8], n: u32) -> Wanted
+fn target_digits(bytes: &[u8], n: u32) -> Option<Point>
     requires { (n ≤ max_variables) × (n ≤ length bytes.now) }
     ensures { wanted_of result ≡ binary_in n bytes.now }
 {
     let mut x = points::EMPTY;
-    let mut i: u32 = 0;
-    while i < n {
-        let at = i as usize;
-        let b = bytes[at];
-        if b < 48 {
-            return no_target();
-        }
-        if 49 < b {
-            return no_target();
-        }
-        let one = b == 49;
+    for i in 0..n {
+        let one = binary_digit(bytes[i as usize])?;
         x = with_digit(x, i, one);
-        i += 1;
     }
-    Wanted {
-        found: true,
-        target: x,
-    }
+    Some(x)
 }
 
 // S18: "holds n digits 0 or 1 unparted, name 1 first, then only blanks". One step a byte.
 // `dimacs_targets::target_line` is called below refusal 3, which sees to n.
-pub fn read_target(bytes: &[u8], n: u32) -> Wanted
+pub fn read_target(bytes: &[u8], n: u32) -> Option<Point>
     requires { n ≤ max_variables }
     ensures { wanted_of result ≡ target_in n bytes.now }
 {
     let size = n as usize;
     if bytes.len() < size {
-        return no_target();
+        return None;
     }
-    let blank = blank_from(bytes, size);
-    if !blank {
-        return no_target();
+    if !blank_from(bytes, size) {
+        return None;
     }
     target_digits(bytes, n)
 }
 
-// What comes of a target line: on with its target, or a refusal.
-#[derive(Clone, Copy)]
-pub struct TargetTaken {
-    pub answer: Checked,
-    pub wanted: Wanted,
-}
-
 // R8: "wish line malformed or second | 8 | line's first byte", which stands at `start`. Refusal 3 sees to n.
-pub fn target_line(bytes: &[u8], start: usize, n: u32, wanted: Wanted) -> TargetTaken
+pub fn target_line(
+    bytes: &[u8],
+    start: usize,
+    n: u32,
+    wanted: Option<Point>,
+) -> Result<Point, Refusal>
     requires { n ≤ max_variables }
     ensures { TargetRead n start bytes.now wanted result }
 {
-    let refusal = Checked::Refused {
-        code: 8,
+    let refusal = Refusal {
+        reason: Reason::TargetLine,
         place: start,
     };
-    let second = wanted.found;
-    if second {
-        return TargetTaken {
-            answer: refusal,
-            wanted,
-        };
-    }
-    let read = read_target(bytes, n);
-    if !read.found {
-        return TargetTaken {
-            answer: refusal,
-            wanted,
-        };
-    }
-    TargetTaken {
-        answer: Checked::Passed,
-        wanted: read,
+    match wanted {
+        Some(_) => Err(refusal),
+        None => read_target(bytes, n).ok_or(refusal),
     }
 }

@@ -3,7 +3,7 @@
 
 ghost use Rattle.std.specs.Prelude.{◌≡◌, ◌≤◌, length, drop};
 ghost use Rattle.math.specs.Lists.{any};
-ghost use Rattle.dimacs_format.specs.Text.{ends_line, is_blank, is_digit, all_blank, number_in, begins};
+ghost use Rattle.dimacs_format.specs.Text.{ends_line, is_blank, is_digit, all_blank, number_in};
 ghost use Rattle.dimacs_words.specs.Laws.Scans.{belongs, Stretch, Skipped, ends_word, number_of, word_made};
 ghost use Rattle.dimacs_words.specs.Laws.Scans.{DigitsRead};
 
@@ -15,55 +15,44 @@ pub enum Class {
     Line,
 }
 
-// What a run of bytes is: a number of one to four digits, or none.
-#[derive(Clone, Copy)]
-pub enum Number {
-    Value(u32),
-    Malformed,
-}
-
 // A place in a line or a text.
 #[derive(Clone, Copy)]
 pub struct Cursor {
     pub at: usize,
 }
 
-// F7: what the word reader answers: the number with the cursor behind it, or that the word is malformed.
+// F7: the number that a word is, with the cursor behind it. The word reader answers none where a word is malformed.
 #[derive(Clone, Copy)]
-pub enum Word {
-    Read {
-        negated: bool,
-        value: u32,
-        next: Cursor,
-    },
-    Malformed,
+pub struct Word {
+    pub negated: bool,
+    pub value: u32,
+    pub next: Cursor,
 }
 
 pub fn is_blank(b: u8) -> bool
     ensures { result ≡ is_blank b }
 {
-    (b == 32) | (b == 9) | (b == 13)
+    (b == b' ') | (b == b'\t') | (b == b'\r')
 }
 
 fn is_digit(b: u8) -> bool
     ensures { result ≡ is_digit b }
 {
-    (48 <= b) & (b <= 57)
+    (b'0' <= b) & (b <= b'9')
 }
 
-// Whether a word of a text ends before the byte: a blank, or the end of its line. Most bytes of a text are above 32, and
-// most others are 32, so these are asked for first.
+// Whether a word of a text ends before the byte: a blank, or the end of its line. Most bytes of a text are above a space,
+// and most others are one, so these are asked for first.
 pub fn ends_word(b: u8) -> bool
     ensures { result ≡ ends_word b }
 {
-    if 32 < b {
+    if b' ' < b {
         return false;
     }
-    if b == 32 {
+    if b == b' ' {
         return true;
     }
-    let blank = is_blank(b);
-    blank | (b == 10)
+    is_blank(b) | (b == b'\n')
 }
 
 // Whether a byte belongs to a run of the class.
@@ -73,7 +62,7 @@ fn belongs(class: Class, b: u8) -> bool
     match class {
         Class::Blank => is_blank(b),
         Class::Word => !is_blank(b),
-        Class::Line => b != 10,
+        Class::Line => b != b'\n',
     }
 }
 
@@ -83,16 +72,12 @@ pub fn run_end(bytes: &[u8], from: usize, class: Class) -> usize
     requires { from ≤ length bytes.now }
     ensures { Stretch (belongs class) bytes.now from result }
 {
-    let mut i = from;
-    while i < bytes.len() {
-        let b = bytes[i];
-        let inside = belongs(class, b);
-        if !inside {
+    for i in from..bytes.len() {
+        if !belongs(class, bytes[i]) {
             return i;
         }
-        i += 1;
     }
-    i
+    bytes.len()
 }
 
 // Whether the bytes from a place on are all blanks. One step a byte, up to the first that is none. Callers stand within
@@ -101,22 +86,20 @@ pub fn blank_from(bytes: &[u8], from: usize) -> bool
     requires { from ≤ length bytes.now }
     ensures { result ≡ all_blank (drop from bytes.now) }
 {
-    let end = run_end(bytes, from, Class::Blank);
-    end == bytes.len()
+    bytes[from..].iter().all(|b| is_blank(*b))
 }
 
 // How many bytes are tested at once for the end of a line: as many as a register of the least x86-64 holds.
 const BLOCK: usize = 16;
 
-// Whether a line ends in the bytes. One step a byte, none of them left out, so that a compiler tests many bytes at once.
+// Whether a line ends in the bytes. One step a byte, none of them left out, so that a compiler tests many bytes at once;
+// the library's search would leave at the first.
 fn ends_inside(bytes: &[u8]) -> bool
     ensures { result ≡ any ends_line bytes.now }
 {
     let mut found = false;
-    let mut i = 0;
-    while i < bytes.len() {
-        found = found | (bytes[i] == 10);
-        i += 1;
+    for b in bytes {
+        found |= *b == b'\n';
     }
     found
 }
@@ -145,107 +128,68 @@ pub fn line_end(text: &[u8], from: usize) -> usize
     requires { from ≤ length text.now }
     ensures { Stretch (belongs Class.Line) text.now from result }
 {
-    let near = skip_blocks(text, from);
-    run_end(text, near, Class::Line)
+    run_end(text, skip_blocks(text, from), Class::Line)
 }
 
 // S13: "one to four digits, leading zeros allowed". At most four steps.
-pub fn read_number(w: &[u8]) -> Number
+pub fn read_number(w: &[u8]) -> Option<u32>
     ensures { number_of result ≡ number_in w.now }
 {
-    if w.len() < 1 {
-        return Number::Malformed;
-    }
-    if 4 < w.len() {
-        return Number::Malformed;
+    if w.is_empty() || 4 < w.len() {
+        return None;
     }
     let mut v: u32 = 0;
-    let mut i = 0;
-    while i < w.len() {
-        let b = w[i];
-        let digit = is_digit(b);
-        if !digit {
-            return Number::Malformed;
+    for b in w {
+        if !is_digit(*b) {
+            return None;
         }
-        let shifted = v * 10;
-        let d = b - 48;
-        let low = d as u32;
-        v = shifted + low;
-        i += 1;
+        v = v * 10 + u32::from(*b - b'0');
     }
-    Number::Value(v)
+    Some(v)
 }
 
 // What digits up to a place make with their sign, of this value: S13, "a minus before value 0 malformed".
-fn made_word(negated: bool, value: u32, at: usize) -> Word
+fn made_word(negated: bool, value: u32, at: usize) -> Option<Word>
     ensures { result ≡ word_made negated value at }
 {
-    if value == 0 {
-        if negated {
-            return Word::Malformed;
-        }
+    if value == 0 && negated {
+        return None;
     }
-    Word::Read {
+    Some(Word {
         negated,
         value,
         next: Cursor { at },
-    }
+    })
 }
 
 // F7; S13: "one to four digits, leading zeros allowed": the rest of a word, behind its sign, up to a blank, the end of
 // its line or that of the text. Its value is read in the pass that finds its end: at most five steps. Callers stand
 // within the text.
-pub fn read_digits(text: &[u8], negated: bool, from: usize) -> Word
+pub fn read_digits(text: &[u8], negated: bool, from: usize) -> Option<Word>
     requires { from ≤ length text.now }
     ensures { DigitsRead text.now negated from result }
 {
     if text.len() <= from {
-        return Word::Malformed;
+        return None;
     }
     let first = text[from];
-    let number = is_digit(first);
-    if !number {
-        return Word::Malformed;
+    if !is_digit(first) {
+        return None;
     }
-    let high = first - 48;
-    let mut v = high as u32;
-    let mut i = from + 1;
-    while i < text.len() {
+    let mut v = u32::from(first - b'0');
+    for i in from + 1..text.len() {
         let b = text[i];
-        let digit = is_digit(b);
-        if !digit {
-            let ended = ends_word(b);
-            if !ended {
-                return Word::Malformed;
+        if !is_digit(b) {
+            if !ends_word(b) {
+                return None;
             }
             return made_word(negated, v, i);
         }
         let passed = i - from;
         if 4 <= passed {
-            return Word::Malformed;
+            return None;
         }
-        let shifted = v * 10;
-        let d = b - 48;
-        let low = d as u32;
-        v = shifted + low;
-        i += 1;
+        v = v * 10 + u32::from(b - b'0');
     }
-    made_word(negated, v, i)
-}
-
-// Whether the bytes begin with the head. At most as many steps as the head has bytes.
-pub fn begins(head: &[u8], bytes: &[u8]) -> bool
-    ensures { result ≡ begins head.now bytes.now }
-{
-    if bytes.len() < head.len() {
-        return false;
-    }
-    let mut i = 0;
-    while i < head.len() {
-        if head[i] != bytes[i] {
-            return false;
-        }
-        i += 1;
-    }
-    true
+    made_word(negated, v, text.len())
 }

@@ -3,10 +3,10 @@ use Rattle.std.proofs.Common.{sym, lt-ltb, le-ltb}
 use Rattle.dimacs_body.specs.Laws.LineScans.{opens_with}
 use Rattle.dimacs_body.proofs.opens_apart.Goals as goal
 
-pub returns-then-text-at : goal.returns-then-text-at
+pub returns-then-at-text : goal.returns-then-at-text
 unfolding opens_with
-returns-then-text-at c = sym (rw (le-ltb _ _ c.if-text-at.true))
+returns-then-at-text c = sym (rw (lt-ltb _ _ c.if-at-text.true))
 
-pub returns : goal.returns
+pub returns-else-at-text : goal.returns-else-at-text
 unfolding opens_with
-returns c = sym (rw (lt-ltb _ _ c.if-text-at.false))
+returns-else-at-text c = sym (rw (le-ltb _ _ c.if-at-text.false))

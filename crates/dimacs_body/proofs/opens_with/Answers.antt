@@ -1,12 +1,12 @@
 -- `dimacs_body::opens_with` meets its contract: the first byte decides, if there is one. Assumes nothing.
-use Rattle.std.proofs.Common.{◌&&◌, sym, ap, eqb, get_or, lt-ltb, le-ltb}
+use Rattle.std.proofs.Common.{sym, lt-ltb, le-ltb}
 use Rattle.dimacs_body.specs.Laws.LineScans.{opens_with}
 use Rattle.dimacs_body.proofs.opens_with.Goals as goal
 
-pub returns-then-text-at : goal.returns-then-text-at
+pub returns-then-at-text : goal.returns-then-at-text
 unfolding opens_with
-returns-then-text-at c = sym (ap (λ b. b && eqb (get_or c.args.text.now c.args.at 0) c.args.byte) (le-ltb _ _ c.if-text-at.true))
+returns-then-at-text c = sym (rw (lt-ltb _ _ c.if-at-text.true))
 
-pub returns : goal.returns
+pub returns-else-at-text : goal.returns-else-at-text
 unfolding opens_with
-returns c = sym (ap (λ b. b && eqb (get_or c.args.text.now c.args.at 0) c.args.byte) (lt-ltb _ _ c.if-text-at.false))
+returns-else-at-text c = sym (rw (le-ltb _ _ c.if-at-text.false))

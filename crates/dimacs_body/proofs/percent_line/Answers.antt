@@ -7,23 +7,14 @@ use Rattle.dimacs_words.specs.Laws.ScanLaws.{run_length}
 use Rattle.dimacs_body.specs.Laws.LineScanLaws.{percent_not, percent_blank, percent_inside}
 use Rattle.dimacs_body.proofs.percent_line.Goals as goal
 
-pub returns-then-not-percent : goal.returns-then-not-percent
-returns-then-not-percent c = sym (percent_not c.args.text.now c.requires (sym c.opens_with-percent.ensures ∙ c.if-not-percent.true))
+pub returns-then-not-opens_with : goal.returns-then-not-opens_with
+returns-then-not-opens_with c = sym (percent_not c.args.text.now c.requires (sym c.opens_with.ensures ∙ c.if-not-opens_with.true))
 
 pub blank_from-requires : goal.blank_from-requires
 blank_from-requires c =
     let line = c.line_end-stop.ensures in
-    let inside = percent_inside c.args.text.now c.requires line (sym c.opens_with-percent.ensures ∙ c.if-not-percent.false) in
+    let inside = percent_inside c.args.text.now c.requires line (sym c.opens_with.ensures ∙ c.if-not-opens_with.false) in
     omega (arith, run_length (belongs Line) c.args.text.now _ _ line)
 
 pub returns : goal.returns
-returns c = percent_blank c.args.text.now c.requires c.line_end-stop.ensures (sym c.opens_with-percent.ensures ∙ c.if-not-percent.false) c.blank_from.ensures
-
-pub slice_bounds-blank_from-count : goal.slice_bounds-blank_from-count
-slice_bounds-blank_from-count c = c.line_end-stop.ensures.ordered
-
-pub slice_bounds-blank_from-start : goal.slice_bounds-blank_from-start
-slice_bounds-blank_from-start c = c.line_end-stop.ensures.ordered
-
-pub slice_bounds-blank_from-end : goal.slice_bounds-blank_from-end
-slice_bounds-blank_from-end c = c.line_end-stop.ensures.within
+returns c = percent_blank c.args.text.now c.requires c.line_end-stop.ensures (sym c.opens_with.ensures ∙ c.if-not-opens_with.false) c.blank_from.ensures

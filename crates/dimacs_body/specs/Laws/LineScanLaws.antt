@@ -1,6 +1,7 @@
 -- Laws of the lines behind the problem line, as the code goes along them. Assumes nothing.
-use Rattle.std.specs.Prelude.{Bool, true, false, not, cond, ◌&&◌, List, [], ◌∷◌, ◌≡◌, ℕ, suc, ◌+◌, ◌-◌, ◌≤◌, ◌<◌, eqb, ltb, length, take, drop}
-use Rattle.std.proofs.Common.{true≢false, ◌∙◌, length-append}
+use Rattle.std.proofs.Math.Option.{some}
+use Rattle.std.specs.Prelude.{Option as Answer, Some, None, Result, Ok, Err, Bool, true, false, not, ◌&&◌, List, [], ◌∷◌, ◌≡◌, ℕ, suc, ◌+◌, ◌-◌, ◌≤◌, ◌<◌, eqb, ltb, length, take, drop}
+use Rattle.std.proofs.Common.{true≢false, ◌∙◌}
 use Rattle.std.proofs.Math.Path.{refl, sym, ap, subst}
 use Rattle.std.proofs.Math.Decide.{dec_lt, ℕ_discrete}
 use native.Mathlib.Omega.{arith}
@@ -9,93 +10,94 @@ use borrow.Author.Tests.{lt-ltb, le-ltb, ltb-true, eq-eqb, ne_eqb, eqb-true, not
 use Rattle.math.specs.Laws.ListLaws.{and_split, not-true-false, or_left, or_right}
 use Rattle.permutation_theory.specs.Permutations.{permutations_in}
 use Rattle.point_slices.specs.Slices.{ClauseSlices}
-use Rattle.formula.specs.declared.Checked.TheVariants.{Passed, Refused}
+use Rattle.formula.specs.declared.reasons.Refusal.{Refusal}
 use Rattle.dimacs_words.specs.declared.Class.TheVariants.{Line as LineBytes}
 use Rattle.dimacs_clauses.specs.declared.Begun.{Begun}
 use Rattle.dimacs_clauses.specs.declared.Stepped.{Stepped}
-use Rattle.dimacs_targets.specs.declared.TargetTaken.{TargetTaken}
-use Rattle.dimacs_permutations.specs.declared.PermutationTaken.{PermutationTaken}
 use Rattle.dimacs_body.specs.declared.State.{State}
-use Rattle.dimacs_body.specs.declared.Advanced.{Advanced}
 use Rattle.dimacs_body.specs.declared.Lined.{Lined}
 use Rattle.dimacs_format.specs.Text.{max_text, ends_line, Line, piece, same_bytes, begins, is_comment, all_blank}
 use Rattle.dimacs_format.specs.Text.{is_percent_line, target_head}
 use Rattle.dimacs_format.specs.Text.{permutation_head, is_target_line, is_permutation_line}
-use Rattle.dimacs_format.specs.Reader.{and_then, Sizes, Progress, with_part, line_step, at_end, lines_say, text_says}
+use Rattle.dimacs_format.specs.Reader.{and_then, goes, Sizes, Clauses, Progress, with_part, line_step, at_end, lines_say, text_says}
 use Rattle.dimacs_format.specs.Reader.{clause_line_lem, target_line_lem, permutation_line_lem}
-use Rattle.dimacs_format.specs.Laws.AnswerLaws.{step_to, where_passed, where_both, step_within}
-use Rattle.dimacs_format.specs.Laws.AnswerLaws.{where_told, where_refused, then_passed, then_alike}
+use Rattle.dimacs_format.specs.Laws.AnswerLaws.{step_then, step_within, then_next, then_alike, of_both}
 use Rattle.dimacs_format.specs.Laws.LineLaws.{kind_clauses, kind_target, kind_permutation, kind_remark, line_remark}
 use Rattle.dimacs_format.specs.Laws.LineLaws.{line_of_kind}
-use Rattle.dimacs_format.specs.Laws.TextLaws.{begins_split}
 use Rattle.dimacs_format.specs.Laws.ReaderLaws.{says_percent, says_line}
 use Rattle.dimacs_words.specs.Laws.Scans.{belongs, Stretch, lines_behind}
-use Rattle.dimacs_words.specs.Laws.ScanLaws.{here_on, part_end, behind-none, behind-some, lines_from_lem}
+use Rattle.dimacs_words.specs.Laws.ScanLaws.{here_on, behind-none, behind-some, lines_from_lem}
 use Rattle.dimacs_words.specs.Laws.ScanLaws.{run-begins, run_exists, run_later}
 use Rattle.dimacs_clauses.specs.Laws.ClauseScans.{clauses_from, Ready, Scanning}
-use Rattle.dimacs_targets.specs.Laws.TargetScans.{wanted_of, TargetRead}
+use Rattle.dimacs_targets.specs.Laws.TargetScans.{TargetRead}
 use Rattle.dimacs_permutations.specs.Laws.HandlerScans.{PermutationRead}
 use Rattle.dimacs_body.specs.Laws.LineScans.{nothing_said, with_begun, with_wanted, with_permutations, progress_with}
 use Rattle.dimacs_body.specs.Laws.LineScans.{progress_from, Kept, Standing}
 use Rattle.dimacs_body.specs.Laws.LineScans.{CommentRead}
 use Rattle.dimacs_body.specs.Laws.LineScans.{opens_with, opens_comment, opens_apart, percent_first, percent_at}
 use Rattle.dimacs_body.specs.Laws.LineScans.{WordsThere, lines_from, lines_after, Following, Going}
-use Rattle.dimacs_body.specs.Laws.LineScans.{onward, Advancing, ended_with, LinesRead, Passing}
+use Rattle.dimacs_body.specs.Laws.LineScans.{said, onward, Advancing, LinesRead, Passing}
 
 -- ---- a line of any kind
 
--- a line with a head is at least as long
-pub head-length : (head line : List ℕ) → begins head line ≡ true → length head ≤ length line
-head-length head line e = subst (λ l. length head ≤ length l) (sym (begins_split head line e))
-    (omega (arith, length-append head (drop (length head) line)))
-
--- what the code hands on is what stands behind the head
-abbrev pub handed_on : List ℕ → List ℕ → List ℕ
-handed_on head line = take (length line - length head) (drop (length head) line)
-
-module _ {z : Sizes} {start : ℕ} {line : List ℕ} {s : State} {images : List ℕ} where
+module _ {z : Sizes} {start : ℕ} (line : List ℕ) {s : State} {images : List ℕ} (kept : Kept z s images) where
   -- a target line: its part is replaced
-  pub target_read : {r : TargetTaken} → Kept z s images → is_target_line (piece start line) ≡ true
-      → TargetRead z.variables start (handed_on target_head line) s.wanted r
-      → CommentRead z start line s images (record { answer = r.answer; state = with_wanted s r.wanted }) images
-  target_read {r = r} kept t k =
-      record {
-        step =
-            λ x.
-            let p : Progress = progress_with z.variables x images s in
-            step_within r.answer (wanted_of r.wanted) (with_part target_line_lem p)
-            (subst (λ bytes. TargetRead z.variables start bytes s.wanted r) (part_end line (length target_head)) k
-            ).step
-            ∙ sym (line_of_kind z p (piece start line) target_line_lem (kind_target (piece start line) t));
-        same_clauses = refl;
-        kept = where_passed r.answer (record { variables = kept.variables; images_kept = kept.images_kept });
-      }
+  module _ (t : is_target_line (piece start line) ≡ true) where
+    target_step : {bytes : List ℕ} {r : Result ℕ Refusal} → bytes ≡ drop (length target_head) line
+        → TargetRead z.variables start bytes s.wanted r → (c : Clauses) → step_then r (λ x. goes (progress_with z.variables c images (with_wanted s (Some x))))
+        ≡ line_step z (progress_with z.variables c images s) (piece start line)
+    target_step {bytes} {r} e k c =
+        let p : Progress = progress_with z.variables c images s in
+        step_within r some (with_part target_line_lem p)
+        (subst (λ b. TargetRead z.variables start b s.wanted r) e k).step
+        ∙ sym (line_of_kind z p (piece start line) target_line_lem (kind_target (piece start line) t))
+
+    pub target_read : {bytes : List ℕ} {x : ℕ} → bytes ≡ drop (length target_head) line
+        → TargetRead z.variables start bytes s.wanted (Ok x)
+        → CommentRead z start line s images (Ok (with_wanted s (Some x))) images
+    target_read e k =
+        record {
+          step = target_step e k;
+          same_clauses = refl;
+          kept = record { variables = kept.variables; images_kept = kept.images_kept };
+        }
+
+    pub target_refused : {bytes : List ℕ} {r : Refusal} → bytes ≡ drop (length target_head) line
+        → TargetRead z.variables start bytes s.wanted (Err r)
+        → CommentRead z start line s images (Err r) images
+    target_refused e k = record { step = target_step e k; same_clauses = tt; kept = tt }
 
   -- a permutation line
-  pub permutation_read : {r : PermutationTaken} {images₁ : List ℕ} → Kept z s images
-      → is_permutation_line (piece start line) ≡ true
-      → PermutationRead z.variables start (handed_on permutation_head line) s.permutations images r images₁
-      → CommentRead z start line s images (record { answer = r.answer; state = with_permutations s r.permutations })
-      images₁
-  permutation_read {r = r} {images₁} kept e k =
-      record {
-        step =
-            λ x.
-            let p : Progress = progress_with z.variables x images s in
-            step_within r.answer (permutations_in z.variables r.permutations images₁)
-            (with_part permutation_line_lem p)
-            (subst (λ bytes. PermutationRead z.variables start bytes s.permutations images r images₁)
-            (part_end line (length permutation_head)) k).step
-            ∙ sym (line_of_kind z p (piece start line) permutation_line_lem (kind_permutation (piece start line) e));
-        same_clauses = refl;
-        kept = where_both r.answer (λ h. record { variables = kept.variables; images_kept = h }) k.kept;
-      }
+  module _ {images₁ : List ℕ} (t : is_permutation_line (piece start line) ≡ true) where
+    permutation_step : {bytes : List ℕ} {r : Result ℕ Refusal} → bytes ≡ drop (length permutation_head) line
+        → PermutationRead z.variables start bytes s.permutations images r images₁ → (c : Clauses) → step_then r (λ k. goes (progress_with z.variables c images₁ (with_permutations s k)))
+        ≡ line_step z (progress_with z.variables c images s) (piece start line)
+    permutation_step {bytes} {r} e k c =
+        let p : Progress = progress_with z.variables c images s in
+        step_within r (λ k. permutations_in z.variables k images₁) (with_part permutation_line_lem p)
+        (subst (λ b. PermutationRead z.variables start b s.permutations images r images₁) e k).step
+        ∙ sym (line_of_kind z p (piece start line) permutation_line_lem (kind_permutation (piece start line) t))
+
+    pub permutation_read : {bytes : List ℕ} {k : ℕ} → bytes ≡ drop (length permutation_head) line
+        → PermutationRead z.variables start bytes s.permutations images (Ok k) images₁
+        → CommentRead z start line s images (Ok (with_permutations s k)) images₁
+    permutation_read e k =
+        record {
+          step = permutation_step e k;
+          same_clauses = refl;
+          kept = record { variables = kept.variables; images_kept = k.kept };
+        }
+
+    pub permutation_refused : {bytes : List ℕ} {r : Refusal} → bytes ≡ drop (length permutation_head) line
+        → PermutationRead z.variables start bytes s.permutations images (Err r) images₁
+        → CommentRead z start line s images (Err r) images₁
+    permutation_refused e k = record { step = permutation_step e k; same_clauses = tt; kept = tt }
 
   -- a remark
-  pub remark_read : Kept z s images → is_comment (piece start line) ≡ true → is_target_line (piece start line) ≡ false
+  pub remark_read : is_comment (piece start line) ≡ true → is_target_line (piece start line) ≡ false
       → is_permutation_line (piece start line) ≡ false
-      → CommentRead z start line s images (record { answer = Passed; state = s }) images
-  remark_read kept c t e =
+      → CommentRead z start line s images (Ok s) images
+  remark_read c t e =
       record {
         step = λ x. sym (line_remark z (progress_with z.variables x images s) (piece start line)
             (kind_remark (piece start line) c t e));
@@ -215,14 +217,16 @@ module _ (z : Sizes) (text : List ℕ) {at : ℕ} where
 
 module _ {z : Sizes} {text : List ℕ} where
   -- a line of words replaces the clauses
-  pub words_follow : {first : ℕ} {clauses : ClauseSlices} {b : Begun} {r : Stepped} {clauses₁ : ClauseSlices}
+  pub words_follow : {first : ℕ} {clauses : ClauseSlices} {b : Begun} {r : Result Stepped Refusal}
+      {clauses₁ : ClauseSlices}
       → WordsThere text first → Scanning z text first clauses b r clauses₁
       → Following z text first clauses b r clauses₁
+  unfolding and_then
   words_follow {first} {clauses} {b} {r} {clauses₁} c k =
       let line : Line = piece first (take (k.stop - first) (drop first text)) in
       record {
-        within = where_both r.taken.answer
-            (λ e. (subst (λ j. first ≤ j) (sym e) k.line.ordered, subst (λ j. j ≤ length text) (sym e) k.line.within))
+        within = of_both r
+            (λ s e. (subst (λ j. first ≤ j) (sym e) k.line.ordered, subst (λ j. j ≤ length text) (sym e) k.line.within))
             k.ended;
         step =
             λ p.
@@ -230,11 +234,14 @@ module _ {z : Sizes} {text : List ℕ} where
             line_first z text c.no_percent k.line q
             ∙ ap (λ m. and_then m (lines_after z text k.stop))
             (line_of_kind z q line clause_line_lem (kind_clauses line (comment_there text k.line ∙ c.no_comment))
-            ∙ sym (step_within r.taken.answer (clauses_from clauses₁ r.taken.begun) (with_part clause_line_lem q) k.step))
-            ∙ then_alike r.taken.answer (with_part clause_line_lem p (clauses_from clauses₁ r.taken.begun))
-            (lines_after z text k.stop) (lines_after z text r.next.at)
-            (where_both r.taken.answer (λ e. ap (λ j. lines_after z text j
-            (with_part clause_line_lem p (clauses_from clauses₁ r.taken.begun))) (sym e)) k.ended);
+            ∙ sym (step_within r (λ s. clauses_from clauses₁ s.begun) (with_part clause_line_lem q) k.step))
+            ∙ then_next r (λ s. goes (with_part clause_line_lem p (clauses_from clauses₁ s.begun)))
+            (lines_after z text k.stop)
+            ∙ then_alike r
+            (λ s. lines_after z text k.stop (with_part clause_line_lem p (clauses_from clauses₁ s.begun)))
+            (λ s. lines_after z text s.next.at (with_part clause_line_lem p (clauses_from clauses₁ s.begun)))
+            (of_both r (λ s e. ap (λ j. lines_after z text j
+            (with_part clause_line_lem p (clauses_from clauses₁ s.begun))) (sym e)) k.ended);
         ready = k.ready;
       }
 
@@ -245,106 +252,109 @@ module _ {z : Sizes} {text : List ℕ} where
         record { ready = ready; lower = omega arith; within = within; words_there = c; left = λ p. refl }
 
     module _ {clauses : ClauseSlices} {b : Begun} {first : ℕ} (a : Going z text start clauses₀ b₀ clauses b first)
-        {r : Stepped} {clauses₁ : ClauseSlices} (k : Scanning z text first clauses b r clauses₁) where
-      follows : Following z text first clauses b r clauses₁
-      follows = words_follow a.words_there k
-
+        {clauses₁ : ClauseSlices} where
       -- the last of them
-      pub going_ends : Following z text start clauses₀ b₀ r clauses₁
-      going_ends =
+      pub going_ends : {r : Result Stepped Refusal} → Scanning z text first clauses b r clauses₁
+          → Following z text start clauses₀ b₀ r clauses₁
+      going_ends {r} k =
+          let follows = words_follow a.words_there k in
           record {
-            within = where_both r.taken.answer (λ w. (let l = a.lower in let m = w.0 in omega arith, w.1))
-                follows.within;
+            within = of_both r (λ s w. (let l = a.lower in let m = w.0 in omega arith, w.1)) follows.within;
             step = λ p. a.left p ∙ follows.step p;
             ready = k.ready;
           }
 
-      pub going_later : r.taken.answer ≡ Passed → first ≤ r.next.at
-      going_later e = (where_told ((first ≤ r.next.at) × (r.next.at ≤ length text)) e follows.within).0
+      module _ {s : Stepped} (k : Scanning z text first clauses b (Ok s) clauses₁) where
+        follows : Following z text first clauses b (Ok s) clauses₁
+        follows = words_follow a.words_there k
 
-      pub going_goes_on : r.taken.answer ≡ Passed → r.next.at < length text
-          → opens_apart text (r.next.at + 1) ≡ false
-          → Going z text start clauses₀ b₀ clauses₁ r.taken.begun (r.next.at + 1)
-      going_goes_on e lt c =
-          record {
-            ready = k.ready;
-            lower = let l = a.lower in let w = going_later e in omega arith;
-            within = omega arith;
-            words_there =
-                let comment : Bool = opens_comment text (r.next.at + 1) in
-                let percent : Bool = opens_with 37 text (r.next.at + 1) in
-                record {
-                  no_comment = not-true-false comment (λ h. true≢false (sym (or_left comment percent h) ∙ c));
-                  no_percent = percent_not text (omega arith)
-                      (not-true-false percent (λ h. true≢false (sym (or_right comment percent h) ∙ c)));
-                };
-            left =
-                λ p.
-                a.left p ∙ follows.step p
-                ∙ then_passed r.taken.answer (with_part clause_line_lem p (clauses_from clauses₁ r.taken.begun))
-                (lines_after z text r.next.at) e
-                ∙ ap (lines_say (length text) z (with_part clause_line_lem p (clauses_from clauses₁ r.taken.begun)))
-                (behind-some text r.next.at lt);
-          }
+        pub going_later : first ≤ s.next.at
+        going_later = follows.within.0
+
+        pub going_goes_on : s.next.at < length text → opens_apart text (s.next.at + 1) ≡ false
+            → Going z text start clauses₀ b₀ clauses₁ s.begun (s.next.at + 1)
+        going_goes_on lt c =
+            record {
+              ready = k.ready;
+              lower = let l = a.lower in let w = going_later in omega arith;
+              within = omega arith;
+              words_there =
+                  let comment : Bool = opens_comment text (s.next.at + 1) in
+                  let percent : Bool = opens_with 37 text (s.next.at + 1) in
+                  record {
+                    no_comment = not-true-false comment (λ h. true≢false (sym (or_left comment percent h) ∙ c));
+                    no_percent = percent_not text (omega arith)
+                        (not-true-false percent (λ h. true≢false (sym (or_right comment percent h) ∙ c)));
+                  };
+              left =
+                  λ p.
+                  a.left p ∙ follows.step p
+                  ∙ ap (lines_say (length text) z (with_part clause_line_lem p (clauses_from clauses₁ s.begun)))
+                  (behind-some text s.next.at lt);
+            }
 
 -- ---- a comment, a percent line, or lines of words
 
 module _ {z : Sizes} {text : List ℕ} {start : ℕ} {s : State} {clauses : ClauseSlices} {images : List ℕ}
     (st : Standing z s clauses images) where
   -- a comment leaves the clauses as they are
-  pub part_comment : {stop : ℕ} {r : Advanced} {images₁ : List ℕ} → start ≤ length text → opens_comment text start ≡ true
-      → Stretch (belongs LineBytes) text start stop
-      → CommentRead z start (take (stop - start) (drop start text)) s images r images₁
-      → Advancing z text start s clauses images (record { advanced = r; stop = stop; ended = false }) clauses images₁
-  part_comment {stop} {r} {images₁} within comment line k =
-      record {
-        within = where_passed r.answer (line.ordered, line.within);
-        step =
-            line_first z text (comment_no_percent text within comment) line (progress_from z.variables clauses images s)
-            ∙ ap (λ m. and_then m (lines_after z text stop))
-            (sym (ap (λ b. step_to r.answer (progress_with z.variables (clauses_from clauses b) images₁ r.state))
-            k.same_clauses
-            ∙ k.step (clauses_from clauses s.begun)));
-        stands =
-            where_both r.answer
-            (λ h. record {
-              ready = subst (λ b. Ready z b.closed clauses) (sym k.same_clauses) st.ready;
-              kept = h;
-            })
-            k.kept;
-      }
+  module _ {stop : ℕ} {images₁ : List ℕ} (within : start ≤ length text) (comment : opens_comment text start ≡ true)
+      (line : Stretch (belongs LineBytes) text start stop) where
+    comment_step : {r : Result State Refusal} → CommentRead z start (take (stop - start) (drop start text)) s images r images₁
+        → lines_from z text start (progress_from z.variables clauses images s)
+        ≡ step_then r (λ t. lines_after z text stop (progress_with z.variables (clauses_from clauses s.begun) images₁ t))
+    unfolding and_then
+    comment_step {r} k =
+        line_first z text (comment_no_percent text within comment) line (progress_from z.variables clauses images s)
+        ∙ ap (λ m. and_then m (lines_after z text stop)) (sym (k.step (clauses_from clauses s.begun)))
+        ∙ then_next r (λ t. goes (progress_with z.variables (clauses_from clauses s.begun) images₁ t))
+        (lines_after z text stop)
+
+    pub part_comment : {t : State} → CommentRead z start (take (stop - start) (drop start text)) s images (Ok t) images₁
+        → Advancing z text start s clauses images (Ok (Some (record { state = t; stop = stop }))) clauses images₁
+    part_comment {t} k =
+        record {
+          within = (line.ordered, line.within);
+          step =
+              comment_step k
+              ∙ ap (λ b. lines_after z text stop (progress_with z.variables (clauses_from clauses b) images₁ t))
+              (sym k.same_clauses);
+          stands = record { ready = subst (λ b. Ready z b.closed clauses) (sym k.same_clauses) st.ready; kept = k.kept };
+        }
+
+    pub comment_refused : {e : Refusal} → CommentRead z start (take (stop - start) (drop start text)) s images (Err e) images₁
+        → Advancing z text start s clauses images (Err e) clauses images₁
+    comment_refused k = record { within = tt; step = comment_step k; stands = tt }
 
   -- Q01.2: a percent line ends the sheet
-  pub part_percent : {r : Lined} → start ≤ length text → percent_at text start ≡ true → r ≡ ended_with s start
-      → Advancing z text start s clauses images r clauses images
-  unfolding and_then
-  part_percent within percent e =
-      subst (λ r. Advancing z text start s clauses images r clauses images) (sym e)
-      (record {
-        within = (omega arith, within);
+  pub part_percent : start ≤ length text → percent_at text start ≡ true
+      → Advancing z text start s clauses images (Ok None) clauses images
+  part_percent within percent =
+      record {
+        within = tt;
         step = percent_ends z text within percent (progress_from z.variables clauses images s);
         stands = st;
-      })
+      }
 
   -- lines of words replace the clauses
-  pub part_words : {r : Stepped} {clauses₁ : ClauseSlices} → Following z text start clauses s.begun r clauses₁
-      → Advancing z text start s clauses images
-      (record {
-        advanced = record { answer = r.taken.answer; state = with_begun s r.taken.begun };
-        stop = r.next.at;
-        ended = false;
-      }) clauses₁ images
-  part_words {r} k =
-      record {
-        within = k.within;
-        step = k.step (progress_from z.variables clauses images s);
-        stands =
-            where_passed r.taken.answer
-            (record {
-              ready = k.ready;
-              kept = record { variables = st.kept.variables; images_kept = st.kept.images_kept };
-            });
-      }
+  module _ {clauses₁ : ClauseSlices} where
+    pub part_words : {r : Stepped} → Following z text start clauses s.begun (Ok r) clauses₁
+        → Advancing z text start s clauses images
+        (Ok (Some (record { state = with_begun s r.begun; stop = r.next.at }))) clauses₁ images
+    part_words k =
+        record {
+          within = k.within;
+          step = k.step (progress_from z.variables clauses images s);
+          stands = record {
+            ready = k.ready;
+            kept = record { variables = st.kept.variables; images_kept = st.kept.images_kept };
+          };
+        }
+
+    pub words_refused : {e : Refusal} → Following z text start clauses s.begun (Err e) clauses₁
+        → Advancing z text start s clauses images (Err e) clauses₁ images
+    words_refused k =
+        record { within = tt; step = k.step (progress_from z.variables clauses images s); stands = tt }
 
 -- ---- the lines one after the other
 
@@ -360,61 +370,52 @@ module _ {z : Sizes} {text : List ℕ} {end : ℕ} where
   module _ {clauses : ClauseSlices} {images : List ℕ} {s : State} {last : ℕ}
       (a : Passing z text end clauses images s last) where
     -- the text ends
-    pub passing_ends : length text ≤ last → {r : Lined} → r ≡ ended_with s (length text)
-        → LinesRead z text end r clauses images
-    unfolding lines_say and_then
-    passing_ends h e =
-        subst (λ r. LinesRead z text end r clauses images) (sym e)
-        (record {
+    pub passing_ends : length text ≤ last
+        → LinesRead z text end (Ok (record { state = s; stop = length text })) clauses images
+    unfolding lines_say
+    passing_ends h =
+        record {
           step = a.left ∙ ap (lines_say (length text) z (progress_from z.variables clauses images s))
               (behind-none text last h);
           stands = a.standing;
-        })
+        }
 
-    module _ {r : Lined} {clauses₁ : ClauseSlices} {images₁ : List ℕ} (inside : last < length text)
-        (k : Advancing z text (last + 1) s clauses images r clauses₁ images₁)
-      where
-        -- the steps of these lines come first
-        stepped : text_says (length text) z (lines_behind text end)
-            ≡ and_then (step_to r.advanced.answer (progress_from z.variables clauses₁ images₁ r.advanced.state))
-            (onward z text r)
-        stepped =
-            a.left ∙ ap (lines_say (length text) z (progress_from z.variables clauses images s))
-            (behind-some text last inside) ∙ k.step
+    module _ (inside : last < length text) {clauses₁ : ClauseSlices} {images₁ : List ℕ} where
+      -- the steps of these lines come first
+      stepped : {r : Result (Answer Lined) Refusal}
+          → Advancing z text (last + 1) s clauses images r clauses₁ images₁
+          → text_says (length text) z (lines_behind text end)
+          ≡ step_then r (λ o. onward z text (last + 1) o (progress_from z.variables clauses₁ images₁ (said s o)))
+      stepped k =
+          a.left ∙ ap (lines_say (length text) z (progress_from z.variables clauses images s))
+          (behind-some text last inside) ∙ k.step
 
-        pub passing_stops : {code place : ℕ} → r.advanced.answer ≡ Refused code place
-            → LinesRead z text end r clauses₁ images₁
-        passing_stops e =
-            record {
-              step = stepped ∙ then_alike r.advanced.answer
-                  (progress_from z.variables clauses₁ images₁ r.advanced.state) (onward z text r)
-                  (at_end r.stop z) (where_refused _ e);
-              stands = k.stands;
-            }
+      pub passing_stops : {e : Refusal} → Advancing z text (last + 1) s clauses images (Err e) clauses₁ images₁
+          → LinesRead z text end (Err e) clauses₁ images₁
+      passing_stops k = record { step = stepped k; stands = tt }
 
-        -- what comes behind these lines, by whether the sheet ends there
-        next : {ended : Bool} → r.ended ≡ ended → text_says (length text) z (lines_behind text end)
-            ≡ and_then (step_to r.advanced.answer (progress_from z.variables clauses₁ images₁ r.advanced.state))
-            (λ p. cond ended (at_end r.stop z p) (lines_after z text r.stop p))
-        next e = stepped ∙ ap (λ b. and_then
-            (step_to r.advanced.answer (progress_from z.variables clauses₁ images₁ r.advanced.state))
-            (λ p. cond b (at_end r.stop z p) (lines_after z text r.stop p))) e
+      -- Q01.2: the sheet ends there
+      pub passing_ended : {o : Answer Lined} → o ≡ None
+          → Advancing z text (last + 1) s clauses images (Ok o) clauses₁ images₁
+          → LinesRead z text end (Ok (record { state = s; stop = last + 1 })) clauses₁ images₁
+      passing_ended e other =
+          let k = subst (λ o. Advancing z text (last + 1) s clauses images (Ok o) clauses₁ images₁) e other in
+          record { step = stepped k; stands = k.stands }
 
-        -- Q01.2: the sheet ends with them
-        pub passing_ended : r.ended ≡ true → LinesRead z text end r clauses₁ images₁
-        passing_ended e = record { step = next e; stands = k.stands }
+      module _ {o : Answer Lined} {l : Lined} (e : o ≡ Some l)
+          (other : Advancing z text (last + 1) s clauses images (Ok o) clauses₁ images₁) where
+        k : Advancing z text (last + 1) s clauses images (Ok (Some l)) clauses₁ images₁
+        k = subst (λ o. Advancing z text (last + 1) s clauses images (Ok o) clauses₁ images₁) e other
 
-        pub passing_later : r.advanced.answer ≡ Passed → (last < r.stop) × (r.stop ≤ length text)
-        passing_later e = let w = where_told ((last + 1 ≤ r.stop) × (r.stop ≤ length text)) e k.within in (let l = w.0 in omega arith, w.1)
+        pub passing_later : (last < l.stop) × (l.stop ≤ length text)
+        passing_later = let w = k.within in (let v = w.0 in omega arith, w.1)
 
-        pub passing_goes_on : r.advanced.answer ≡ Passed → r.ended ≡ false → {s₁ : State} → s₁ ≡ r.advanced.state
-            → Passing z text end clauses₁ images₁ s₁ r.stop
-        passing_goes_on e on same =
-            subst (λ t. Passing z text end clauses₁ images₁ t r.stop) (sym same)
+        pub passing_goes_on : {s₁ : State} → s₁ ≡ l.state → Passing z text end clauses₁ images₁ s₁ l.stop
+        passing_goes_on same =
+            subst (λ t. Passing z text end clauses₁ images₁ t l.stop) (sym same)
             (record {
-              standing = where_told (Standing z r.advanced.state clauses₁ images₁) e k.stands;
+              standing = k.stands;
               size = a.size;
-              within = (passing_later e).1;
-              left = next on ∙ then_passed r.advanced.answer
-                  (progress_from z.variables clauses₁ images₁ r.advanced.state) (lines_after z text r.stop) e;
+              within = passing_later.1;
+              left = stepped k;
             })

@@ -1,35 +1,33 @@
 -- How what the lines have said lies in the code's numbers, slices and images, and what the functions on lines promise.
 -- Assumes nothing.
-use Rattle.std.specs.Prelude.{Bool, true, false, cond, ◌&&◌, ◌||◌, List, [], ◌∷◌, ◌≡◌, ℕ, ◌≤◌, eqb, ltb, length, get_or, drop}
+use Rattle.std.specs.Prelude.{Option as Answer, Some, None, Result, IfOk, IfSome, Bool, false, ◌&&◌, ◌||◌, List, [], ◌∷◌, ◌≡◌, ℕ, ◌≤◌, eqb, ltb, length, get_or, drop}
 use Rattle.point_slices.specs.Slices.{ClauseSlices}
 use Rattle.permutation_theory.specs.Permutations.{permutations_in}
 use Rattle.formula.specs.Limits.{max_variables}
-use Rattle.formula.specs.declared.Checked.TheVariants.{Passed}
+use Rattle.formula.specs.declared.reasons.Refusal.{Refusal}
 use Rattle.dimacs_clauses.specs.declared.Begun.{Begun}
 use Rattle.dimacs_clauses.specs.declared.Stepped.{Stepped}
-use Rattle.dimacs_targets.specs.declared.Wanted.{Wanted}
 use Rattle.dimacs_body.specs.declared.State.{State}
-use Rattle.dimacs_body.specs.declared.Advanced.{Advanced}
 use Rattle.dimacs_body.specs.declared.Lined.{Lined}
 use Rattle.dimacs_format.specs.Text.{Line, piece, lines, is_percent_line, max_text}
 use Rattle.dimacs_format.specs.Input.{Input}
-use Rattle.dimacs_format.specs.Reader.{Step, and_then, Sizes, Clauses, Progress, with_part, clause_line_lem, line_step}
+use Rattle.dimacs_format.specs.Reader.{Step, goes, Sizes, Clauses, Progress, with_part, clause_line_lem, line_step}
 use Rattle.dimacs_format.specs.Reader.{at_end, lines_say, text_says}
-use Rattle.dimacs_format.specs.Laws.AnswerLaws.{step_to, WherePassed}
+use Rattle.dimacs_format.specs.Laws.AnswerLaws.{step_then}
 use Rattle.dimacs_words.specs.Laws.Scans.{lines_behind}
-use Rattle.dimacs_clauses.specs.Laws.ClauseScans.{none_begun, clauses_from, Ready}
-use Rattle.dimacs_targets.specs.Laws.TargetScans.{wanted_of, no_target}
+use Rattle.dimacs_clauses.specs.Laws.ClauseScans.{none_begun, clauses_from, Ready, ReadyThen}
+use Rattle.dimacs_targets.specs.Laws.TargetScans.{wanted_of}
 use Rattle.dimacs_permutations.specs.Laws.HandlerScans.{KeptImages}
 
 -- nothing said yet
 abbrev pub nothing_said : State
-nothing_said = record { begun = none_begun 0; wanted = no_target; permutations = 0 }
+nothing_said = record { begun = none_begun 0; wanted = None; permutations = 0 }
 
 -- the same with the part of one kind replaced
 abbrev pub with_begun : State → Begun → State
 with_begun s b = record { begun = b; wanted = s.wanted; permutations = s.permutations }
 
-abbrev pub with_wanted : State → Wanted → State
+abbrev pub with_wanted : State → Answer ℕ → State
 with_wanted s w = record { begun = s.begun; wanted = w; permutations = s.permutations }
 
 abbrev pub with_permutations : State → ℕ → State
@@ -58,12 +56,12 @@ pub record Standing (z : Sizes) (s : State) (clauses : ClauseSlices) (images : L
   pub kept : Kept z s images
 
 -- what a comment leads to, whatever clauses there are
-pub record CommentRead (z : Sizes) (start : ℕ) (line : List ℕ) (s : State) (images : List ℕ) (r : Advanced)
-    (images₁ : List ℕ) : Type 0 where
-  pub step : (c : Clauses) → step_to r.answer (progress_with z.variables c images₁ r.state)
+pub record CommentRead (z : Sizes) (start : ℕ) (line : List ℕ) (s : State) (images : List ℕ)
+    (r : Result State Refusal) (images₁ : List ℕ) : Type 0 where
+  pub step : (c : Clauses) → step_then r (λ t. goes (progress_with z.variables c images₁ t))
       ≡ line_step z (progress_with z.variables c images s) (piece start line)
-  pub same_clauses : r.state.begun ≡ s.begun
-  pub kept : WherePassed r.answer (Kept z r.state images₁)
+  pub same_clauses : IfOk r (λ t. t.begun ≡ s.begun)
+  pub kept : IfOk r (λ t. Kept z t images₁)
 
 -- ---- what begins at a place
 
@@ -105,13 +103,12 @@ lines_after z text end p = lines_say (length text) z p (lines_behind text end)
 -- ---- comments, percent lines, and lines of words
 
 -- what lines of words lead to, whatever else was said, and the lines behind them
-pub record Following (z : Sizes) (text : List ℕ) (start : ℕ) (clauses : ClauseSlices) (b : Begun) (r : Stepped)
-    (clauses₁ : ClauseSlices) : Type 0 where
-  pub within : WherePassed r.taken.answer ((start ≤ r.next.at) × (r.next.at ≤ length text))
+pub record Following (z : Sizes) (text : List ℕ) (start : ℕ) (clauses : ClauseSlices) (b : Begun)
+    (r : Result Stepped Refusal) (clauses₁ : ClauseSlices) : Type 0 where
+  pub within : IfOk r (λ s. (start ≤ s.next.at) × (s.next.at ≤ length text))
   pub step : (p : Progress) → lines_from z text start (with_part clause_line_lem p (clauses_from clauses b))
-      ≡ and_then (step_to r.taken.answer (with_part clause_line_lem p (clauses_from clauses₁ r.taken.begun)))
-      (lines_after z text r.next.at)
-  pub ready : Ready z r.taken.begun.closed clauses₁
+      ≡ step_then r (λ s. lines_after z text s.next.at (with_part clause_line_lem p (clauses_from clauses₁ s.begun)))
+  pub ready : ReadyThen z r (λ s. s.begun) clauses₁
 
 -- the loop over lines of words: what is left, from the line that begins at a place on, says what all of them say
 pub record Going (z : Sizes) (text : List ℕ) (start : ℕ) (clauses₀ : ClauseSlices) (b₀ : Begun) (clauses : ClauseSlices)
@@ -123,32 +120,32 @@ pub record Going (z : Sizes) (text : List ℕ) (start : ℕ) (clauses₀ : Claus
   pub left : (p : Progress) → lines_from z text start (with_part clause_line_lem p (clauses_from clauses₀ b₀))
       ≡ lines_from z text first (with_part clause_line_lem p (clauses_from clauses b))
 
--- what comes behind lines that were read: the end of the sheet, or the lines behind the last of them
-abbrev pub onward : Sizes → List ℕ → Lined → Progress → Step Input
-onward z text r p = cond r.ended (at_end r.stop z p) (lines_after z text r.stop p)
+-- what was said where lines were read: as much as before where a percent line stands
+abbrev pub said : State → Answer Lined → State
+said s None = s
+said s (Some l) = l.state
+
+-- what comes behind them, by what was said: the end of the sheet at a percent line, or the lines behind the last of them
+abbrev pub onward : Sizes → List ℕ → ℕ → Answer Lined → Progress → Step Input
+onward z text start None p = at_end start z p
+onward z text start (Some l) p = lines_after z text l.stop p
 
 -- what a comment, a percent line or lines of words lead to, and what comes behind them
 pub record Advancing (z : Sizes) (text : List ℕ) (start : ℕ) (s : State) (clauses : ClauseSlices) (images : List ℕ)
-    (r : Lined) (clauses₁ : ClauseSlices) (images₁ : List ℕ) : Type 0 where
-  pub within : WherePassed r.advanced.answer ((start ≤ r.stop) × (r.stop ≤ length text))
+    (r : Result (Answer Lined) Refusal) (clauses₁ : ClauseSlices) (images₁ : List ℕ) : Type 0 where
+  pub within : IfOk r (λ o. IfSome o (λ l. (start ≤ l.stop) × (l.stop ≤ length text)))
   pub step : lines_from z text start (progress_from z.variables clauses images s)
-      ≡ and_then (step_to r.advanced.answer (progress_from z.variables clauses₁ images₁ r.advanced.state))
-      (onward z text r)
-  pub stands : WherePassed r.advanced.answer (Standing z r.advanced.state clauses₁ images₁)
+      ≡ step_then r (λ o. onward z text start o (progress_from z.variables clauses₁ images₁ (said s o)))
+  pub stands : IfOk r (λ o. Standing z (said s o) clauses₁ images₁)
 
 -- ---- the lines one after the other
 
--- what was said up to the end of the sheet
-abbrev pub ended_with : State → ℕ → Lined
-ended_with s stop = record { advanced = record { answer = Passed; state = s }; stop = stop; ended = true }
-
 -- what the lines behind one that ends at a place lead to, and where the sheet ends
-pub record LinesRead (z : Sizes) (text : List ℕ) (end : ℕ) (r : Lined) (clauses : ClauseSlices) (images : List ℕ) :
-    Type 0 where
+pub record LinesRead (z : Sizes) (text : List ℕ) (end : ℕ) (r : Result Lined Refusal) (clauses : ClauseSlices)
+    (images : List ℕ) : Type 0 where
   pub step : text_says (length text) z (lines_behind text end)
-      ≡ and_then (step_to r.advanced.answer (progress_from z.variables clauses images r.advanced.state))
-      (at_end r.stop z)
-  pub stands : WherePassed r.advanced.answer (Standing z r.advanced.state clauses images)
+      ≡ step_then r (λ l. at_end l.stop z (progress_from z.variables clauses images l.state))
+  pub stands : IfOk r (λ l. Standing z l.state clauses images)
 
 -- the loop over the lines: what is left of them, with what was said so far, says what all of them say
 pub record Passing (z : Sizes) (text : List ℕ) (end : ℕ) (clauses : ClauseSlices) (images : List ℕ) (s : State)

@@ -6,29 +6,20 @@ use Rattle.dimacs_clauses.specs.Laws.ClauseScanLaws.{number_closes, number_above
 use Rattle.dimacs_clauses.specs.Laws.ClauseScanLaws.{number_negative}
 use Rattle.dimacs_clauses.proofs.take_number.Goals as goal
 
-pub put_point-requires : goal.put_point-requires
-put_point-requires c = search rules
+pub returns-then-word-eq0 : goal.returns-then-word-eq0
+returns-then-word-eq0 c = search (rules, number_closes)
 
-pub put_point-requires-then-value-eq0 : goal.put_point-requires-then-value-eq0
-put_point-requires-then-value-eq0 c = search rules
+pub returns-then-n-word : goal.returns-then-n-word
+returns-then-n-word c = search (rules, number_above)
 
-pub none_begun-more-requires : goal.none_begun-more-requires
-none_begun-more-requires c = search rules
+pub with_variable-requires : goal.with_variable-requires
+with_variable-requires c = omega (arith, digits_suffice c.requires.variables)
 
-pub with_variable-wider-requires : goal.with_variable-wider-requires
-with_variable-wider-requires c = omega (arith, digits_suffice c.requires.variables)
+pub with_variable-requires-else-word : goal.with_variable-requires-else-word
+with_variable-requires-else-word c = omega (arith, digits_suffice c.requires.variables)
 
-pub with_variable-wider-requires-2 : goal.with_variable-wider-requires-2
-with_variable-wider-requires-2 c = omega (arith, digits_suffice c.requires.variables)
+pub returns-then-word : goal.returns-then-word
+returns-then-word c = search (rules, number_negative)
 
-pub returns-then-value-eq0 : goal.returns-then-value-eq0
-returns-then-value-eq0 c = search (rules, number_closes)
-
-pub returns-then-n-value : goal.returns-then-n-value
-returns-then-n-value c = search (rules, number_above)
-
-pub returns-then-negated : goal.returns-then-negated
-returns-then-negated c = search (rules, number_negative)
-
-pub returns : goal.returns
-returns c = search (rules, number_positive)
+pub returns-else-word : goal.returns-else-word
+returns-else-word c = search (rules, number_positive)

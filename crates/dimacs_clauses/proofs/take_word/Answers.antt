@@ -1,27 +1,27 @@
 -- `dimacs_clauses::take_word` meets its contract: one law for each way out. Assumes nothing.
-use Rattle.std.proofs.Common.{ap, ◌∙◌, rules}
-use Rattle.dimacs_clauses.specs.Laws.ClauseScans.{stopped_with}
-use Rattle.dimacs_clauses.specs.Laws.ClauseScanLaws.{step_over, step_malformed, step_taken}
+use Rattle.std.proofs.Common.{subst}
+use Rattle.std.proofs.lemmas.Result.{err_from_is_err_and}
+use Rattle.dimacs_words.specs.Laws.Scans.{WordRead}
+use Rattle.dimacs_clauses.specs.Laws.ClauseScanLaws.{step_over, step_malformed, step_taken, step_refused}
 use Rattle.dimacs_clauses.proofs.take_word.Goals as goal
-
-pub stopped-requires : goal.stopped-requires
-stopped-requires c = search rules
 
 pub returns-then-sizes-begun : goal.returns-then-sizes-begun
 returns-then-sizes-begun c =
     let a = c.args in
-    λ text h n m k. step_over c.requires.0 h n m a.word k c.if-sizes-begun.true (c.stopped.ensures ∙ ap (λ j. stopped_with 7 a.place a.begun (record { at = j })) c.requires.1)
-
-pub stopped-requires-in_default : goal.stopped-requires-in_default
-stopped-requires-in_default c = search rules
+    λ text h n m k. step_over c.requires h n m a.word k c.if-sizes-begun.true
 
 pub returns-in_default : goal.returns-in_default
 returns-in_default c =
-    let a = c.args in
-    λ text h n m k. step_malformed c.requires.0 h n m k c.in_default.is c.if-sizes-begun.false (c.stopped-in_default.ensures ∙ ap (λ j. stopped_with 5 a.place a.begun (record { at = j })) c.requires.1)
+    λ text h n m k. step_malformed c.requires h n m (subst (WordRead text c.args.place) c.in_default.is k) c.if-sizes-begun.false
 
-pub take_number-taken-requires : goal.take_number-taken-requires
-take_number-taken-requires c = search rules
+pub returns-in_err-more : goal.returns-in_err-more
+returns-in_err-more c =
+    λ text h n m k.
+    let p = err_from_is_err_and c.from_residual.result c.from_residual.ensures.1 in
+    rw (p.1, p.2)
+    (step_refused c.requires h n m c.in-Some.word (subst (WordRead text c.args.place) c.in-Some.is k) c.if-sizes-begun.false c.in_err-more.ensures)
 
 pub returns : goal.returns
-returns c = λ text h n m k. step_taken c.requires.0 h n m k c.in-Read.is c.if-sizes-begun.false c.take_number-taken.ensures
+returns c =
+    λ text h n m k.
+    step_taken c.requires h n m c.in-Some.word (subst (WordRead text c.args.place) c.in-Some.is k) c.if-sizes-begun.false c.in_ok-more.ensures

@@ -1,6 +1,6 @@
 -- Laws of reading clause words into numbers and slices: what one number does, and what a word does to the walk. Assumes
 -- nothing.
-use Rattle.std.specs.Prelude.{Bool, ◌||◌, List, [], ◌∷◌, ◌++◌, length, get_or, take, drop, set}
+use Rattle.std.specs.Prelude.{Bool, Option, Some, None, Result, Ok, Err, ◌||◌, List, [], ◌∷◌, ◌++◌, length, get_or, take, drop, set}
 use Rattle.std.proofs.Math.Bool.{true, false, not}
 use Rattle.std.proofs.Common.{true≢false, ap₂, ◌∙◌, zero-add, not-suc-le-zero, le_of_suc-le-suc, le_trans, add-one, length-set, get_or-take, take-suc-set}
 use Rattle.std.proofs.Math.Path.{◌≡◌, refl, sym, ap, subst}
@@ -12,26 +12,29 @@ use Rattle.std.proofs.Math.Seq.{length-take-le}
 use borrow.Author.Tests.{le-leb, lt-leb, lt-ltb, le-ltb}
 use Rattle.point_slices.specs.Laws.SliceLaws.{length-clauses}
 use Rattle.point_slices.specs.Slices.{ClauseSlices, beside, clauses_of, clause_room}
-use Rattle.formula.specs.declared.Checked.TheVariants.{Passed, Refused}
+use Rattle.formula.specs.declared.reasons.Refusal.{Refusal}
+use Rattle.formula.specs.declared.reasons.Reason.TheVariants.{Literal, ClauseCount, Word as BadWord}
 use Rattle.dimacs_clauses.specs.declared.Begun.{Begun}
-use Rattle.dimacs_clauses.specs.declared.Taken.{Taken}
 use Rattle.dimacs_clauses.specs.declared.Stepped.{Stepped}
 use Rattle.dimacs_words.specs.declared.Class.TheVariants.{Line}
-use Rattle.dimacs_words.specs.declared.Cursor.{Cursor}
-use Rattle.dimacs_words.specs.declared.Word.{Word as WordAnswer}
-use Rattle.dimacs_words.specs.declared.Word.TheVariants.{Read, Malformed}
+use Rattle.dimacs_words.specs.declared.Word.{Word}
 use Rattle.dimacs_format.specs.Text.{is_blank, ends_line, piece, words, Token, malformed}
 use Rattle.dimacs_format.specs.Reader.{goes, refuses, and_then, walk, Sizes, Clauses, token_step, word_step}
-use Rattle.dimacs_format.specs.Laws.AnswerLaws.{where_refused, then_passed, then_refused}
+use Rattle.dimacs_format.specs.Laws.AnswerLaws.{step_then, refusal_step, then_next}
 use Rattle.dimacs_words.specs.Laws.Scans.{belongs, ends_word, Stretch, signed, Spelt, WordAt, WordRead}
 use Rattle.dimacs_words.specs.Laws.ScanLaws.{run-begins, run_exists, run_later, run-rest, cut, word_in_line, word_skip}
 use Rattle.dimacs_words.specs.Laws.ScanLaws.{words_end}
-use Rattle.dimacs_clauses.specs.Laws.ClauseScans.{clauses_from, none_begun, stopped_with, Taking, Ready}
+use Rattle.dimacs_clauses.specs.Laws.ClauseScans.{clauses_from, none_begun, Taking, Ready}
 use Rattle.dimacs_clauses.specs.Laws.ClauseScans.{words_from}
 use Rattle.dimacs_clauses.specs.Laws.ClauseScans.{Stepping}
 use Rattle.dimacs_clauses.specs.Laws.ClauseScans.{Scanning, Along}
 
 -- ---- one number
+
+-- slices that are ready behind some clauses are ready behind none
+none_ready : {z : Sizes} {k : ℕ} {clauses : ClauseSlices} → Ready z k clauses → Ready z 0 clauses
+none_ready ready =
+    record { variables = ready.variables; few = ready.few; room = ready.room; closed = omega arith }
 
 -- a store in each slice is a store in the clauses
 beside-set : (ps ns : List ℕ) (k x y : ℕ) → k < length ps → k < length ns
@@ -67,7 +70,7 @@ module _ {n place : ℕ} {clauses : ClauseSlices} {b : Begun} {negated : Bool} {
       → more ≡ none_begun (b.closed + 1)
       → clauses₁.positive ≡ set clauses.positive b.closed b.positive
       → clauses₁.negative ≡ set clauses.negative b.closed b.negative
-      → Taking n place clauses b negated value (record { answer = Passed; begun = more }) clauses₁
+      → Taking n place clauses b negated value (Ok more) clauses₁
   unfolding token_step
   number_closes {clauses₁ = clauses₁} e lt f ep en =
       record {
@@ -90,9 +93,9 @@ module _ {n place : ℕ} {clauses : ClauseSlices} {b : Begun} {negated : Bool} {
 
   -- R6: "name above n | 6 | word's first byte"
   pub number_above : (value ≡ 0 → ⊥) → n < value
-      → Taking n place clauses b negated value (record { answer = Refused 6 place; begun = b }) clauses
+      → Taking n place clauses b negated value (Err (record { reason = Literal; place = place })) clauses
   unfolding token_step
-  number_above ne lt = record { step = by negated value ne lt; kept = λ z ready under. ready }
+  number_above ne lt = record { step = by negated value ne lt; kept = λ z ready under. none_ready ready }
     where
       by : (negated : Bool) (value : ℕ) → (value ≡ 0 → ⊥) → n < value
           → refuses 6 place ≡ token_step n (clauses_from clauses b) place (signed negated value)
@@ -103,7 +106,7 @@ module _ {n place : ℕ} {clauses : ClauseSlices} {b : Begun} {negated : Bool} {
   pub number_positive : {s : ℕ} → negated ≡ false → (value ≡ 0 → ⊥) → value ≤ n
       → s ≡ bit_or b.positive (2 ^ (value - 1))
       → Taking n place clauses b negated value
-      (record { answer = Passed; begun = record { closed = b.closed; positive = s; negative = b.negative } }) clauses
+      (Ok (record { closed = b.closed; positive = s; negative = b.negative })) clauses
   unfolding token_step
   number_positive {s = s} sign ne le e = record { step = by value ne le e; kept = λ z ready under. ready }
     where
@@ -116,7 +119,7 @@ module _ {n place : ℕ} {clauses : ClauseSlices} {b : Begun} {negated : Bool} {
   pub number_negative : {s : ℕ} → negated ≡ true → (value ≡ 0 → ⊥) → value ≤ n
       → s ≡ bit_or b.negative (2 ^ (value - 1))
       → Taking n place clauses b negated value
-      (record { answer = Passed; begun = record { closed = b.closed; positive = b.positive; negative = s } }) clauses
+      (Ok (record { closed = b.closed; positive = b.positive; negative = s })) clauses
   unfolding token_step
   number_negative {s = s} sign ne le e = record { step = by value ne le e; kept = λ z ready under. ready }
     where
@@ -172,7 +175,7 @@ module _ {z : Sizes} {text : List ℕ} {at : ℕ} {clauses : ClauseSlices} {b : 
   -- a blank is skipped
   pub step_blank : ends_line (get_or text at 0) ≡ false → ends_word (get_or text at 0) ≡ true
       → Stepping z text at clauses b
-      (record { taken = record { answer = Passed; begun = b }; next = record { at = at + 1 } }) clauses
+      (Ok (record { begun = b; next = record { at = at + 1 } })) clauses
   unfolding and_then ends_word
   step_blank n e =
       record {
@@ -196,56 +199,63 @@ module _ {z : Sizes} {text : List ℕ} {at : ℕ} {clauses : ClauseSlices} {b : 
 
   module _ (n : ends_line (get_or text at 0) ≡ false) (m : ends_word (get_or text at 0) ≡ false) where
     -- a refusal ends the walk
-    stops : (code place : ℕ) (r : Stepped) → r ≡ stopped_with code place b (record { at = at + 1 })
+    stops : (r : Refusal)
         → ((stop : ℕ) → Stretch (belongs Line) text at stop
-        → words_from z (take stop text) at (clauses_from clauses b) ≡ refuses code place)
-        → Stepping z text at clauses b r clauses
-    unfolding and_then
-    stops code place r f e =
-        subst (λ t. Stepping z text at clauses b t clauses) (sym f)
-        (record { later = omega arith; left = λ stop line. (let lt = on_behind text h n line in omega arith, e stop line); ready = ready })
+        → words_from z (take stop text) at (clauses_from clauses b) ≡ refusal_step r)
+        → Stepping z text at clauses b (Err r) clauses
+    stops r e = record { later = tt; left = λ stop line. (tt, e stop line); ready = none_ready ready }
 
-    pub step_over : (w : WordAnswer) {r : Stepped} → WordRead text at w → z.total ≤ b.closed
-        → r ≡ stopped_with 7 at b (record { at = at + 1 }) → Stepping z text at clauses b r clauses
-    step_over w {r} k over f = stops 7 at r f (λ stop line. by w k stop line)
+    pub step_over : (w : Option Word) → WordRead text at w → z.total ≤ b.closed
+        → Stepping z text at clauses b (Err (record { reason = ClauseCount; place = at })) clauses
+    step_over w k over = stops (record { reason = ClauseCount; place = at }) (λ stop line. by w k stop line)
       where
         refusal : {next : ℕ} {t : Token} → Spelt text at next t → (stop : ℕ) → Stretch (belongs Line) text at stop
             → words_from z (take stop text) at (clauses_from clauses b) ≡ refuses 7 at
         refusal {next} {t} k stop line = word_over z (clauses_from clauses b) (take stop text) at next t
             (word_in_line line k h m) (omega (arith, closed_size z clauses b ready))
 
-        by : (w : WordAnswer) → WordRead text at w → (stop : ℕ) → Stretch (belongs Line) text at stop
+        by : (w : Option Word) → WordRead text at w → (stop : ℕ) → Stretch (belongs Line) text at stop
             → words_from z (take stop text) at (clauses_from clauses b) ≡ refuses 7 at
-        by (Read negated v c) k stop line = refusal k stop line
-        by Malformed (next, k) stop line = refusal k stop line
+        by (Some w) k stop line = refusal k stop line
+        by None (next, k) stop line = refusal k stop line
 
-    pub step_malformed : {w : WordAnswer} {r : Stepped} → WordRead text at w → w ≡ Malformed → b.closed < z.total
-        → r ≡ stopped_with 5 at b (record { at = at + 1 }) → Stepping z text at clauses b r clauses
+    pub step_malformed : WordRead text at None → b.closed < z.total
+        → Stepping z text at clauses b (Err (record { reason = BadWord; place = at })) clauses
     unfolding token_step and_then
-    step_malformed {w = Read negated v c} k e under f = absurd (let x : ◌≡◌ {A = ℕ} 0 1 = cc in omega arith)
-    step_malformed {w = Malformed} {r} (next, k) e under f = stops 5 at r f
+    step_malformed (next, k) under = stops (record { reason = BadWord; place = at })
         (λ stop line. word_token z (clauses_from clauses b) (take stop text) at next malformed (word_in_line line k h m)
         (omega (arith, closed_size z clauses b ready)))
 
-    pub step_taken : {w : WordAnswer} {negated : Bool} {v : ℕ} {next : Cursor} {t : Taken} {clauses₁ : ClauseSlices}
-        → WordRead text at w → w ≡ Read negated v next → b.closed < z.total
-        → Taking z.variables at clauses b negated v t clauses₁
-        → Stepping z text at clauses b (record { taken = t; next = next }) clauses₁
-    step_taken {negated = negated} {v} {next} {t} {clauses₁} k e under taking =
-        let word : Spelt text at next.at (signed negated v) = subst (WordRead text at) e k in
-        record {
-          later = run_later word.run (ap not m) h;
-          left =
-              λ stop line.
-              let found = word_in_line line word h m in
-              let w = found.within in (
-                omega (arith, length-take-le stop text line.within),
-                word_token z (clauses_from clauses b) (take stop text) at next.at (signed negated v) found
-                    (omega (arith, closed_size z clauses b ready))
-                    ∙ ap (λ s. and_then s (words_from z (take stop text) next.at)) (sym taking.step),
-              );
-          ready = taking.kept z ready under;
-        }
+    -- what the number leads to: on behind its word, or a refusal
+    module _ (w : Word) {clauses₁ : ClauseSlices} (k : WordRead text at (Some w)) (under : b.closed < z.total) where
+      -- the walk takes the number's step first
+      taken : {r : Result Begun Refusal} → Taking z.variables at clauses b w.negated w.value r clauses₁ → (stop : ℕ)
+          → Stretch (belongs Line) text at stop
+          → words_from z (take stop text) at (clauses_from clauses b)
+          ≡ step_then r (λ b₁. words_from z (take stop text) w.next.at (clauses_from clauses₁ b₁))
+      unfolding and_then
+      taken {r} taking stop line =
+          word_token z (clauses_from clauses b) (take stop text) at w.next.at (signed w.negated w.value)
+          (word_in_line line k h m) (omega (arith, closed_size z clauses b ready))
+          ∙ ap (λ s. and_then s (words_from z (take stop text) w.next.at)) (sym taking.step)
+          ∙ then_next r (λ b₁. goes (clauses_from clauses₁ b₁)) (words_from z (take stop text) w.next.at)
+
+      pub step_taken : {b₁ : Begun} → Taking z.variables at clauses b w.negated w.value (Ok b₁) clauses₁
+          → Stepping z text at clauses b (Ok (record { begun = b₁; next = w.next })) clauses₁
+      step_taken {b₁} taking =
+          record {
+            later = run_later k.run (ap not m) h;
+            left =
+                λ stop line.
+                let w = (word_in_line line k h m).within in
+                (omega (arith, length-take-le stop text line.within), taken taking stop line);
+            ready = taking.kept z ready under;
+          }
+
+      pub step_refused : {e : Refusal} → Taking z.variables at clauses b w.negated w.value (Err e) clauses₁
+          → Stepping z text at clauses b (Err e) clauses₁
+      step_refused taking =
+          record { later = tt; left = λ stop line. (tt, taken taking stop line); ready = taking.kept z ready under }
 
 -- ---- the loop over the words of a line
 
@@ -266,7 +276,7 @@ module _ {z : Sizes} {text : List ℕ} {start : ℕ} {clauses₀ : ClauseSlices}
 
   module _ {clauses : ClauseSlices} {b : Begun} {at : ℕ} (a : Along z text start clauses₀ b₀ clauses b at) where
     done : at ≡ a.stop → Scanning z text start clauses₀ b₀
-        (record { taken = record { answer = Passed; begun = b }; next = record { at = at } }) clauses
+        (Ok (record { begun = b; next = record { at = at } })) clauses
     unfolding walk
     done e =
         record {
@@ -280,11 +290,11 @@ module _ {z : Sizes} {text : List ℕ} {start : ℕ} {clauses₀ : ClauseSlices}
 
     -- the text ends there, or the line
     pub along_ends : length text ≤ at → Scanning z text start clauses₀ b₀
-        (record { taken = record { answer = Passed; begun = b }; next = record { at = at } }) clauses
+        (Ok (record { begun = b; next = record { at = at } })) clauses
     along_ends h = done (let u = a.upper in let w = a.line.within in omega arith)
 
     pub along_over : ends_line (get_or text at 0) ≡ true → Scanning z text start clauses₀ b₀
-        (record { taken = record { answer = Passed; begun = b }; next = record { at = at } }) clauses
+        (Ok (record { begun = b; next = record { at = at } })) clauses
     unfolding belongs
     along_over e = done (by (dec_lt at a.stop))
       where
@@ -296,30 +306,25 @@ module _ {z : Sizes} {text : List ℕ} {start : ℕ} {clauses₀ : ClauseSlices}
     rest : Stretch (belongs Line) text at a.stop
     rest = run-rest a.lower a.upper a.line
 
-    module _ {r : Stepped} {clauses₁ : ClauseSlices} (k : Stepping z text at clauses b r clauses₁) where
-      pub along_stops : {code place : ℕ} → r.taken.answer ≡ Refused code place
-          → Scanning z text start clauses₀ b₀ r clauses₁
-      along_stops {code = code} {place} e =
-          record {
-            stop = a.stop;
-            line = a.line;
-            ended = where_refused (r.next.at ≡ a.stop) e;
-            step = sym (a.left ∙ (k.left a.stop rest).1 ∙ then_refused r.taken.answer code place
-                (clauses_from clauses₁ r.taken.begun) (clauses_from clauses₁ r.taken.begun)
-                (words_from z (take a.stop text) r.next.at) e);
-            ready = k.ready;
-          }
+    pub along_stops : {e : Refusal} {clauses₁ : ClauseSlices} → Stepping z text at clauses b (Err e) clauses₁
+        → Scanning z text start clauses₀ b₀ (Err e) clauses₁
+    along_stops k =
+        record {
+          stop = a.stop;
+          line = a.line;
+          ended = tt;
+          step = sym (a.left ∙ (k.left a.stop rest).1);
+          ready = k.ready;
+        }
 
-      pub along_goes_on : r.taken.answer ≡ Passed
-          → Along z text start clauses₀ b₀ clauses₁ r.taken.begun r.next.at
-      along_goes_on e =
-          record {
-            ready = k.ready;
-            stop = a.stop;
-            line = a.line;
-            lower = let l = k.later in let o = a.lower in omega arith;
-            upper = (k.left a.stop rest).0;
-            left = a.left ∙ (k.left a.stop rest).1
-                ∙ then_passed r.taken.answer (clauses_from clauses₁ r.taken.begun)
-                (words_from z (take a.stop text) r.next.at) e;
-          }
+    pub along_goes_on : {s : Stepped} {clauses₁ : ClauseSlices} → Stepping z text at clauses b (Ok s) clauses₁
+        → Along z text start clauses₀ b₀ clauses₁ s.begun s.next.at
+    along_goes_on k =
+        record {
+          ready = k.ready;
+          stop = a.stop;
+          line = a.line;
+          lower = let l = k.later in let o = a.lower in omega arith;
+          upper = (k.left a.stop rest).0;
+          left = a.left ∙ (k.left a.stop rest).1;
+        }

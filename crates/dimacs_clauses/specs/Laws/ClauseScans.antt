@@ -1,18 +1,16 @@
 -- How clauses being read lie in the code's numbers and slices, and what the functions on clause words promise. Assumes
 -- nothing.
-use Rattle.std.specs.Prelude.{Bool, false, List, ◌≡◌, ℕ, ◌+◌, ◌-◌, ◌≤◌, ◌<◌, length, get_or, take, drop}
+use Rattle.std.specs.Prelude.{Bool, false, List, Option, Result, MatchResult, IfOk, ◌≡◌, ℕ, ◌+◌, ◌-◌, ◌≤◌, ◌<◌, length, get_or, take, drop}
 use Rattle.point_slices.specs.Slices.{ClauseSlices, clauses_of, clause_room}
 use Rattle.formula.specs.Limits.{max_variables, max_clauses}
-use Rattle.formula.specs.declared.Checked.TheVariants.{Refused}
+use Rattle.formula.specs.declared.reasons.Refusal.{Refusal}
 use Rattle.dimacs_words.specs.declared.Class.TheVariants.{Line}
-use Rattle.dimacs_words.specs.declared.Cursor.{Cursor}
 use Rattle.dimacs_words.specs.declared.Word.{Word}
 use Rattle.dimacs_clauses.specs.declared.Begun.{Begun}
-use Rattle.dimacs_clauses.specs.declared.Taken.{Taken}
 use Rattle.dimacs_clauses.specs.declared.Stepped.{Stepped}
 use Rattle.dimacs_format.specs.Text.{ends_line, words}
-use Rattle.dimacs_format.specs.Reader.{Step, and_then, walk, Sizes, Clauses, token_step, word_step}
-use Rattle.dimacs_format.specs.Laws.AnswerLaws.{step_to, WherePassed}
+use Rattle.dimacs_format.specs.Reader.{Step, goes, walk, Sizes, Clauses, token_step, word_step}
+use Rattle.dimacs_format.specs.Laws.AnswerLaws.{step_then}
 use Rattle.dimacs_words.specs.Laws.Scans.{belongs, ends_word, Stretch, signed, WordRead}
 
 -- the clauses closed lie at the front of the slices
@@ -33,12 +31,18 @@ pub record Ready (z : Sizes) (k : ℕ) (clauses : ClauseSlices) : Type 0 where
   pub room : z.total ≤ clause_room clauses
   pub closed : k ≤ z.total
 
+-- the slices are ready behind as many clauses as a value of the code has closed; behind a refusal they are as well, and
+-- what was closed before it counts no more
+module _ {V : Type 0} where
+  abbrev pub ReadyThen : Sizes → Result V Refusal → (V → Begun) → ClauseSlices → Type 0
+  ReadyThen z r begun clauses = MatchResult r (λ v. Ready z (begun v).closed clauses) (λ e. Ready z 0 clauses)
+
 -- what one number leads to; it keeps the slices ready, where there is room for one clause more
-pub record Taking (n place : ℕ) (clauses₀ : ClauseSlices) (b : Begun) (negated : Bool) (value : ℕ) (r : Taken)
+pub record Taking (n place : ℕ) (clauses₀ : ClauseSlices) (b : Begun) (negated : Bool) (value : ℕ) (r : Result Begun Refusal)
     (clauses₁ : ClauseSlices) : Type 0 where
-  pub step : step_to r.answer (clauses_from clauses₁ r.begun)
+  pub step : step_then r (λ b₁. goes (clauses_from clauses₁ b₁))
       ≡ token_step n (clauses_from clauses₀ b) place (signed negated value)
-  pub kept : (z : Sizes) → Ready z b.closed clauses₀ → b.closed < z.total → Ready z r.begun.closed clauses₁
+  pub kept : (z : Sizes) → Ready z b.closed clauses₀ → b.closed < z.total → ReadyThen z r (λ b₁. b₁) clauses₁
 
 -- there is room for clause number k + 1, and n is within its limit
 pub record Room (n k : ℕ) (clauses : ClauseSlices) : Type 0 where
@@ -54,34 +58,29 @@ words_from z line at s = walk (word_step z) s (words (0 + at) (drop at line))
 abbrev pub words_between : Sizes → List ℕ → ℕ → ℕ → Clauses → Step Clauses
 words_between z text start stop s = walk (word_step z) s (words start (take (stop - start) (drop start text)))
 
--- a refusal
-abbrev pub stopped_with : ℕ → ℕ → Begun → Cursor → Stepped
-stopped_with code place b next = record { taken = record { answer = Refused code place; begun = b }; next = next }
-
 -- what one word or blank leads to, wherever its line ends: the walk is refused, or goes on from a later place
-pub record Stepping (z : Sizes) (text : List ℕ) (at : ℕ) (clauses₀ : ClauseSlices) (b : Begun) (r : Stepped)
+pub record Stepping (z : Sizes) (text : List ℕ) (at : ℕ) (clauses₀ : ClauseSlices) (b : Begun) (r : Result Stepped Refusal)
     (clauses₁ : ClauseSlices) : Type 0 where
-  pub later : at < r.next.at
+  pub later : IfOk r (λ s. at < s.next.at)
   pub left : (stop : ℕ) → Stretch (belongs Line) text at stop
-      → (r.next.at ≤ stop) × (words_from z (take stop text) at (clauses_from clauses₀ b)
-      ≡ and_then (step_to r.taken.answer (clauses_from clauses₁ r.taken.begun))
-      (words_from z (take stop text) r.next.at))
-  pub ready : Ready z r.taken.begun.closed clauses₁
+      → IfOk r (λ s. s.next.at ≤ stop) × (words_from z (take stop text) at (clauses_from clauses₀ b)
+      ≡ step_then r (λ s. words_from z (take stop text) s.next.at (clauses_from clauses₁ s.begun)))
+  pub ready : ReadyThen z r (λ s. s.begun) clauses₁
 
 -- what a word leads to that was read at a place, whatever the text in which it stands there
-abbrev pub Placing : Sizes → ℕ → ClauseSlices → Begun → Word → Stepped → ClauseSlices → Type 0
+abbrev pub Placing : Sizes → ℕ → ClauseSlices → Begun → Option Word → Result Stepped Refusal → ClauseSlices → Type 0
 Placing z at clauses₀ b w r clauses₁ = (text : List ℕ) → at < length text → ends_line (get_or text at 0) ≡ false
     → ends_word (get_or text at 0) ≡ false → WordRead text at w → Stepping z text at clauses₀ b r clauses₁
 
 -- what a line of words leads to, and where it ends
-pub record Scanning (z : Sizes) (text : List ℕ) (start : ℕ) (clauses₀ : ClauseSlices) (b : Begun) (r : Stepped)
+pub record Scanning (z : Sizes) (text : List ℕ) (start : ℕ) (clauses₀ : ClauseSlices) (b : Begun) (r : Result Stepped Refusal)
     (clauses₁ : ClauseSlices) : Type 0 where
   pub stop : ℕ
   pub line : Stretch (belongs Line) text start stop
-  pub ended : WherePassed r.taken.answer (r.next.at ≡ stop)
-  pub step : step_to r.taken.answer (clauses_from clauses₁ r.taken.begun)
+  pub ended : IfOk r (λ s. s.next.at ≡ stop)
+  pub step : step_then r (λ s. goes (clauses_from clauses₁ s.begun))
       ≡ words_between z text start stop (clauses_from clauses₀ b)
-  pub ready : Ready z r.taken.begun.closed clauses₁
+  pub ready : ReadyThen z r (λ s. s.begun) clauses₁
 
 -- the loop over the words of a line: what is left of the walk, with the slices and the clause begun as they are, is the
 -- whole walk

@@ -1,56 +1,52 @@
--- The code answers by `formula::Checked` beside a value: a step that may refuse. Assumes nothing.
-use Rattle.std.specs.Prelude.{◌≡◌, ℕ}
-use Rattle.std.proofs.Math.Path.{refl, sym, ap}
-use Rattle.std.proofs.Common.{◌∙◌, subst}
-use Rattle.formula.specs.declared.Checked.{Checked}
-use Rattle.formula.specs.declared.Checked.TheVariants.{Passed, Refused}
+-- The code answers by a `Result`: a step that may refuse. Assumes nothing.
+use Rattle.std.specs.Prelude.{◌≡◌, Result, Ok, Err, MatchResult, IfOk}
+use Rattle.std.proofs.Math.Path.{refl, ap}
+use Rattle.std.proofs.Common.{subst}
+use Rattle.formula.specs.declared.reasons.Refusal.{Refusal}
+use Rattle.formula.specs.Reasons.{code_of}
 use Rattle.dimacs_format.specs.Reader.{Step, and_then, goes, refuses}
 
-module _ {S : Type 0} where
-  -- the step that an answer is, with the value beside it
-  abbrev pub step_to : Checked → S → Step S
-  step_to Passed s = goes s
-  step_to (Refused code place) s = refuses code place
+-- the step that a refusal of the code is
+abbrev pub refusal_step : {S : Type 0} → Refusal → Step S
+refusal_step r = refuses (code_of r.reason) r.place
 
--- what holds where the answer is no refusal
-abbrev pub WherePassed : Checked → Type 0 → Type 0
-WherePassed Passed A = A
-WherePassed (Refused code place) A = Unit {0}
+module _ {V S : Type 0} where
+  -- the step that an answer is, with what follows from its value
+  abbrev pub step_then : Result V Refusal → (V → Step S) → Step S
+  step_then (Ok v) k = k v
+  step_then (Err r) k = refusal_step r
 
-module _ {S T : Type 0} where
-  -- the value beside the answer is a part of another one
-  pub step_within : (a : Checked) (s : S) (f : S → T) {m : Step S} → step_to a s ≡ m
-      → step_to a (f s) ≡ and_then m (λ t. goes (f t))
+module _ {V S T : Type 0} where
+  -- another step behind both
+  pub then_next : (a : Result V Refusal) (f : V → Step S) (k : S → Step T)
+      → and_then (step_then a f) k ≡ step_then a (λ v. and_then (f v) k)
   unfolding and_then
-  step_within Passed s f e = ap (λ m. and_then m (λ t. goes (f t))) e
-  step_within (Refused code place) s f e = ap (λ m. and_then m (λ t. goes (f t))) e
+  then_next (Ok v) f k = refl
+  then_next (Err r) f k = refl
 
-  pub then_passed : (a : Checked) (s : S) (k : S → Step T) → a ≡ Passed → and_then (step_to a s) k ≡ k s
+  -- the value is a part of another one
+  pub step_within : (a : Result V Refusal) (f : V → S) (g : S → T) {m : Step S} → step_then a (λ v. goes (f v)) ≡ m
+      → step_then a (λ v. goes (g (f v))) ≡ and_then m (λ t. goes (g t))
   unfolding and_then
-  then_passed a s k e = ap (λ b. and_then (step_to b s) k) e
+  step_within (Ok v) f g e = ap (λ m. and_then m (λ t. goes (g t))) e
+  step_within (Err r) f g e = ap (λ m. and_then m (λ t. goes (g t))) e
 
-  pub then_refused : (a : Checked) (code place : ℕ) (s : S) (t : T) (k : S → Step T) → a ≡ Refused code place
-      → and_then (step_to a s) k ≡ step_to a t
-  unfolding and_then
-  then_refused a code place s t k e = ap (λ b. and_then (step_to b s) k) e ∙ sym (ap (λ b. step_to b t) e)
-
+module _ {V S : Type 0} where
   -- what follows a refusal may be anything
-  pub then_alike : (a : Checked) (s : S) (j k : S → Step T) → WherePassed a (j s ≡ k s)
-      → and_then (step_to a s) j ≡ and_then (step_to a s) k
-  unfolding and_then
-  then_alike Passed s j k e = e
-  then_alike (Refused code place) s j k e = refl
+  pub then_alike : (a : Result V Refusal) (j k : V → Step S) → IfOk a (λ v. j v ≡ k v) → step_then a j ≡ step_then a k
+  then_alike (Ok v) j k e = e
+  then_alike (Err r) j k e = refl
 
-pub where_told : (A : Type 0) {a : Checked} → a ≡ Passed → WherePassed a A → A
-where_told A e h = subst (λ x. WherePassed x A) e h
+module _ {V : Type 0} where
+  -- what holds of a value holds of it where it is in the answer
+  pub told : (P : V → Type 0) {a : Result V Refusal} {v : V} → a ≡ Ok v → IfOk a P → P v
+  told P e h = subst (λ x. IfOk x P) e h
 
-pub where_passed : {A : Type 0} (a : Checked) → A → WherePassed a A
-where_passed Passed h = h
-where_passed (Refused code place) h = tt
+  -- what holds of every value
+  pub of_any : {P : V → Type 0} (a : Result V Refusal) → ((v : V) → P v) → IfOk a P
+  of_any (Ok v) h = h v
+  of_any (Err r) h = tt
 
-pub where_refused : (A : Type 0) {a : Checked} {code place : ℕ} → a ≡ Refused code place → WherePassed a A
-where_refused A e = subst (λ x. WherePassed x A) (sym e) tt
-
-pub where_both : {A B : Type 0} (a : Checked) → (A → B) → WherePassed a A → WherePassed a B
-where_both Passed f h = f h
-where_both (Refused code place) f h = tt
+  pub of_both : {P Q : V → Type 0} (a : Result V Refusal) → ((v : V) → P v → Q v) → IfOk a P → IfOk a Q
+  of_both (Ok v) f h = f v h
+  of_both (Err r) f h = tt

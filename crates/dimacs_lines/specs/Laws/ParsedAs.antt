@@ -1,16 +1,14 @@
 -- What the functions that make the reader's answer promise. Assumes nothing.
-use Rattle.std.specs.Prelude.{List, ◌≡◌, ℕ, ◌≤◌, length, take, replicate}
+use Rattle.std.specs.Prelude.{Result, Ok, Err, List, ◌≡◌, ℕ, ◌≤◌, length, take, replicate}
 use Rattle.math.specs.Lists.{over}
 use Rattle.point_slices.specs.Slices.{ClauseSlices, points_of, rest_of, clause_room}
 use Rattle.formula.specs.Limits.{max_variables, max_clauses, max_images}
 use Rattle.formula.specs.Laws.Contracts.{formula_with}
 use Rattle.formula.specs.Problem.{empty_formula}
-use Rattle.dimacs_lines.specs.declared.Parse.{Parse}
-use Rattle.dimacs_lines.specs.declared.Parse.TheVariants.{Accepted, Refused}
+use Rattle.formula.specs.declared.Numbers.{Numbers}
+use Rattle.formula.specs.declared.reasons.Refusal.{Refusal}
 use Rattle.dimacs_lines.specs.declared.Parsed.{Parsed}
-use Rattle.dimacs_lines.specs.declared.ParsedNumbers.{ParsedNumbers}
 use Rattle.dimacs_body.specs.declared.State.{State}
-use Rattle.dimacs_lines.specs.declared.Told.{Told}
 use Rattle.dimacs_lines.specs.Reply.{reply_of_parse}
 use Rattle.dimacs_format.specs.Input.{Input}
 use Rattle.dimacs_format.specs.Text.{max_text}
@@ -23,60 +21,24 @@ pub record Copied (from to₀ : List ℕ) (count : ℕ) (to₁ : List ℕ) : Typ
   pub rest : rest_of to₁ ≡ rest_of to₀
 
 -- a refusal beside the formula that is 0 throughout
-abbrev pub refused_with : ℕ → ℕ → Parsed
-refused_with code place = record { formula = empty_formula; answer = Refused code place }
-
--- a refusal beside numbers that are 0
-abbrev pub refused_numbers : ℕ → ℕ → ParsedNumbers
-refused_numbers code place =
-    record {
-      numbers = record { variables = 0; clauses = 0; target = 0; permutations = 0 };
-      answer = Refused code place;
-    }
+abbrev pub refused_with : Refusal → Parsed
+refused_with r = record { formula = empty_formula; answer = Err r }
 
 -- the reader's answer from the numbers read, and the images
-abbrev pub parsed_in : ParsedNumbers → List ℕ → Parsed
-parsed_in r images = by r.answer
-  where
-    by : Parse → Parsed
-    by Accepted = record { formula = formula_with r.numbers images; answer = Accepted }
-    by (Refused code place) = refused_with code place
-
--- what the lines lead to where they are refused
-abbrev pub told_refused : ℕ → ℕ → Told
-told_refused code place = record { answer = Refused code place; target = 0; permutations = 0 }
-
--- the reader's answer from what the lines lead to, and the images that they leave
-abbrev pub parsed_with : Sizes → Told → List ℕ → Parsed
-parsed_with z t images = by t.answer
-  where
-    by : Parse → Parsed
-    by Accepted =
-        record {
-          formula = record {
-            variables = z.variables;
-            clauses = z.total;
-            target = t.target;
-            permutations = t.permutations;
-            images = images;
-          };
-          answer = Accepted;
-        }
-    by (Refused code place) = refused_with code place
+abbrev pub parsed_in : Result Numbers Refusal → List ℕ → Parsed
+parsed_in (Ok numbers) images = record { formula = formula_with numbers images; answer = Ok tt }
+parsed_in (Err r) images = refused_with r
 
 -- the images before the lines
 abbrev pub no_images : List ℕ
 no_images = replicate max_images 0
 
--- how many clauses the smaller arrays have room for
+-- how many clauses the smallest arrays have room for
 abbrev pub tiny_clauses : ℕ
 tiny_clauses = 32
 
 abbrev pub few_clauses : ℕ
 few_clauses = 256
-
-abbrev pub some_clauses : ℕ
-some_clauses = 1024
 
 -- n and C are within their limits
 pub record Limited (z : Sizes) : Type 0 where
@@ -103,6 +65,6 @@ pub record Collectable (z : Sizes) (clauses : ClauseSlices) (text : List ℕ) (e
   pub none_yet : images ≡ no_images
 
 -- what the end of the sheet leads to, whatever images the lines left
-abbrev pub Accepting : ℕ → Sizes → State → ClauseSlices → ClauseSlices → Told → ClauseSlices → Type 0
+abbrev pub Accepting : ℕ → Sizes → State → ClauseSlices → ClauseSlices → Result Numbers Refusal → ClauseSlices → Type 0
 Accepting place z s clauses clauses₀ r clauses₁ = (images : List ℕ) → Standing z s clauses images
-    → ParsedAs (at_end place z (progress_from z.variables clauses images s)) clauses₀ (parsed_with z r images) clauses₁
+    → ParsedAs (at_end place z (progress_from z.variables clauses images s)) clauses₀ (parsed_in r images) clauses₁

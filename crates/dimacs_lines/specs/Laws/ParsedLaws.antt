@@ -1,7 +1,8 @@
 -- Laws of the reader's answer: the copy into the lent slices, the formula, and refusals. Assumes nothing.
 use Rattle.std.proofs.Math.Bool.{cond}
-use Rattle.std.specs.Prelude.{List, [], ◌∷◌, ◌++◌, ◌≡◌, refl, ℕ, zero, suc, ◌+◌, ◌-◌, ◌*◌, ◌≤◌, ◌<◌, min, length, drop, replicate}
+use Rattle.std.specs.Prelude.{Result, Ok, Err, unwrap_or, List, [], ◌∷◌, ◌++◌, ◌≡◌, refl, ℕ, zero, suc, ◌-◌, ◌*◌, ◌≤◌, ◌<◌, min, length, drop, replicate}
 use Rattle.std.proofs.Math.Option.{get_or}
+use Rattle.std.specs.Prelude.{Option as Answer, Some, None}
 use Rattle.std.proofs.Math.Path.{sym, ap}
 use Rattle.std.proofs.Common.{◌∙◌, subst, zero-le, zero-mul, mul-le-mul_right, le_of_suc-le-suc, not-suc-le-zero, take-append-drop, length-take-le, eq-eqb, ne_eqb}
 use Rattle.std.proofs.Math.Nat.{le_trans}
@@ -14,29 +15,25 @@ use Rattle.point_slices.specs.Slices.{ClauseSlices, points_of, clause_slices, be
 use Rattle.permutation_images.specs.Laws.LoopLaws.{length-permutations}
 use Rattle.permutation_theory.specs.Permutations.{permutations_in}
 use Rattle.formula.specs.Limits.{max_variables, max_permutations, max_images}
-use Rattle.formula.specs.declared.Checked.{Checked}
-use Rattle.formula.specs.declared.Checked.TheVariants.{Passed, Refused}
-use Rattle.dimacs_lines.specs.declared.Parse.{Parse}
-use Rattle.dimacs_lines.specs.declared.Parse.TheVariants.{Accepted, Refused as ParseRefused}
+use Rattle.formula.specs.declared.Numbers.{Numbers}
+use Rattle.formula.specs.declared.reasons.Refusal.{Refusal}
+use Rattle.formula.specs.declared.reasons.Reason.TheVariants.{ClauseCount}
 use Rattle.dimacs_lines.specs.declared.Parsed.{Parsed}
-use Rattle.dimacs_lines.specs.declared.ParsedNumbers.{ParsedNumbers}
-use Rattle.formula.specs.Laws.Contracts.{formula_with}
 use Rattle.dimacs_body.specs.declared.State.{State}
 use Rattle.dimacs_body.specs.declared.Lined.{Lined}
-use Rattle.dimacs_lines.specs.declared.Told.{Told}
 use Rattle.dimacs_format.specs.Input.{Input, images_of, padded, formula_of, positives, negatives}
-use Rattle.dimacs_format.specs.Reader.{Step, goes, refuses, and_then, Sizes, input_of, at_end, reply_to}
+use Rattle.dimacs_format.specs.Reader.{Step, goes, refuses, Sizes, input_of, at_end, reply_to}
 use Rattle.dimacs_format.specs.Reader.{formula_from}
 use Rattle.dimacs_format.specs.Reader.{slices_from, text_says}
-use Rattle.dimacs_format.specs.Laws.AnswerLaws.{step_to, where_told}
+use Rattle.dimacs_format.specs.Laws.AnswerLaws.{refusal_step}
 use Rattle.dimacs_words.specs.Laws.Scans.{lines_behind}
-use Rattle.dimacs_clauses.specs.Laws.ClauseScans.{clauses_from, Ready}
+use Rattle.dimacs_clauses.specs.Laws.ClauseScans.{clauses_from}
 use Rattle.dimacs_clauses.specs.Laws.ClauseScanLaws.{closed_length}
 use Rattle.dimacs_targets.specs.Laws.TargetScans.{wanted_of}
 use Rattle.dimacs_permutations.specs.Laws.HandlerScans.{KeptImages}
 use Rattle.dimacs_permutations.specs.Laws.HandlerLaws.{images-take}
 use Rattle.dimacs_body.specs.Laws.LineScans.{nothing_said, progress_from, Standing, LinesRead}
-use Rattle.dimacs_lines.specs.Laws.ParsedAs.{refused_with, told_refused, parsed_with, parsed_in, no_images}
+use Rattle.dimacs_lines.specs.Laws.ParsedAs.{refused_with, parsed_in, no_images}
 use Rattle.dimacs_lines.specs.Laws.ParsedAs.{Limited, HasRoom}
 use Rattle.dimacs_lines.specs.Laws.ParsedAs.{ParsedAs, Accepting}
 
@@ -75,49 +72,20 @@ negatives-front (suc k) (p ∷ ps) (n ∷ ns) hp hn =
 
 -- ---- refusals and the accepted text
 
-pub answers_refused : {m : Step Input} {code place : ℕ} {clauses : ClauseSlices} {r : Parsed} → m ≡ refuses code place
-    → r ≡ refused_with code place → ParsedAs m clauses r clauses
+pub answers_refused : {m : Step Input} {clauses : ClauseSlices} {e : Refusal} → m ≡ refusal_step e
+    → ParsedAs m clauses (refused_with e) clauses
 unfolding reply_to formula_from slices_from
-answers_refused {code = code} {place} {clauses} {r} e f =
-    subst (λ t. ParsedAs t clauses r clauses) (sym e)
-    (subst (λ x. ParsedAs (refuses code place) clauses x clauses) (sym f)
-    (record { reply = refl; formula = refl; clauses = refl }))
+answers_refused {clauses = clauses} {e} f =
+    subst (λ t. ParsedAs t clauses (refused_with e) clauses) (sym f) (record { reply = refl; formula = refl; clauses = refl })
 
 pub answers_same : {m k : Step Input} {clauses₀ clauses₁ : ClauseSlices} {r : Parsed} → k ≡ m
     → ParsedAs m clauses₀ r clauses₁ → ParsedAs k clauses₀ r clauses₁
 answers_same {clauses₀ = clauses₀} {clauses₁} {r} e a = subst (λ t. ParsedAs t clauses₀ r clauses₁) (sym e) a
 
-pub answers_as : {m : Step Input} {clauses₀ clauses₁ : ClauseSlices} {r x : Parsed} → r ≡ x
-    → ParsedAs m clauses₀ x clauses₁ → ParsedAs m clauses₀ r clauses₁
-answers_as {m} {clauses₀} {clauses₁} e a = subst (λ y. ParsedAs m clauses₀ y clauses₁) (sym e) a
-
--- the numbers and the images make what the lines lead to
-pub numbers_told : (z : Sizes) (target permutations : ℕ) (a : Parse) (images : List ℕ)
-    → parsed_in (record {
-      numbers = record {
-        variables = z.variables;
-        clauses = z.total;
-        target = target;
-        permutations = permutations;
-      };
-      answer = a;
-    }) images ≡ parsed_with z (record { answer = a; target = target; permutations = permutations }) images
-numbers_told z target permutations Accepted images = refl
-numbers_told z target permutations (ParseRefused code place) images = refl
-
--- the answer with the images, by the answer
-pub parsed_refused : (r : ParsedNumbers) (images : List ℕ) {code place : ℕ} → r.answer ≡ ParseRefused code place
-    → parsed_in r images ≡ refused_with code place
-parsed_refused r images e = rw e
-
-pub parsed_accepted : (r : ParsedNumbers) (images : List ℕ) → r.answer ≡ Accepted
-    → parsed_in r images ≡ record { formula = formula_with r.numbers images; answer = Accepted }
-parsed_accepted r images e = rw e
-
--- the lines' refusal
-told_answers : {m : Step Input} {code place : ℕ} {clauses : ClauseSlices} (z : Sizes) (t : Told) (images : List ℕ)
-    → m ≡ refuses code place → t ≡ told_refused code place → ParsedAs m clauses (parsed_with z t images) clauses
-told_answers z t images e f = answers_refused e (ap (λ t. parsed_with z t images) f)
+-- a target that is none is 0
+wanted_or : (o : Answer ℕ) → unwrap_or o 0 ≡ get_or (wanted_of o) 0
+wanted_or (Some x) = refl
+wanted_or None = refl
 
 -- as many clauses are closed as the number says
 closed_size : (z : Sizes) (s : State) (clauses : ClauseSlices) (images : List ℕ) → Standing z s clauses images
@@ -126,20 +94,20 @@ closed_size z s clauses images st = closed_length clauses s.begun (le_trans st.r
 
 module _ (place : ℕ) {z : Sizes} {s : State} {clauses : ClauseSlices} {clauses₀ : ClauseSlices} where
   -- R7: "or too few closed", 7 where the sheet ends
-  pub end_refused : {r : Told} → s.begun.closed < z.total → r ≡ told_refused 7 place
-      → Accepting place z s clauses clauses₀ r clauses₀
+  pub end_refused : s.begun.closed < z.total
+      → Accepting place z s clauses clauses₀ (Err (record { reason = ClauseCount; place = place })) clauses₀
   unfolding at_end
-  end_refused {r} lt e images st =
-      told_answers z r images (rw (ne_eqb (length (clauses_from clauses s.begun).closed) z.total
-      (λ e. let x : ⊥ = omega (arith, closed_size z s clauses images st) in x))) e
+  end_refused lt images st =
+      answers_refused (rw (ne_eqb (length (clauses_from clauses s.begun).closed) z.total
+      (λ e. let x : ⊥ = omega (arith, closed_size z s clauses images st) in x)))
 
   pub answers_accepted : {x : ℕ} {clauses₁ : ClauseSlices} → z.total ≤ s.begun.closed
-      → x ≡ get_or (wanted_of s.wanted) 0
+      → x ≡ unwrap_or s.wanted 0
       → clauses₁.positive ≡ over (take z.total clauses.positive) clauses₀.positive
       → clauses₁.negative ≡ over (take z.total clauses.negative) clauses₀.negative
       → clauses₁.positive_rest ≡ clauses₀.positive_rest → clauses₁.negative_rest ≡ clauses₀.negative_rest
       → Accepting place z s clauses clauses₀
-      (record { answer = Accepted; target = x; permutations = s.permutations }) clauses₁
+      (Ok (record { variables = z.variables; clauses = z.total; target = x; permutations = s.permutations })) clauses₁
   unfolding at_end reply_to formula_from slices_from formula_of
   answers_accepted {x = x} enough ex ep en fp fn images st =
       let closed : s.begun.closed ≡ z.total = let a = st.ready.closed in omega arith in
@@ -153,7 +121,7 @@ module _ (place : ℕ) {z : Sizes} {s : State} {clauses : ClauseSlices} {clauses
         formula = λ i. record {
           variables = z.variables;
           clauses = sym full i;
-          target = ex i;
+          target = (ex ∙ wanted_or s.wanted) i;
           permutations = sym (length-permutations z.variables s.permutations images) i;
           images = sym (images-padded z.variables s.permutations images st.ready.variables
               st.kept.images_kept) i;
@@ -171,32 +139,16 @@ module _ (place : ℕ) {z : Sizes} {s : State} {clauses : ClauseSlices} {clauses
       })
 
 -- the lines were read: on to the end of the sheet, or refused
-module _ {z : Sizes} {text : List ℕ} {end : ℕ} {read : Lined} {clauses : ClauseSlices} {images : List ℕ}
-    (k : LinesRead z text end read clauses images) where
-  -- what the text says, by the lines' answer
-  by_lines : {answer : Checked} → read.advanced.answer ≡ answer
-      → text_says (length text) z (lines_behind text end)
-      ≡ and_then (step_to answer (progress_from z.variables clauses images read.advanced.state))
-      (at_end read.stop z)
-  by_lines e = k.step ∙ ap (λ a. and_then
-      (step_to a (progress_from z.variables clauses images read.advanced.state)) (at_end read.stop z)) e
+module _ {z : Sizes} {text : List ℕ} {end : ℕ} {clauses : ClauseSlices} {images : List ℕ} where
+  pub text_ends : {read : Lined} (r : Result Numbers Refusal) {clauses₀ clauses₁ : ClauseSlices}
+      → LinesRead z text end (Ok read) clauses images
+      → Accepting read.stop z read.state clauses clauses₀ r clauses₁
+      → ParsedAs (text_says (length text) z (lines_behind text end)) clauses₀ (parsed_in r images) clauses₁
+  text_ends r k a = answers_same k.step (a images k.stands)
 
-  pub ready_then : read.advanced.answer ≡ Passed → Ready z read.advanced.state.begun.closed clauses
-  ready_then e = (where_told (Standing z read.advanced.state clauses images) e k.stands).ready
-
-  pub text_ends : (r : Told) {clauses₀ clauses₁ : ClauseSlices} → read.advanced.answer ≡ Passed
-      → Accepting read.stop z read.advanced.state clauses clauses₀ r clauses₁
-      → ParsedAs (text_says (length text) z (lines_behind text end)) clauses₀ (parsed_with z r images) clauses₁
-  unfolding and_then
-  text_ends r e a =
-      answers_same (by_lines e)
-      (a images (where_told (Standing z read.advanced.state clauses images) e k.stands))
-
-  pub text_refused : (r : Told) {clauses₀ : ClauseSlices} {code place : ℕ}
-      → read.advanced.answer ≡ Refused code place → r ≡ told_refused code place
-      → ParsedAs (text_says (length text) z (lines_behind text end)) clauses₀ (parsed_with z r images) clauses₀
-  unfolding and_then
-  text_refused r e f = told_answers z r images (by_lines e) f
+  pub text_refused : {e : Refusal} {clauses₀ : ClauseSlices} → LinesRead z text end (Err e) clauses images
+      → ParsedAs (text_says (length text) z (lines_behind text end)) clauses₀ (refused_with e) clauses₀
+  text_refused k = answers_refused k.step
 
 -- ---- before the lines
 
@@ -224,8 +176,3 @@ pub blank_room : (z : Sizes) (k : ℕ) → z.total ≤ k → HasRoom z (clause_s
 blank_room z k le =
     let size : length (points_of (replicate k 0)) ≡ k = ap length (points_blank k) ∙ length-replicate {A = ℕ} k 0 in
     record { room = subst (λ j. z.total ≤ min j j) (sym size) (omega arith) }
-
--- slices with room for C clauses are not shorter
-pub never_short : (z : Sizes) (p q : List ℕ) → HasRoom z (clause_slices p q) → length p < z.total → ⊥
-unfolding points_of
-never_short z p q has lt = let room = has.room in omega arith

@@ -1,5 +1,5 @@
 -- Laws of permutation lines, one line behind those before it. Assumes nothing.
-use Rattle.std.specs.Prelude.{Bool, true, false, List, [], ◌∷◌, ◌++◌, ◌≡◌, refl, ℕ, zero, suc, ◌+◌, ◌-◌, ◌*◌, ◌≤◌, ◌<◌, length}
+use Rattle.std.specs.Prelude.{Ok, Err, Bool, true, false, List, [], ◌∷◌, ◌++◌, ◌≡◌, refl, ℕ, zero, suc, ◌+◌, ◌-◌, ◌*◌, ◌≤◌, ◌<◌, length}
 use Rattle.std.proofs.Math.Bool.{cond}
 use Rattle.std.proofs.Math.Option.{Option, some, none}
 use Rattle.std.proofs.Math.Path.{sym, ap}
@@ -8,10 +8,10 @@ use Rattle.std.proofs.Math.Nat.{suc-mul}
 use native.Mathlib.Omega.{arith}
 use Rattle.std.proofs.Math.ListN.{take, drop, replicate}
 use Rattle.std.proofs.Math.Seq.{take-nil}
-use Rattle.permutation_images.specs.Laws.LoopLaws.{length-permutations, part_ends, flat_map_permutations}
+use Rattle.permutation_images.specs.Laws.LoopLaws.{length-permutations, flat_map_permutations}
 use Rattle.permutation_theory.specs.Permutations.{Permutation, permutations_in}
 use Rattle.formula.specs.Limits.{max_variables, max_permutations, max_images}
-use Rattle.formula.specs.declared.Checked.TheVariants.{Passed, Refused}
+use Rattle.formula.specs.declared.reasons.Reason.TheVariants.{PermutationLine}
 use Rattle.dimacs_format.specs.Reader.{goes, permutation_in, permutation_kept, permutation_said}
 use Rattle.dimacs_format.specs.Input.{images_of}
 use Rattle.dimacs_permutations.specs.Laws.PermutationScans.{Permuting}
@@ -64,10 +64,6 @@ images-take n k bytes = flat_map_permutations n k bytes
 
 -- ---- a permutation line
 
--- the permutations fit into their bytes
-pub images_room : (n k : ℕ) → n ≤ max_variables → k < max_permutations → k * n + n ≤ max_images
-images_room n k few lt = let a = part_ends k max_permutations n lt in omega arith
-
 -- a line before the seventeenth
 line_kept : (n place : ℕ) (bytes : List ℕ) (k : ℕ) (old : List ℕ) → k < max_permutations → (o : Option Permutation)
     → permutation_in n bytes ≡ o
@@ -81,7 +77,7 @@ line_kept n place bytes k old h o f =
 module _ {n place : ℕ} {bytes : List ℕ} {k : ℕ} {old : List ℕ} where
   -- R9: a seventeenth line
   pub permutation_over : max_permutations ≤ k
-      → PermutationRead n place bytes k old (record { answer = Refused 9 place; permutations = k }) old
+      → PermutationRead n place bytes k old (Err (record { reason = PermutationLine; place = place })) old
   unfolding permutation_said
   permutation_over h =
       record {
@@ -92,7 +88,7 @@ module _ {n place : ℕ} {bytes : List ℕ} {k : ℕ} {old : List ℕ} where
 
   module _ {new : List ℕ} {r : Bool} (p : Permuting n bytes (k * n) old new r) (lt : k < max_permutations) where
     pub permutation_malformed : r ≡ false
-        → PermutationRead n place bytes k old (record { answer = Refused 9 place; permutations = k }) new
+        → PermutationRead n place bytes k old (Err (record { reason = PermutationLine; place = place })) new
     unfolding permutation_kept
     permutation_malformed e =
         record {
@@ -102,7 +98,7 @@ module _ {n place : ℕ} {bytes : List ℕ} {k : ℕ} {old : List ℕ} where
         }
 
     pub permutation_good : r ≡ true → n ≤ max_variables → KeptImages n k old → length new ≡ length old
-        → PermutationRead n place bytes k old (record { answer = Passed; permutations = k + 1 }) new
+        → PermutationRead n place bytes k old (Ok (k + 1)) new
     unfolding permutation_kept
     permutation_good e few t size =
         record {

@@ -1,32 +1,32 @@
 -- Laws of reading a permutation line by position. Assumes nothing.
-use Rattle.std.specs.Prelude.{Bool, ◌≡◌, ℕ, ◌+◌, ◌-◌, ◌≤◌, ◌<◌, eqb, ltb, get_or, set}
+use Rattle.std.specs.Prelude.{Bool, ◌≡◌, ℕ, ◌+◌, ◌-◌, ◌≤◌, ◌<◌, ltb, get_or, set}
 use Rattle.std.proofs.Math.Bool.{true, false, cond}
-use Rattle.std.proofs.Common.{true≢false, ◌∙◌, subst, zero-le, le_refl, le_trans, zero-add, add-one, length-drop, take-suc-set, length-take-le}
+use Rattle.std.proofs.Common.{true≢false, ◌∙◌, subst, zero-le, le_refl, zero-add, add-one, length-drop, take-suc-set, length-take-le}
 use mathlib.Core.List.Memᴰ
 use mathlib.Core.List.{List, [], ◌∷◌, ◌++◌, append-nil}
+use Rattle.std.proofs.Common.{◌⊎◌, inl, inr}
+use Rattle.dimacs_format.specs.Laws.StepLaws.{not_some}
+use Rattle.std.specs.Prelude.{Option as Answer, Some, None}
 use Rattle.std.proofs.Math.Option.{Option, some, none}
 use Rattle.std.proofs.Math.Path.{refl, sym, ap, ap₂}
 use Rattle.std.proofs.Math.Nat.{add-sub_cancel_left, le_of_eq}
 use native.Mathlib.Omega.{arith}
-use Rattle.std.proofs.Math.ListN.{length, take, drop, length-append, length-set}
-use Rattle.std.proofs.Math.Seq.{take_all, append_snoc, take_at, drop_at, drop-drop}
+use Rattle.std.proofs.Math.ListN.{length, take, drop, drop_of_length-le, length-append}
+use Rattle.std.proofs.Math.Decide.{dec_lt}
+use Rattle.std.proofs.Math.Seq.{take-nil, take_all, append_snoc, take_at, drop_at, drop-drop}
 use borrow.Author.Tests.{ne_eqb, eqb-true, eqb-false, ltb-true, ltb-false, not-false}
 use Rattle.math.specs.Laws.ListLaws.{not-true-false}
 use Rattle.math.specs.Lists.{◌∈◌}
 use Rattle.permutation_theory.specs.Laws.PermutationLaws.{is_permutation_sound, permutation_within}
 use Rattle.permutation_theory.specs.Permutations.{Permutation, is_permutation}
-use Rattle.formula.specs.Limits.{max_variables}
 use Rattle.dimacs_words.specs.declared.Class.TheVariants.{Blank, Word}
-use Rattle.dimacs_words.specs.declared.Cursor.{Cursor}
-use Rattle.dimacs_words.specs.declared.Word.{Word as WordAnswer}
-use Rattle.dimacs_words.specs.declared.Word.TheVariants.{Read, Malformed as no_word}
+use Rattle.dimacs_words.specs.declared.Word.{Word as WordValue}
 use Rattle.dimacs_permutations.specs.declared.Image.{Image}
-use Rattle.dimacs_permutations.specs.declared.Image.TheVariants.{End, Variable, Malformed as Other}
-use Rattle.dimacs_format.specs.Text.{ends_line, is_blank, words, spelled, number_in, token_in}
+use Rattle.dimacs_format.specs.Text.{ends_line, is_blank, all_blank, words, spelled, number_in, is_number, token_in}
 use Rattle.dimacs_format.specs.Reader.{begins_word, both_numbers, numbers_in, permuting, permutation_in}
-use Rattle.dimacs_words.specs.Laws.Scans.{belongs, Stretch, WordAt, signed, DigitsAt, DigitsRead}
+use Rattle.dimacs_words.specs.Laws.Scans.{belongs, Stretch, WordAt, DigitsRead}
 use Rattle.dimacs_words.specs.Laws.PlainLaws.{plain_word, plain_spoilt, plain_number, plain_malformed}
-use Rattle.dimacs_words.specs.Laws.ScanLaws.{word_skip, words_skip, words_end, word_at, blanks_stop}
+use Rattle.dimacs_words.specs.Laws.ScanLaws.{word_skip, words_skip, words_end, word_at, blanks_stop, blanks_from, run_exists, run-begins}
 use Rattle.dimacs_permutations.specs.Laws.PermutationScans.{prepended, numbers_from, Spoiled, Imaging, image_made}
 use Rattle.dimacs_permutations.specs.Laws.PermutationScans.{Storing, Collecting, Permuting}
 
@@ -54,6 +54,10 @@ spoiled_value n v (some ys) ne xs =
 spoiled_size : (n : ℕ) (vs : List ℕ) → (length vs ≡ n → ⊥) → permuting n (some vs) ≡ none
 unfolding permuting is_permutation
 spoiled_size n vs ne = rw (ne_eqb (length vs) n ne)
+
+none_empty : number_in [] ≡ none
+unfolding number_in is_number
+none_empty = refl
 
 -- ---- the next number of a permutation line, where the blanks end at `from`
 
@@ -90,70 +94,87 @@ module _ (n : ℕ) (bytes : List ℕ) (at from : ℕ) (run : Stretch (belongs Bl
         (spoiled_value n v (numbers_from bytes to) (λ h. let high = h.1 in let z : ⊥ = omega arith in z))
 
     pub image_next : (v : ℕ) → number_in (take (to - from) (drop from bytes)) ≡ some v → v ≤ n
-        → Imaging n bytes at (Variable v (record { at = to }))
+        → Imaging n bytes at (Some (record { value = v; next = record { at = to } }))
     image_next v e le =
         let o = run.ordered in
         let later = there.later in
         (omega arith, there.within, le, first e)
 
+  -- less than n numbers and nothing behind them, or what spoils any permutation
+  no_number : (numbers_from bytes at ≡ some []) ⊎ Spoiled n (numbers_from bytes at) → Imaging n bytes at None
+  unfolding prepended
+  no_number (inl e) xs few =
+      ap (λ o. permuting n (prepended xs o)) e
+      ∙ spoiled_size n (xs ++ []) (λ s. let z : ⊥ = omega (arith, s, ap length (append-nil xs)) in z)
+  no_number (inr spoiled) xs few = spoiled xs
+
   -- the same, of digits: those that go up to a line's end, or are malformed, are no number
-  module _ (inside : from < length bytes) where
-    bad_word : (e : ℕ) × Stretch (belongs Word) bytes from e × (number_in (take (e - from) (drop from bytes)) ≡ none)
-        → Spoiled n (numbers_from bytes at)
-    bad_word w = image_bad w.0 w.1 inside w.2
+  bad_word : from < length bytes
+      → (e : ℕ) × Stretch (belongs Word) bytes from e × (number_in (take (e - from) (drop from bytes)) ≡ none)
+      → Imaging n bytes at None
+  bad_word inside w = no_number (inr (image_bad w.0 w.1 inside w.2))
 
-    pub digits_malformed : {r : WordAnswer} → DigitsRead bytes false from r → r ≡ no_word
-        → Spoiled n (numbers_from bytes at)
-    digits_malformed read e = bad_word (plain_malformed (subst (DigitsRead bytes false from) e read).1)
+  pub digits_malformed : DigitsRead bytes false from None → Imaging n bytes at None
+  digits_malformed read = by (dec_lt from (length bytes))
+    where
+      by : Dec (from < length bytes) → Imaging n bytes at None
+      by (yes inside) = bad_word inside (plain_malformed read.1)
+      by (no outside) = no_number (inl (images_end (omega arith)))
 
-    module _ {r : WordAnswer} (b : Bool) (v : ℕ) (c : Cursor) (read : DigitsRead bytes false from r)
-        (is : r ≡ Read b v c) where
-      digits : DigitsAt bytes false from c.at (signed b v)
-      digits = subst (DigitsRead bytes false from) is read
+  module _ (w : WordValue) (digits : DigitsRead bytes false from (Some w)) where
+    -- a word that is a number has digits
+    inside : from < length bytes
+    inside = by (dec_lt from (length bytes))
+      where
+        by : Dec (from < length bytes) → from < length bytes
+        by (yes lt) = lt
+        by (no ge) =
+            absurd (not_some (sym (ap (λ l. number_in (take (w.next.at - from) l)) (drop_of_length-le bytes (omega arith))
+            ∙ ap number_in (take-nil (w.next.at - from)) ∙ none_empty) ∙ plain_number w.negated w.value digits))
 
-      pub digits-over : c.at < length bytes → ends_line (get_or bytes c.at 0) ≡ true
-          → Spoiled n (numbers_from bytes at)
-      digits-over lt e = bad_word (plain_spoilt digits lt e)
+    pub digits-over : w.next.at < length bytes → ends_line (get_or bytes w.next.at 0) ≡ true → Imaging n bytes at None
+    digits-over lt e = bad_word inside (plain_spoilt digits lt e)
 
-      -- the number is taken, and the next is looked for behind nothing but blanks
-      taken : (c.at < length bytes → ends_line (get_or bytes c.at 0) ≡ false) → {next : ℕ} → c.at ≤ next
-          → next ≤ length bytes → numbers_from bytes c.at ≡ numbers_from bytes next
-          → Imaging n bytes at (image_made n v next)
-      taken ends {next} later within same = by (ltb n v) refl
-        where
-          by : (b : Bool) → ltb n v ≡ b → Imaging n bytes at (cond b Other (Variable v (record { at = next })))
-          by true t = image_above c.at (plain_word digits ends) inside v (plain_number b v digits) (ltb-true n v t)
-          by false t =
-              let i = image_next c.at (plain_word digits ends) inside v (plain_number b v digits) (ltb-false n v t) in
-              let past = i.0 in
-              (omega arith, within, i.2, i.3 ∙ ap (both_numbers (some v)) same)
+    -- the number is taken, and the next is looked for behind nothing but blanks
+    taken : (w.next.at < length bytes → ends_line (get_or bytes w.next.at 0) ≡ false) → {next : ℕ} → w.next.at ≤ next
+        → next ≤ length bytes → numbers_from bytes w.next.at ≡ numbers_from bytes next
+        → Imaging n bytes at (image_made n w.value next)
+    taken ends {next} later within same = by (ltb n w.value) refl
+      where
+        by : (b : Bool) → ltb n w.value ≡ b
+            → Imaging n bytes at (cond b None (Some (record { value = w.value; next = record { at = next } })))
+        by true t =
+            no_number (inr (image_above w.next.at (plain_word digits ends) inside w.value
+            (plain_number w.negated w.value digits) (ltb-true n w.value t)))
+        by false t =
+            let i = image_next w.next.at (plain_word digits ends) inside w.value
+            (plain_number w.negated w.value digits) (ltb-false n w.value t) in
+            let past = i.0 in
+            (omega arith, within, i.2, i.3 ∙ ap (both_numbers (some w.value)) same)
 
-      -- at the end of the bytes
-      pub digits_last : length bytes ≤ c.at → {i : Image} → i ≡ image_made n v c.at → Imaging n bytes at i
-      digits_last past e =
-          subst (Imaging n bytes at) (sym e)
-          (taken (λ lt. absurd (let z : ⊥ = omega arith in z)) (le_refl c.at) digits.run.within refl)
+    -- at the end of the bytes
+    pub digits_last : length bytes ≤ w.next.at → {i : Answer Image} → i ≡ image_made n w.value w.next.at
+        → Imaging n bytes at i
+    digits_last past e =
+        subst (Imaging n bytes at) (sym e)
+        (taken (λ lt. absurd (let z : ⊥ = omega arith in z)) (le_refl w.next.at) digits.run.within refl)
 
-      -- before a blank
-      pub digits_parted : c.at < length bytes → ends_line (get_or bytes c.at 0) ≡ false → {i : Image}
-          → i ≡ image_made n v (c.at + 1) → Imaging n bytes at i
-      digits_parted lt plain e =
-          subst (Imaging n bytes at) (sym e)
-          (taken (λ _. plain) (omega arith) (omega arith)
-          (ap (λ l. numbers_in (spelled l)) (word_skip bytes 0 c.at lt
-          (word-ended (get_or bytes c.at 0) ((plain_word digits (λ _. plain)).stops lt)))))
+    -- before a blank
+    pub digits_parted : w.next.at < length bytes → ends_line (get_or bytes w.next.at 0) ≡ false → {i : Answer Image}
+        → i ≡ image_made n w.value (w.next.at + 1) → Imaging n bytes at i
+    digits_parted lt plain e =
+        subst (Imaging n bytes at) (sym e)
+        (taken (λ _. plain) (omega arith) (omega arith)
+        (ap (λ l. numbers_in (spelled l)) (word_skip bytes 0 w.next.at lt
+        (word-ended (get_or bytes w.next.at 0) ((plain_word digits (λ _. plain)).stops lt)))))
 
 -- ---- the loop over the numbers
 
-module _ (n : ℕ) (bytes part₀ : List ℕ) where
-  pub collect_begins : n ≤ max_variables → length part₀ ≡ n → Collecting n bytes part₀ part₀ 0 0
+module _ (n : ℕ) (bytes part : List ℕ) where
+  pub collect_begins : Collecting n bytes part 0 0
   unfolding prepended
-  collect_begins few size =
+  collect_begins =
       record {
-        few = few;
-        size = size;
-        kept = refl;
-        front = zero-le;
         within = zero-le;
         left = whole (numbers_in (spelled (words 0 bytes)))
             ∙ ap (λ j. prepended [] (numbers_in (spelled (words j bytes)))) (sym (zero-add 0));
@@ -163,67 +184,55 @@ module _ (n : ℕ) (bytes part₀ : List ℕ) where
       whole none = refl
       whole (some vs) = refl
 
-  module _ (part : List ℕ) (j at : ℕ) (c : Collecting n bytes part₀ part j at) (r : Image) (k : Imaging n bytes at r)
-    where
-      filled : length (take j part) ≡ j
-      filled = length-take-le j part (let a = c.front in let b = c.size in omega arith)
+  module _ (j at : ℕ) (c : Collecting n bytes part j at) where
+    pub collect_stops : (after : List ℕ) → Imaging n bytes at None → j < length part → length part ≡ n
+        → Storing n bytes after false
+    collect_stops after k lt size = ap (permuting n) c.left ∙ k (take j part) (omega (arith, length-take-le j part (omega arith)))
 
-      pub collect_ends : r ≡ End → (b : Bool) → eqb j (length part) ≡ b → Storing n bytes part b
-      unfolding prepended
-      collect_ends e true t =
-          let past : length part ≤ j = le_of_eq (sym (eqb-true j (length part) t)) in
-          c.left ∙ ap (prepended (take j part)) (subst (Imaging n bytes at) e k)
-          ∙ ap some (append-nil (take j part) ∙ take_all j part past)
-      collect_ends e false t =
-          ap (permuting n) (c.left ∙ ap (prepended (take j part)) (subst (Imaging n bytes at) e k))
-          ∙ spoiled_size n (take j part ++ [])
-          (λ s. eqb-false j (length part) t (sym filled ∙ ap length (sym (append-nil (take j part))) ∙ s
-          ∙ sym c.size))
+    pub collect_goes_on : (i : Image) → Imaging n bytes at (Some i) → j < length part
+        → Collecting n bytes (set part j i.value) (j + 1) i.next.at
+    unfolding prepended both_numbers
+    collect_goes_on i found room =
+        record {
+          within = found.1;
+          left = c.left ∙ ap (prepended (take j part)) found.3 ∙ by (numbers_from bytes i.next.at);
+        }
+      where
+        by : (o : Option (List ℕ)) → prepended (take j part) (both_numbers (some i.value) o)
+            ≡ prepended (take (j + 1) (set part j i.value)) o
+        by none = refl
+        by (some vs) =
+            ap some (sym (append_snoc (take j part) i.value vs)
+            ∙ ap (λ l. l ++ vs) (sym (take-suc-set part j i.value room)
+            ∙ ap (λ k. take k (set part j i.value)) (sym (add-one j))))
 
-      pub collect_stops : r ≡ Other → Storing n bytes part false
-      collect_stops e = ap (permuting n) c.left ∙ subst (Imaging n bytes at) e k (take j part)
+    -- behind n numbers only blanks may follow
+    module _ (full : length part ≤ j) (size : length part ≡ n) where
+      all_taken : numbers_in (spelled (words 0 bytes)) ≡ prepended part (numbers_from bytes at)
+      all_taken = c.left ∙ ap (λ xs. prepended xs (numbers_from bytes at)) (take_all j part full)
 
-      module _ (v : ℕ) (cursor : Cursor) (e : r ≡ Variable v cursor) where
-        found : Imaging n bytes at (Variable v cursor)
-        found = subst (Imaging n bytes at) e k
-
-        pub image_small : v ≤ max_variables
-        image_small = le_trans found.2 c.few
-
-        pub image_later : (at < cursor.at) × (cursor.at ≤ length bytes)
-        image_later = (found.0, found.1)
-
-        pub collect_full : length part ≤ j → Storing n bytes part false
-        unfolding prepended both_numbers permuting
-        collect_full full =
-            ap (permuting n) (c.left ∙ ap (prepended (take j part)) found.3) ∙ by (numbers_from bytes cursor.at)
-          where
-            by : (o : Option (List ℕ)) → permuting n (prepended (take j part) (both_numbers (some v) o)) ≡ none
-            by none = refl
-            by (some vs) =
-                spoiled_size n (take j part ++ v ∷ vs)
-                (λ s. let a = c.size in let b : ⊥ = omega (arith, filled, s, length-append (take j part) (v ∷ vs)) in
-                b)
-
-        pub collect_goes_on : j < length part → Collecting n bytes part₀ (set part j v) (j + 1) cursor.at
-        unfolding prepended both_numbers
-        collect_goes_on room =
-            record {
-              few = c.few;
-              size = length-set part j v ∙ c.size;
-              kept = length-set part j v ∙ c.kept;
-              front = let a = c.size in omega arith;
-              within = found.1;
-              left = c.left ∙ ap (prepended (take j part)) found.3 ∙ by (numbers_from bytes cursor.at);
-            }
-          where
-            by : (o : Option (List ℕ)) → prepended (take j part) (both_numbers (some v) o)
-                ≡ prepended (take (j + 1) (set part j v)) o
-            by none = refl
-            by (some vs) =
-                ap some (sym (append_snoc (take j part) v vs)
-                ∙ ap (λ l. l ++ vs) (sym (take-suc-set part j v room)
-                ∙ ap (λ i. take i (set part j v)) (sym (add-one j))))
+      pub collect_ends : (b : Bool) → b ≡ all_blank (drop at bytes) → Storing n bytes part b
+      unfolding prepended both_numbers permuting
+      collect_ends true e =
+          let blanks = blanks_from bytes c.within in
+          let end : blanks.0 ≡ length bytes = eqb-true blanks.0 (length bytes) (blanks.2 ∙ sym e) in
+          all_taken ∙ ap (prepended part) (images_end n bytes at blanks.0 blanks.1 (le_of_eq (sym end)))
+          ∙ ap some (append-nil part)
+      collect_ends false e =
+          let blanks = blanks_from bytes c.within in
+          let ne : blanks.0 ≡ length bytes → ⊥ = eqb-false blanks.0 (length bytes) (blanks.2 ∙ sym e) in
+          let w = blanks.1.within in
+          let inside : blanks.0 < length bytes = omega arith in
+          let word = run_exists (belongs Word) bytes blanks.0 blanks.0 (le_refl blanks.0) w (run-begins (belongs Word) bytes blanks.0) in
+          ap (permuting n) (all_taken ∙ ap (prepended part) (first n bytes at blanks.0 blanks.1 word.0 word.2 inside refl))
+          ∙ by (number_in (take (word.0 - blanks.0) (drop blanks.0 bytes))) (numbers_from bytes word.0)
+        where
+          by : (o : Option ℕ) (os : Option (List ℕ)) → permuting n (prepended part (both_numbers o os)) ≡ none
+          by none os = refl
+          by (some v) none = refl
+          by (some v) (some vs) =
+              spoiled_size n (part ++ v ∷ vs)
+              (λ s. let z : ⊥ = omega (arith, s, length-append part (v ∷ vs)) in z)
 
 -- ---- the whole permutation line, behind its head
 

@@ -1,19 +1,16 @@
 -- `dimacs_problem::is_skipped` meets its contract: a comment, or all blanks. Assumes nothing.
-use Rattle.std.proofs.Common.{sym, ◌∙◌, rules}
+use Rattle.std.proofs.Common.{sym, ◌∙◌}
+use Rattle.dimacs_words.specs.Laws.ScanLaws.{head_compared}
 use Rattle.dimacs_problem.specs.Laws.ProblemScanLaws.{skipped_comment, skipped_blank}
-use Rattle.dimacs_format.specs.Text.{is_comment}
+use Rattle.dimacs_format.specs.Text.{ascii, is_comment}
 use Rattle.dimacs_problem.proofs.is_skipped.Goals as goal
 
-pub begins-comment-requires : goal.begins-comment-requires
-begins-comment-requires c = search rules
-
-pub returns-then-comment : goal.returns-then-comment
+pub returns-then-starts_with : goal.returns-then-starts_with
 unfolding is_comment
-returns-then-comment c = skipped_comment c.args.line.now (sym c.begins-comment.ensures ∙ c.if-comment.true)
+returns-then-starts_with c =
+    c.if-starts_with.true ∙ skipped_comment c.args.line.now (sym (head_compared (ascii "c") c.args.line.now) ∙ sym c.starts_with.ensures.value ∙ c.if-starts_with.true)
 
-pub blank_from-requires : goal.blank_from-requires
-blank_from-requires c = search rules
-
-pub returns : goal.returns
+pub returns-else-starts_with : goal.returns-else-starts_with
 unfolding is_comment
-returns c = skipped_blank c.args.line.now (sym c.begins-comment.ensures ∙ c.if-comment.false) c.blank_from.ensures
+returns-else-starts_with c =
+    skipped_blank c.args.line.now (sym (head_compared (ascii "c") c.args.line.now) ∙ sym c.starts_with.ensures.value ∙ c.if-starts_with.false) c.blank_from.ensures

@@ -2,17 +2,18 @@
 use Rattle.std.specs.Prelude.{Bool, true, false, ◌&&◌, ◌⊎◌, ◌≡◌, refl, ℕ, suc, ◌+◌, ◌-◌, ◌≤◌, ◌<◌, eqb, length, get_or, take, drop}
 use Rattle.std.proofs.Math.Bool.{cond}
 use mathlib.Core.List.{List, [], ◌∷◌, nil≢cons}
-use Rattle.std.proofs.Common.{inl, inr, ⊎_elim, sym, ap₂, ◌∙◌, le_of_eq, arith, take_all, le-leb, eqb-true, eq-eqb, ne_eqb}
+use Rattle.std.proofs.Common.{inl, inr, ⊎_elim, sym, ◌∙◌, arith, le-leb, eqb-true, eq-eqb, ne_eqb, length-drop, get_or-drop, subst}
+use Rattle.std.specs.Prelude.{Some, None}
 use Rattle.std.proofs.Math.Option.{Option, some, none}
 use Rattle.std.proofs.Math.Path.{ap}
+use Rattle.std.proofs.lemmas.Bool.{eqb-false}
 use Rattle.std.proofs.Math.Decide.{dec_lt}
-use Rattle.math.specs.Laws.ListLaws.{not-true-false, not-all, get_d_in, same_tests}
-use Rattle.math.specs.Lists.{all, select}
+use Rattle.math.specs.Laws.ListLaws.{not-all, get_d_in}
+use Rattle.math.specs.Lists.{all, ◌∈◌, select}
 use Rattle.math.specs.Laws.SplitLaws.{select-cons, map-nil}
 use Rattle.dimacs_words.specs.declared.Class.TheVariants.{Blank, Word as WordBytes, Line as LineBytes}
 use Rattle.dimacs_words.specs.declared.Cursor.{Cursor}
-use Rattle.dimacs_problem.specs.declared.Matched.TheVariants.{Behind, Other}
-use Rattle.dimacs_problem.specs.declared.Sized.TheVariants.{Number, Other as NoNumber}
+use Rattle.dimacs_problem.specs.declared.Number.{Number}
 use Rattle.dimacs_format.specs.Text.{is_blank, all_blank, Piece, Word, piece, joined, pieces, lines, holds_bytes, words}
 use Rattle.dimacs_format.specs.Text.{spelled, same_bytes, begins, is_comment, problem_word, format_word, number_in, token_in}
 use Rattle.dimacs_format.specs.Text.{is_number}
@@ -21,28 +22,8 @@ use Rattle.dimacs_format.specs.Laws.StepLaws.{not_some}
 use Rattle.dimacs_format.specs.Laws.TextLaws.{same_bytes_lem}
 use Rattle.dimacs_words.specs.Laws.Scans.{belongs, Stretch, lines_behind}
 use Rattle.dimacs_words.specs.Laws.ScanLaws.{here_on, run-all, words_skip, words_end, word_at, same_lengths}
-use Rattle.dimacs_words.specs.Laws.ScanLaws.{blanks_stop, behind-none, behind-some, lines_from_lem}
+use Rattle.dimacs_words.specs.Laws.ScanLaws.{blanks_from, blanks_stop, behind-none, behind-some, lines_from_lem}
 use Rattle.dimacs_problem.specs.Laws.ProblemScans.{spelled_from, WordMatched, NumberMatched}
-
--- ---- equal runs of bytes
-
-pub bytes_apart : (xs ys : List ℕ) → (length xs ≡ length ys → ⊥) → false ≡ same_bytes xs ys
-bytes_apart xs ys ne = sym (not-true-false (same_bytes xs ys) (λ e. ne (same_lengths xs ys e)))
-
-eqb_comm : (a b : ℕ) → eqb a b ≡ eqb b a
-eqb_comm a b = same_tests (eqb a b) (eqb b a) (λ e. eq-eqb b a (sym (eqb-true a b e)))
-    (λ e. eq-eqb a b (sym (eqb-true b a e)))
-
-bytes_turned : (xs ys : List ℕ) → same_bytes xs ys ≡ same_bytes ys xs
-unfolding same_bytes
-bytes_turned [] [] = refl
-bytes_turned [] (y ∷ ys) = refl
-bytes_turned (x ∷ xs) [] = refl
-bytes_turned (x ∷ xs) (y ∷ ys) = ap₂ ◌&&◌ (eqb_comm x y) (bytes_turned xs ys)
-
-pub bytes_begin : (part word : List ℕ) → length part ≡ length word → begins word part ≡ same_bytes part word
-unfolding begins
-bytes_begin part word e = ap (same_bytes word) (take_all (length word) part (le_of_eq e)) ∙ bytes_turned word part
 
 first_same : {w v : List ℕ} {ws vs : List (List ℕ)} → w ∷ ws ≡ v ∷ vs → w ≡ v
 first_same e = cc
@@ -79,7 +60,7 @@ module _ (line : List ℕ) (at from to : ℕ) (blanks : Stretch (belongs Blank) 
           )
 
   pub word-behind : (word : List ℕ) → 1 ≤ length word → same_bytes (take (to - from) (drop from line)) word ≡ true
-      → WordMatched line at word (Behind (record { at = to }))
+      → WordMatched line at word (Some (record { at = to }))
   word-behind word low e =
       ⊎_elim (λ s. (
         bytes.within,
@@ -90,13 +71,13 @@ module _ (line : List ℕ) (at from to : ℕ) (blanks : Stretch (belongs Blank) 
       let z : ⊥ = omega arith in z)) next_word
 
   pub word_other : (word : List ℕ) → same_bytes (take (to - from) (drop from line)) word ≡ false
-      → WordMatched line at word Other
+      → WordMatched line at word None
   word_other word e w ws f =
       ⊎_elim (λ s. ap (λ v. same_bytes v word) (first_same (sym f ∙ s)) ∙ e) (λ s. absurd (nil≢cons (sym s.1 ∙ f)))
       next_word
 
   pub number_behind : (v : ℕ) → number_in (take (to - from) (drop from line)) ≡ some v
-      → NumberMatched line at (Number v (record { at = to }))
+      → NumberMatched line at (Some (record { value = v; next = record { at = to } }))
   number_behind v e =
       ⊎_elim (λ s. (bytes.within, (take (to - from) (drop from line), s, e)))
       (λ s. absurd (not_some (empty_number s.0 e))) next_word
@@ -104,7 +85,7 @@ module _ (line : List ℕ) (at from to : ℕ) (blanks : Stretch (belongs Blank) 
       empty_number : {w : List ℕ} → w ≡ [] → number_in w ≡ some v → none ≡ some v
       empty_number {w} p q = sym none_empty ∙ ap number_in (sym p) ∙ q
 
-  pub number_other : number_in (take (to - from) (drop from line)) ≡ none → NumberMatched line at NoNumber
+  pub number_other : number_in (take (to - from) (drop from line)) ≡ none → NumberMatched line at None
   number_other e w ws f =
       ⊎_elim (λ s. ap number_in (first_same (sym f ∙ s)) ∙ e) (λ s. absurd (nil≢cons (sym s.1 ∙ f))) next_word
 
@@ -204,49 +185,55 @@ module _ (line : List ℕ) where
     unfolding problem_in
     by_words = rw e
 
-    pub problem-first : WordMatched line 0 problem_word Other → none ≡ problem_in (piece 0 line)
+    pub problem-first : WordMatched line 0 problem_word None → none ≡ problem_in (piece 0 line)
     problem-first w = sym (by_words ∙ others-first (spelled_from line 0) w)
 
-    module _ (one : Cursor) (a : WordMatched line 0 problem_word (Behind one)) where
-      pub problem_second : WordMatched line one.at format_word Other → none ≡ problem_in (piece 0 line)
+    module _ (one : Cursor) (a : WordMatched line 0 problem_word (Some one)) where
+      pub problem_second : WordMatched line one.at format_word None → none ≡ problem_in (piece 0 line)
       problem_second w = sym (by_words ∙ ap problem_words a.1
           ∙ others_second problem_word (spelled_from line one.at) w)
 
-      module _ (two : Cursor) (b : WordMatched line one.at format_word (Behind two)) where
+      module _ (two : Cursor) (b : WordMatched line one.at format_word (Some two)) where
         two_words : spelled_from line 0 ≡ problem_word ∷ format_word ∷ spelled_from line two.at
         two_words = a.1 ∙ ap (λ l. problem_word ∷ l) b.1
 
-        pub problem_third : NumberMatched line two.at NoNumber → none ≡ problem_in (piece 0 line)
+        pub problem_third : NumberMatched line two.at None → none ≡ problem_in (piece 0 line)
         problem_third w = sym (by_words ∙ ap problem_words two_words
             ∙ others_third problem_word format_word (spelled_from line two.at) w)
 
-        module _ (v : ℕ) (three : Cursor) (c : NumberMatched line two.at (Number v three)) where
-          three_words : spelled_from line 0 ≡ problem_word ∷ format_word ∷ c.1.0 ∷ spelled_from line three.at
+        module _ (v : Number) (c : NumberMatched line two.at (Some v)) where
+          three_words : spelled_from line 0 ≡ problem_word ∷ format_word ∷ c.1.0 ∷ spelled_from line v.next.at
           three_words = two_words ∙ ap (λ l. problem_word ∷ format_word ∷ l) c.1.1
 
-          pub problem_fourth : NumberMatched line three.at NoNumber → none ≡ problem_in (piece 0 line)
+          pub problem_fourth : NumberMatched line v.next.at None → none ≡ problem_in (piece 0 line)
           problem_fourth w =
               sym (by_words ∙ ap problem_words three_words
-              ∙ others_fourth problem_word format_word c.1.0 (spelled_from line three.at) w)
+              ∙ others_fourth problem_word format_word c.1.0 (spelled_from line v.next.at) w)
 
-          module _ (m : ℕ) (four : Cursor) (d : NumberMatched line three.at (Number m four)) (end : ℕ)
-              (s : Stretch (belongs Blank) line four.at end) where
-            four_words : spelled_from line 0 ≡ problem_word ∷ format_word ∷ c.1.0 ∷ d.1.0 ∷ spelled_from line four.at
+          module _ (m : Number) (d : NumberMatched line v.next.at (Some m)) where
+            four_words : spelled_from line 0 ≡ problem_word ∷ format_word ∷ c.1.0 ∷ d.1.0 ∷ spelled_from line m.next.at
             four_words = three_words ∙ ap (λ l. problem_word ∷ format_word ∷ c.1.0 ∷ l) d.1.1
 
-            pub problem_fifth : end < length line → none ≡ problem_in (piece 0 line)
-            problem_fifth inside =
-                sym (by_words ∙ ap problem_words four_words
-                ∙ others_fifth problem_word format_word c.1.0 d.1.0 (spelled_from line four.at)
-                (word-left line four.at end s inside))
+            -- where the blanks behind the fourth word end
+            blanks : (e : ℕ) × Stretch (belongs Blank) line m.next.at e × (eqb e (length line) ≡ all_blank (drop m.next.at line))
+            blanks = blanks_from line d.0
 
-            pub problem_read : length line ≤ end → some (record { variables = v; total = m }) ≡ problem_in (piece 0 line)
-            problem_read past =
-                let last : spelled_from line four.at
-                ≡ [] = ap spelled (words_skip line 0 s ∙ words_end line 0 end (let w = s.within in omega arith)) in
+            pub problem_fifth : all_blank (drop m.next.at line) ≡ false → none ≡ problem_in (piece 0 line)
+            problem_fifth e =
+                let ne : blanks.0 ≡ length line → ⊥ = eqb-false blanks.0 (length line) (blanks.2 ∙ e) in
+                let w = blanks.1.within in
+                sym (by_words ∙ ap problem_words four_words
+                ∙ others_fifth problem_word format_word c.1.0 d.1.0 (spelled_from line m.next.at)
+                (word-left line m.next.at blanks.0 blanks.1 (omega arith)))
+
+            pub problem_read : all_blank (drop m.next.at line) ≡ true
+                → some (record { variables = v.value; total = m.value }) ≡ problem_in (piece 0 line)
+            problem_read e =
+                let end : blanks.0 ≡ length line = eqb-true blanks.0 (length line) (blanks.2 ∙ e) in
+                let last : spelled_from line m.next.at ≡ [] = ap spelled (words_skip line 0 blanks.1 ∙ words_end line 0 blanks.0 end) in
                 sym (by_words ∙ ap problem_words (four_words
                 ∙ ap (λ l. problem_word ∷ format_word ∷ c.1.0 ∷ d.1.0 ∷ l) last)
-                ∙ just_four c.1.0 d.1.0 v m c.1.2 d.1.2)
+                ∙ just_four c.1.0 d.1.0 v.value m.value c.1.2 d.1.2)
 
 -- ---- lines that are skipped
 

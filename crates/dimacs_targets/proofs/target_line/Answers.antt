@@ -1,17 +1,9 @@
 -- `dimacs_targets::target_line` meets its contract: a second line, a malformed one, a target. Assumes nothing.
-use Rattle.std.proofs.Common.{rules}
-use borrow.Author.Tests.{not-true, not-false}
-use Rattle.dimacs_targets.specs.Laws.TargetScanLaws.{target_second, target_malformed, target_good}
+use Rattle.dimacs_targets.specs.Laws.TargetScanLaws.{target_second, target_first}
 use Rattle.dimacs_targets.proofs.target_line.Goals as goal
 
-pub read_target-read-requires : goal.read_target-read-requires
-read_target-read-requires c = search rules
+pub returns-in-Some : goal.returns-in-Some
+returns-in-Some c = rw c.in-Some.is (target_second c.in-Some.field-0)
 
-pub returns-then-not-read : goal.returns-then-not-read
-returns-then-not-read c = target_malformed c.read_target-read.result c.read_target-read.ensures (not-true _ c.if-not-read.true)
-
-pub returns : goal.returns
-returns c = target_good c.read_target-read.result c.read_target-read.ensures c.if-second.false (not-false _ c.if-not-read.false)
-
-pub returns-then-second : goal.returns-then-second
-returns-then-second c = search (rules, target_second)
+pub returns-in-None : goal.returns-in-None
+returns-in-None c = rw (c.in-None.is, c.ok_or.ensures.value) (target_first c.read_target.result c.read_target.ensures)

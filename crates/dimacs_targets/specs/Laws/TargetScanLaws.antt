@@ -1,9 +1,9 @@
 -- Laws of reading a target line by position, and of one line behind those before it. Assumes nothing.
-use Rattle.std.specs.Prelude.{Bool, ◌&&◌, ◌||◌, List, ◌∷◌, ◌≡◌, ℕ, zero, suc, ◌+◌, ◌-◌, ◌*◌, ◌^◌, ◌≤◌, ◌<◌, eqb, leb, get_or, take, drop}
+use Rattle.std.specs.Prelude.{Option as Answer, Some, None, Err, Bool, ◌&&◌, List, ◌∷◌, ◌≡◌, ℕ, zero, suc, ◌+◌, ◌-◌, ◌*◌, ◌^◌, ◌≤◌, ◌<◌, eqb, leb, get_or, take, drop}
 use Rattle.std.proofs.Math.Bool.{true, false, cond}
 use Rattle.std.proofs.Math.Option.{Option, some, none}
 use Rattle.std.proofs.Math.Path.{refl, sym, ap}
-use Rattle.std.proofs.Common.{◌∙◌, zero-add, one-mul, mul-zero, zero-mul, pow-suc, add-one, drop_of_length-le, get_or-take, length-take-le, le-leb, eq-eqb, ne_eqb}
+use Rattle.std.proofs.Common.{ok_or, eqb-true, ◌∙◌, zero-add, one-mul, mul-zero, zero-mul, pow-suc, add-one, drop_of_length-le, get_or-take, length-take-le, le-leb, eq-eqb, ne_eqb}
 use Rattle.std.proofs.Math.Nat.{add-zero, mul-add, mul_comm, mul_assoc}
 use Rattle.std.proofs.Math.Decide.{ℕ_discrete}
 use native.Mathlib.Omega.{arith}
@@ -12,11 +12,10 @@ use Rattle.std.proofs.Math.ListN.{length}
 use Rattle.std.proofs.lemmas.Bool.{lt-leb}
 use Rattle.math.specs.Lists.{all}
 use Rattle.dimacs_format.specs.Text.{all_blank}
-use Rattle.dimacs_format.specs.Reader.{is_binary, binary, target_in, goes, target_kept, target_said}
+use Rattle.dimacs_format.specs.Reader.{is_binary, binary, target_in, target_kept, target_said}
 use Rattle.dimacs_words.specs.Laws.ScanLaws.{here_on}
 use Rattle.dimacs_targets.specs.Laws.TargetScans.{with_digit, binary_in, wanted_of, TargetRead}
-use Rattle.formula.specs.declared.Checked.TheVariants.{Passed, Refused}
-use Rattle.dimacs_targets.specs.declared.Wanted.{Wanted}
+use Rattle.formula.specs.declared.reasons.Reason.TheVariants.{TargetLine}
 
 -- ---- its digits, and what stands behind them
 
@@ -90,25 +89,14 @@ module _ (n : ℕ) (bytes : List ℕ) (room : n ≤ length bytes) (x i : ℕ) wh
           ∙ ap (λ j. j * rest) (pow-suc 2 i) ∙ mul_assoc (2 ^ i) 2 rest in
           omega arith
 
--- which bytes are digits 0 and 1
-pub binary_low : (b : ℕ) → b < 48 → is_binary b ≡ false
+-- a digit 0 or 1 is one of two bytes
+pub binary_within : (b : ℕ) → is_binary b ≡ true → (48 ≤ b) × (b ≤ 49)
 unfolding is_binary
-binary_low b h = rw (ne_eqb b 48 (λ e. let z : ⊥ = omega arith in z), ne_eqb b 49 (λ e. let z : ⊥ = omega arith in z))
-
-pub binary_high : (b : ℕ) → 49 < b → is_binary b ≡ false
-unfolding is_binary
-binary_high b h = rw (ne_eqb b 48 (λ e. let z : ⊥ = omega arith in z), ne_eqb b 49 (λ e. let z : ⊥ = omega arith in z))
-
-pub binary-digit : (b : ℕ) → 48 ≤ b → b ≤ 49 → is_binary b ≡ true
-unfolding is_binary
-binary-digit b lo hi = by (ℕ_discrete b 48)
+binary_within b e = by (ℕ_discrete b 48)
   where
-    by : Dec (b ≡ 48) → eqb b 48 || eqb b 49 ≡ true
-    by (yes e) = rw (eq-eqb b 48 e)
-    by (no ne) = rw (ne_eqb b 48 ne, eq-eqb b 49 (let z : b ≡ 49 = other in z))
-      where
-        other : b ≡ 49
-        other = omega arith
+    by : Dec (b ≡ 48) → (48 ≤ b) × (b ≤ 49)
+    by (yes f) = (omega arith, omega arith)
+    by (no ne) = let f : b ≡ 49 = eqb-true b 49 (rw (ne_eqb b 48 ne) at e) in (omega arith, omega arith)
 
 module _ (n : ℕ) (bytes : List ℕ) where
   pub target_short : length bytes < n → none ≡ target_in n bytes
@@ -134,38 +122,15 @@ module _ (n : ℕ) (bytes : List ℕ) where
 
 -- ---- one line behind those before it
 
--- the first such line
-first-line : (n place : ℕ) (bytes : List ℕ) (w read : Wanted) → w.found ≡ false → wanted_of read ≡ target_in n bytes
-    → target_said n (wanted_of w) place bytes ≡ target_kept place (wanted_of read)
-unfolding target_said
-first-line n place bytes w read e f = rw e (ap (target_kept place) (sym f))
-
-module _ {n place : ℕ} {bytes : List ℕ} {w : Wanted} where
+module _ {n place : ℕ} {bytes : List ℕ} where
   -- S18: "at most one such line"
-  pub target_second : w.found ≡ true → TargetRead n place bytes w (record { answer = Refused 8 place; wanted = w })
+  pub target_second : (x : ℕ) → TargetRead n place bytes (Some x) (Err (record { reason = TargetLine; place = place }))
   unfolding target_said
-  target_second e = record { step = rw e }
+  target_second x = record { step = refl }
 
-  module _ (read : Wanted) (f : wanted_of read ≡ target_in n bytes) where
-    pub target_malformed : read.found ≡ false
-        → TargetRead n place bytes w (record { answer = Refused 8 place; wanted = w })
-    unfolding target_said target_kept
-    target_malformed g = by w.found refl
-      where
-        by : (t : Bool) → w.found ≡ t → TargetRead n place bytes w (record { answer = Refused 8 place; wanted = w })
-        by true e = target_second e
-        by false e =
-            record {
-              step = sym (first-line n place bytes w read e f
-                  ∙ ap (λ b. target_kept place (cond b (some read.target) none)) g);
-            }
-
-    pub target_good : w.found ≡ false → read.found ≡ true
-        → TargetRead n place bytes w (record { answer = Passed; wanted = read })
-    unfolding target_kept
-    target_good e g =
-        record {
-          step = ap (λ b. goes (cond b (some read.target) none)) g
-              ∙ sym (first-line n place bytes w read e f
-              ∙ ap (λ b. target_kept place (cond b (some read.target) none)) g);
-        }
+  -- the first such line
+  pub target_first : (read : Answer ℕ) → wanted_of read ≡ target_in n bytes
+      → TargetRead n place bytes None (ok_or read (record { reason = TargetLine; place = place }))
+  unfolding target_said target_kept
+  target_first (Some x) f = record { step = ap (target_kept place) f }
+  target_first None f = record { step = ap (target_kept place) f }

@@ -1,14 +1,8 @@
 -- `dimacs_words::belongs` meets its contract, class by class. Assumes nothing.
-use Rattle.std.proofs.Common.{not, sym, ap, ◌∙◌, rules}
+use Rattle.std.proofs.Common.{not, sym, ap, ◌∙◌}
 use Rattle.dimacs_words.specs.Laws.Scans.{belongs}
 use Rattle.dimacs_format.specs.Text.{ends_line}
 use Rattle.dimacs_words.proofs.belongs.Goals as goal
-
-pub is_blank-requires : goal.is_blank-requires
-is_blank-requires c = search rules
-
-pub is_blank-requires-in-Word : goal.is_blank-requires-in-Word
-is_blank-requires-in-Word c = search rules
 
 pub returns-in-Blank : goal.returns-in-Blank
 unfolding belongs

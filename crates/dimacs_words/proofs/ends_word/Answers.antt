@@ -1,5 +1,5 @@
 -- `dimacs_words::ends_word` meets its contract: a byte above 32 ends no word, byte 32 ends one. Assumes nothing.
-use Rattle.std.proofs.Common.{◌||◌, sym, ap, eqb, rules}
+use Rattle.std.proofs.Common.{◌||◌, sym, ap, eqb}
 use Rattle.dimacs_format.specs.Text.{ends_line}
 use Rattle.dimacs_words.specs.Laws.Scans.{ends_word}
 use Rattle.dimacs_words.specs.Laws.ScanLaws.{ends_at_32, above_blanks}
@@ -11,9 +11,6 @@ returns-then-b-gt32 c = sym (above_blanks _ c.if-b-gt32.true)
 pub returns-then-b-eq32 : goal.returns-then-b-eq32
 returns-then-b-eq32 c = sym (ends_at_32 c.if-b-eq32.true)
 
-pub is_blank-blank-requires : goal.is_blank-blank-requires
-is_blank-blank-requires c = search rules
-
 pub returns : goal.returns
 unfolding ends_word ends_line
-returns c = ap (λ b. b || eqb c.args.b 10) c.is_blank-blank.ensures
+returns c = ap (λ b. b || eqb c.args.b 10) c.is_blank.ensures

@@ -5,5 +5,5 @@ use Rattle.dimacs_words.proofs.line_end.Goals as goal
 
 pub returns : goal.returns
 returns c =
-    let near = c.skip_blocks-near.ensures in
+    let near = c.skip_blocks.ensures in
     run_joins near.ordered near.passes c.run_end.ensures

@@ -1,9 +1,5 @@
-use Rattle.std.proofs.Common.{◌<◌, ◌-◌, length}
 use Rattle.dimacs_words.specs.Laws.ScanLaws.{Passed}
 use Rattle.dimacs_words.proofs.read_digits.Given as goal
 
 abbrev pub invariant-loop-i : goal.invariant-loop-i
-invariant-loop-i l = Passed l.text l.from l.v l.i × (l.from < l.i)
-
-abbrev pub decreases-loop-i : goal.decreases-loop-i
-decreases-loop-i l = length l.text - l.i
+invariant-loop-i l = Passed l.text l.from l.v l.i

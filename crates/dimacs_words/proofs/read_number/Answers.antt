@@ -2,59 +2,47 @@
 -- passed. Assumes nothing.
 use Rattle.std.proofs.Common.{true, ◌≡◌, sym, ◌∙◌, ◌<◌, arith, get_or, rules}
 use Rattle.dimacs_format.specs.Text.{is_digit}
-use Rattle.dimacs_words.specs.Laws.ScanLaws.{number_short, number_long, number_begins, number_ends}
+use Rattle.dimacs_words.specs.Laws.ScanLaws.{number_sized, word_holds, number_begins, number_ends}
 use Rattle.dimacs_words.specs.Laws.ScanLaws.{number_stops, number_goes_on, digit_within, value_grows, value_small}
-use Rattle.dimacs_words.proofs.read_number.Lts as lts
-use Rattle.dimacs_words.proofs.read_number.Reads as reads
-use Rattle.dimacs_words.proofs.read_number.Tie as tie
 use Rattle.dimacs_words.proofs.read_number.Goals as goal
+use Rattle.dimacs_words.proofs.read_number.Goals.{Else-not-is_digit}
 
 -- the byte is a digit, and the value passed is small
-digit : (c : lts.Else3 tie.the-claims reads.Pre reads.Post goal.the-invariant-loop-i goal.the-decreases-loop-i)
-    → is_digit (get_or c.args.w.now c.loop-i.i 0) ≡ true
-digit c = sym c.is_digit-digit.ensures ∙ c.if-not-digit.false
+digit : (c : Else-not-is_digit) → is_digit (get_or c.args.w.now c.loop-b.b-index 0) ≡ true
+digit c = sym c.is_digit.ensures ∙ c.if-not-is_digit.false
 
-small : (c : lts.Else3 tie.the-claims reads.Pre reads.Post goal.the-invariant-loop-i goal.the-decreases-loop-i) → c.loop-i.v < 1000
-small c = value_small c.loop-i.i _ c.loop-i.invariant.1 (omega arith)
+small : (c : Else-not-is_digit) → c.loop-b.v < 1000
+small c = value_small c.loop-b.b-index _ c.loop-b.invariant.0 (omega arith)
 
-pub returns-then-w-lt1 : goal.returns-then-w-lt1
-returns-then-w-lt1 c = number_short _ c.if-w-lt1.true
+pub returns-then-is_empty : goal.returns-then-is_empty
+returns-then-is_empty c = number_sized _ c.is_empty.ensures c.then-is_empty.either
 
-pub returns-then-w-gt4 : goal.returns-then-w-gt4
-returns-then-w-gt4 c = number_long _ c.if-w-gt4.true
+pub loop-b-init : goal.loop-b-init
+loop-b-init c = (search rules, number_begins _ (word_holds _ (sym c.is_empty.ensures ∙ c.if-is_empty.false)) c.if-w-gt4.false)
 
-pub loop-i-init : goal.loop-i-init
-loop-i-init c = (c.if-w-gt4.false, search rules, number_begins _ c.if-w-lt1.false c.if-w-gt4.false)
+pub returns-then-not-is_digit : goal.returns-then-not-is_digit
+returns-then-not-is_digit c =
+    let l = c.loop-b in
+    sym (l.invariant.1 ∙ number_stops l.v _ l.b-index c.loop-b-test.true (sym c.is_digit.ensures ∙ c.if-not-is_digit.true))
 
-pub is_digit-digit-requires : goal.is_digit-digit-requires
-is_digit-digit-requires c = search rules
+pub overflow_mul-v : goal.overflow_mul-v
+overflow_mul-v c = omega (arith, small (goal.at.overflow_mul-v c).Else-not-is_digit)
 
-pub returns-then-not-digit : goal.returns-then-not-digit
-returns-then-not-digit c =
-    let l = c.loop-i in
-    sym (l.invariant.2 ∙ number_stops l.v _ l.i c.loop-i-test.true (sym c.is_digit-digit.ensures ∙ c.if-not-digit.true))
-
-pub overflow_mul-shifted : goal.overflow_mul-shifted
-overflow_mul-shifted c = omega (arith, small c.before)
-
-pub overflow_sub-d : goal.overflow_sub-d
-overflow_sub-d c = (digit_within _ (digit c.before)).0
-
-pub overflow_cast-low : goal.overflow_cast-low
-overflow_cast-low c = omega (arith, (digit_within _ (digit c.before)).1)
+pub overflow_sub-b : goal.overflow_sub-b
+overflow_sub-b c = (digit_within _ (digit (goal.at.overflow_sub-b c).Else-not-is_digit)).0
 
 pub overflow_add-v : goal.overflow_add-v
-overflow_add-v c = omega (arith, small c.before, (digit_within _ (digit c.before)).1)
+overflow_add-v c =
+    let e = (goal.at.overflow_add-v c).Else-not-is_digit in omega (arith, small e, (digit_within _ (digit e)).1, c.from.ensures)
 
-pub loop-i-preserved : goal.loop-i-preserved
-loop-i-preserved c =
-    let l = c.loop-i in (
-      l.invariant.0,
-      value_grows l.i l.v _ l.invariant.1 (omega (arith, (digit_within _ (digit c.before)).1)),
-      l.invariant.2 ∙ number_goes_on l.v _ l.i c.loop-i-test.true (digit c.before),
-    )
+pub loop-b-preserved : goal.loop-b-preserved
+loop-b-preserved c =
+    let l = c.loop-b in
+    let d = digit (goal.at.loop-b-preserved c).Else-not-is_digit in
+    rw c.from.ensures
+    (value_grows l.b-index l.v _ l.invariant.0 (let z = (digit_within _ d).1 in omega arith), l.invariant.1 ∙ number_goes_on l.v _ l.b-index c.loop-b-test.true d)
 
 pub returns : goal.returns
 returns c =
-    let l = c.loop-i in
-    sym (l.invariant.2 ∙ number_ends l.v _ l.i c.loop-i-test.false)
+    let l = c.loop-b in
+    sym (l.invariant.1 ∙ number_ends l.v _ l.b-index c.loop-b-test.false)

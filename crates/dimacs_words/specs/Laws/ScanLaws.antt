@@ -1,29 +1,34 @@
 -- Laws of the loops over bytes: runs by position, digits, heads, the words of a line and the lines of a text from a
 -- place on. Assumes nothing.
-use Rattle.std.specs.Prelude.{Bool, cond, ◌&&◌, ◌||◌, List, [], ◌∷◌, ◌≡◌, leb}
+use Rattle.math.specs.Laws.ListLaws.{same_tests}
+use Rattle.std.proofs.Common.{ap₂}
+use Rattle.std.specs.Prelude.{Bool, cond, ◌⊎◌, ◌&&◌, ◌||◌, List, [], ◌∷◌, ◌≡◌, leb}
 use Rattle.std.proofs.Math.Bool.{true, false, not, true≢false, and-false}
+use Rattle.std.specs.Prelude.{Option as Answer, Some, None}
 use Rattle.std.proofs.Math.Option.{Option, some, none}
+use Rattle.std.specs.Bool.{MatchBool}
+use Rattle.std.specs.List.{AllWithin, HoldsAt, starts_with}
+use Rattle.std.specs.Cmp.Lexicographic.{pointwise}
 use Rattle.std.proofs.Math.Path.{refl, ap, subst}
-use Rattle.std.proofs.Common.{sym, ◌∙◌, pow-suc, le_of_eq, add-zero, add-one, length-take, drop-cons, get_or-take, get_or-drop, take_all, length-take-le, drop-drop, take-take}
+use Rattle.std.proofs.Common.{inl, inr, eqb-true, sym, ◌∙◌, pow-suc, le_of_eq, add-zero, add-one, drop-cons, get_or-take, get_or-drop, take_all, length-take-le, drop-drop, take-take}
 use Prim.Native.Nat.{ℕ, zero, suc, ◌+◌, ◌-◌, ◌*◌, ◌^◌, ◌≤◌, ◌<◌}
 use Rattle.std.proofs.Math.Nat.{pow-le-pow_right}
 use Rattle.std.proofs.Math.Decide.{dec_lt}
 use native.Mathlib.Omega.{arith}
 use Rattle.std.proofs.Math.Dec.{eqb}
 use Rattle.std.proofs.Math.ListN.{length, get_or, take, drop, length-drop, drop_of_length-le}
-use borrow.Author.Tests.{le-leb, lt-leb, lt-ltb, le-ltb, not-true, not-false, leb-true, ne_eqb, eq-eqb}
+use borrow.Author.Tests.{le-leb, lt-leb, lt-ltb, le-ltb, not-true, not-false, leb-true, ne_eqb, eq-eqb, eqb-false}
 use Rattle.math.specs.Laws.ListLaws.{and_split, all_of, not-all, any_of, in_get_d, get_d_in}
 use Rattle.math.specs.Laws.QueueLaws.{drop-take}
 use Rattle.math.specs.Laws.ScanLaws.{any_ends}
 use Rattle.math.specs.Lists.{◌∈◌, all, any}
 use Rattle.dimacs_words.specs.declared.Class.TheVariants.{Blank, Word, Line}
-use Rattle.dimacs_words.specs.declared.Word.{Word as WordAnswer}
-use Rattle.dimacs_words.specs.declared.Word.TheVariants.{Read, Malformed as no_word}
+use Rattle.dimacs_words.specs.declared.Word.{Word as WordValue}
 use Rattle.dimacs_format.specs.Text.{is_blank, ends_line, is_digit, Clean, piece, lines, words, same_bytes, begins}
 use Rattle.dimacs_format.specs.Text.{all_blank}
 use Rattle.dimacs_format.specs.Text.{is_number, number_in, decimal, token_in, unsigned, negated, malformed, Token}
 use Rattle.dimacs_format.specs.Laws.TextLaws.{lines_last, lines_next, words-none, words-blank, words_last, words_next}
-use Rattle.dimacs_words.specs.Laws.Scans.{belongs, ends_word, in_word, Stretch, signed, with_sign, word_made}
+use Rattle.dimacs_words.specs.Laws.Scans.{belongs, ends_word, in_word, Stretch, signed, with_sign, word_with, word_made}
 use Rattle.dimacs_words.specs.Laws.Scans.{DigitsAt, DigitsRead, Spelt, WordRead, WordAt, lines_behind}
 
 -- a list from i on is the element at i, and the list from i + 1 on
@@ -45,6 +50,16 @@ pub number_long : (w : List ℕ) → 4 < length w → none ≡ number_in w
 unfolding number_in is_number
 number_long w h =
     let low : leb 1 (length w) ≡ true = le-leb 1 (length w) (omega arith) in rw (low, lt-leb (length w) 4 h)
+
+-- no bytes, or more than four
+pub number_sized : (w : List ℕ) {empty : Bool} → empty ≡ eqb (length w) 0 → (empty ≡ true) ⊎ ((empty ≡ false) × (4 < length w))
+    → none ≡ number_in w
+number_sized w e (inl t) = number_short w (let z : length w ≡ 0 = eqb-true (length w) 0 (sym e ∙ t) in omega arith)
+number_sized w e (inr h) = number_long w h.1
+
+-- a word is not empty
+pub word_holds : (w : List ℕ) → eqb (length w) 0 ≡ false → 1 ≤ length w
+word_holds w e = let ne : length w ≡ 0 → ⊥ = eqb-false (length w) 0 e in omega arith
 
 pub number_begins : (w : List ℕ) → 1 ≤ length w → length w ≤ 4 → number_in w ≡ number_from 0 w
 unfolding number_in is_number number_from
@@ -90,7 +105,41 @@ value_grows i v d h k = rw (add-one, pow-suc) (let z : v * 10 + d < 10 ^ i * 10 
 pub value_small : (i v : ℕ) → v < 10 ^ i → i ≤ 3 → v < 1000
 value_small i v h k = let z : 10 ^ i ≤ 10 ^ 3 = pow-le-pow_right (omega arith) k in omega arith
 
--- ---- heads
+-- ---- the library's tests
+
+-- the library's test of all elements
+pub all_tested : (t : ℕ → Bool) (xs : List ℕ) (r : Bool)
+    → MatchBool r (AllWithin (λ x. t x ≡ true) xs 0 (length xs)) ((k : ℕ) × (k < length xs) × HoldsAt (λ x. t x ≡ false) xs k)
+    → r ≡ all t xs
+all_tested t xs true h = sym (all_of t xs (λ x m. let g = in_get_d 0 m in ap t (sym g.2) ∙ h g.0 0 (omega arith) g.1))
+all_tested t xs false h = sym (not-all t (get_d_in xs h.0 0 h.1) (h.2 0))
+
+-- the library's comparison
+pub bytes_compared : (xs ys : List ℕ) → pointwise eqb xs ys ≡ same_bytes xs ys
+unfolding same_bytes
+bytes_compared [] [] = refl
+bytes_compared [] (y ∷ ys) = refl
+bytes_compared (x ∷ xs) [] = refl
+bytes_compared (x ∷ xs) (y ∷ ys) = ap (λ b. eqb x y && b) (bytes_compared xs ys)
+
+pub head_compared : (head bytes : List ℕ) → starts_with eqb bytes head ≡ begins head bytes
+unfolding begins
+head_compared head bytes = bytes_compared head (take (length head) bytes)
+
+bytes_turned : (xs ys : List ℕ) → same_bytes xs ys ≡ same_bytes ys xs
+unfolding same_bytes
+bytes_turned [] [] = refl
+bytes_turned [] (y ∷ ys) = refl
+bytes_turned (x ∷ xs) [] = refl
+bytes_turned (x ∷ xs) (y ∷ ys) = ap₂ ◌&&◌ (eqb_comm x y) (bytes_turned xs ys)
+  where
+    eqb_comm : (a b : ℕ) → eqb a b ≡ eqb b a
+    eqb_comm a b = same_tests (eqb a b) (eqb b a) (λ e. eq-eqb b a (sym (eqb-true a b e))) (λ e. eq-eqb a b (sym (eqb-true b a e)))
+
+-- the library's comparison where it hands on what stands behind the head
+pub head_stripped : (head bytes : List ℕ) → pointwise eqb (take (length head) bytes) head ≡ begins head bytes
+unfolding begins
+head_stripped head bytes = bytes_compared (take (length head) bytes) head ∙ bytes_turned (take (length head) bytes) head
 
 pub same_lengths : (xs ys : List ℕ) → same_bytes xs ys ≡ true → length xs ≡ length ys
 unfolding same_bytes
@@ -98,52 +147,6 @@ same_lengths [] [] e = refl
 same_lengths [] (y ∷ ys) e = absurd (true≢false (sym e))
 same_lengths (x ∷ xs) [] e = absurd (true≢false (sym e))
 same_lengths (x ∷ xs) (y ∷ ys) e = ap suc (same_lengths xs ys (and_split (eqb x y) (same_bytes xs ys) e).1)
-
-pub head_long : (head bytes : List ℕ) → length bytes < length head → false ≡ begins head bytes
-unfolding begins
-head_long head bytes h = by (same_bytes head (take (length head) bytes)) refl
-  where
-    by : (b : Bool) → same_bytes head (take (length head) bytes) ≡ b → false ≡ b
-    by false e = refl
-    by true e =
-        let l = same_lengths head (take (length head) bytes) e in
-        absurd (let z : ⊥ = omega (arith, length-take (length head) bytes) in z)
-
--- the head from i on against the bytes from i on
-unfoldable pub begins_from : ℕ → List ℕ → List ℕ → Bool
-unfolding same_bytes
-begins_from i head bytes = same_bytes (drop i head) (drop i (take (length head) bytes))
-
-pub head-begins : (head bytes : List ℕ) → begins head bytes ≡ begins_from 0 head bytes
-unfolding begins begins_from
-head-begins head bytes = refl
-
-module _ (head bytes : List ℕ) (room : length head ≤ length bytes) (i : ℕ) where
-  size : length (take (length head) bytes) ≡ length head
-  size = length-take-le (length head) bytes room
-
-  pub head_ends : length head ≤ i → begins_from i head bytes ≡ true
-  unfolding begins_from
-  head_ends h =
-      ap (λ l. same_bytes l (drop i (take (length head) bytes))) (drop_of_length-le head h)
-      ∙ ap (same_bytes []) (let z : length (take (length head) bytes)
-      ≤ i = omega (arith, size) in drop_of_length-le (take (length head) bytes) z)
-
-  next : i < length head
-      → begins_from i head bytes ≡ (eqb (get_or head i 0) (get_or bytes i 0) && begins_from (i + 1) head bytes)
-  unfolding begins_from
-  next h =
-      ap (λ l. same_bytes l (drop i (take (length head) bytes))) (here_on head i h)
-      ∙ ap (same_bytes (get_or head i 0 ∷ drop (i + 1) head)) (here_on (take (length head) bytes) i (omega (arith, size)))
-      ∙ ap (λ b. eqb (get_or head i 0) b && same_bytes (drop (i + 1) head) (drop (i + 1) (take (length head) bytes)))
-      (get_or-take (length head) bytes i 0 h)
-
-  pub head_stops : i < length head → (get_or head i 0 ≡ get_or bytes i 0 → ⊥) → begins_from i head bytes ≡ false
-  head_stops h ne = next h ∙ ap (λ b. b && begins_from (i + 1) head bytes) (ne_eqb (get_or head i 0) (get_or bytes i 0) ne)
-
-  pub head_goes_on : i < length head → get_or head i 0 ≡ get_or bytes i 0
-      → begins_from i head bytes ≡ begins_from (i + 1) head bytes
-  head_goes_on h e = next h ∙ ap (λ b. b && begins_from (i + 1) head bytes) (eq-eqb (get_or head i 0) (get_or bytes i 0) e)
 
 -- ---- runs by position
 
@@ -318,13 +321,13 @@ passed_none {text} {from} h =
     }
 
 -- what the digits make: nothing of a minus and 0
-pub made_minus : {b : Bool} {v : ℕ} (at : ℕ) → v ≡ 0 → b ≡ true → word_made b v at ≡ no_word
+pub made_minus : {b : Bool} {v : ℕ} (at : ℕ) → v ≡ 0 → b ≡ true → word_made b v at ≡ None
 made_minus {b} {v} at z m = rw (eq-eqb v 0 z, m)
 
-pub made_zero : {b : Bool} (v at : ℕ) → b ≡ false → word_made b v at ≡ Read b v (record { at = at })
+pub made_zero : {b : Bool} (v at : ℕ) → b ≡ false → word_made b v at ≡ Some (word_with b v at)
 made_zero {b} v at m = rw (m, and-false (eqb v 0))
 
-pub made_number : (b : Bool) (v at : ℕ) → (v ≡ 0 → ⊥) → word_made b v at ≡ Read b v (record { at = at })
+pub made_number : (b : Bool) (v at : ℕ) → (v ≡ 0 → ⊥) → word_made b v at ≡ Some (word_with b v at)
 made_number b v at ne = rw (ne_eqb v 0 ne)
 
 sign-none : (b : Bool) {o : Option ℕ} → o ≡ none → with_sign b o ≡ malformed
@@ -382,7 +385,7 @@ module _ {text : List ℕ} {from v i : ℕ} (p : Passed text from v i) where
         let size = run_length in_word text from i digits-run in
         sym (number_short (take (i - from) (drop from text)) (omega arith))
 
-  pub digits_end : (sign : Bool) {r : WordAnswer} → from < i → (i < length text → ends_word (get_or text i 0) ≡ true)
+  pub digits_end : (sign : Bool) {r : Answer WordValue} → from < i → (i < length text → ends_word (get_or text i 0) ≡ true)
       → r ≡ word_made sign v i → DigitsRead text sign from r
   unfolding unsigned negated
   digits_end sign {r} lt ends f = subst (DigitsRead text sign from) (sym f) (by v refl sign)
@@ -407,7 +410,7 @@ module _ {text : List ℕ} {from v i : ℕ} (p : Passed text from v i) where
 
   -- a byte that is no digit, inside the word
   pub digits_bad : (sign : Bool) → i < length text → is_digit (get_or text i 0) ≡ false → ends_word (get_or text i 0) ≡ false
-      → DigitsRead text sign from no_word
+      → DigitsRead text sign from None
   digits_bad sign h d n =
       let run = run_exists in_word text from (i + 1) (let o = p.ordered in omega arith) (omega arith)
       (run_goes_on in_word text from i p.inside (ap not n)) in
@@ -425,7 +428,7 @@ module _ {text : List ℕ} {from v i : ℕ} (p : Passed text from v i) where
 
   -- a fifth digit
   pub digits_many : (sign : Bool) → i < length text → is_digit (get_or text i 0) ≡ true → 4 ≤ i - from
-      → DigitsRead text sign from no_word
+      → DigitsRead text sign from None
   digits_many sign h d many =
       let run = run_exists in_word text from (i + 1) (let o = p.ordered in omega arith) (omega arith)
       (run_goes_on in_word text from i p.inside (digit_inside (get_or text i 0) d)) in
@@ -447,20 +450,20 @@ passed_first {text} {from} h d =
 
 -- no digit at all
 pub digits-none : (text : List ℕ) (sign : Bool) (from : ℕ) → from ≤ length text
-    → (from < length text → is_digit (get_or text from 0) ≡ false) → DigitsRead text sign from no_word
+    → (from < length text → is_digit (get_or text from 0) ≡ false) → DigitsRead text sign from None
 digits-none text sign from le n = by (dec_lt from (length text))
   where
     none_yet : Passed text from 0 from
     none_yet = passed_none le
 
-    word_empty : (from < length text → ends_word (get_or text from 0) ≡ true) → DigitsRead text sign from no_word
+    word_empty : (from < length text → ends_word (get_or text from 0) ≡ true) → DigitsRead text sign from None
     word_empty ends = (from, record { run = digits-run none_yet ends; token = sign-none sign (empty none_yet ends refl) })
 
-    by : Dec (from < length text) → DigitsRead text sign from no_word
+    by : Dec (from < length text) → DigitsRead text sign from None
     by (no ge) = word_empty (λ lt. absurd (let z : ⊥ = omega arith in z))
     by (yes lt) = test (ends_word (get_or text from 0)) refl
       where
-        test : (b : Bool) → ends_word (get_or text from 0) ≡ b → DigitsRead text sign from no_word
+        test : (b : Bool) → ends_word (get_or text from 0) ≡ b → DigitsRead text sign from None
         test true e = word_empty (λ _. e)
         test false e = digits_bad none_yet sign lt (n lt) e
 
@@ -471,7 +474,7 @@ pub part_end : (xs : List ℕ) (a : ℕ) → take (length xs - a) (drop a xs) �
 part_end xs a = take_all (length xs - a) (drop a xs) (le_of_eq (length-drop a xs))
 
 -- a run of blanks goes up to the end just where all bytes from its first on are blanks
-pub blank-run : (bytes : List ℕ) {from end : ℕ} → Stretch (belongs Blank) bytes from end
+blank-run : (bytes : List ℕ) {from end : ℕ} → Stretch (belongs Blank) bytes from end
     → eqb end (length bytes) ≡ all_blank (drop from bytes)
 unfolding belongs all_blank
 blank-run bytes {from} {end} s = by (dec_lt end (length bytes))
@@ -491,6 +494,13 @@ blank-run bytes {from} {end} s = by (dec_lt end (length bytes))
         eq-eqb end (length bytes) f
         ∙ sym (ap (all is_blank) (sym whole) ∙ run-all (belongs Blank) bytes from end s)
 
+-- the blanks from a place on, which go up to the end just where all bytes from there on are blanks
+pub blanks_from : (bytes : List ℕ) {from : ℕ} → from ≤ length bytes
+    → (end : ℕ) × Stretch (belongs Blank) bytes from end × (eqb end (length bytes) ≡ all_blank (drop from bytes))
+blanks_from bytes {from} h =
+    let run = run_exists (belongs Blank) bytes from from (omega arith) h (run-begins (belongs Blank) bytes from) in
+    (run.0, run.2, blank-run bytes run.2)
+
 token_minus : (bs : List ℕ) (b : ℕ) → b ≡ 45 → token_in (b ∷ bs) ≡ negated (number_in bs)
 unfolding token_in
 token_minus bs b e = rw (eq-eqb b 45 e)
@@ -502,7 +512,7 @@ token_plain (b ∷ bs) low e = rw (ne_eqb b 45 e)
 
 module _ (text : List ℕ) {at : ℕ} (h : at < length text) where
   -- digits behind a minus
-  pub word_minus : (r : WordAnswer) → get_or text at 0 ≡ 45 → DigitsRead text true (at + 1) r → WordRead text at r
+  pub word_minus : (r : Answer WordValue) → get_or text at 0 ≡ 45 → DigitsRead text true (at + 1) r → WordRead text at r
   word_minus r e d = by r d
     where
       spelt : {next : ℕ} {t : Token} → DigitsAt text true (at + 1) next t → Spelt text at next t
@@ -519,12 +529,12 @@ module _ (text : List ℕ) {at : ℕ} (h : at < length text) where
                 ∙ d.token;
           }
 
-      by : (r : WordAnswer) → DigitsRead text true (at + 1) r → WordRead text at r
-      by (Read b v c) d = spelt d
-      by no_word (next, d) = (next, spelt d)
+      by : (r : Answer WordValue) → DigitsRead text true (at + 1) r → WordRead text at r
+      by (Some w) d = spelt d
+      by None (next, d) = (next, spelt d)
 
   -- digits without one
-  pub word-plain : (r : WordAnswer) → ends_word (get_or text at 0) ≡ false → (get_or text at 0 ≡ 45 → ⊥)
+  pub word-plain : (r : Answer WordValue) → ends_word (get_or text at 0) ≡ false → (get_or text at 0 ≡ 45 → ⊥)
       → DigitsRead text false at r → WordRead text at r
   word-plain r n ne d = by r d
     where
@@ -540,9 +550,9 @@ module _ (text : List ℕ) {at : ℕ} (h : at < length text) where
                 ∙ d.token;
           }
 
-      by : (r : WordAnswer) → DigitsRead text false at r → WordRead text at r
-      by (Read b v c) d = spelt d
-      by no_word (next, d) = (next, spelt d)
+      by : (r : Answer WordValue) → DigitsRead text false at r → WordRead text at r
+      by (Some w) d = spelt d
+      by None (next, d) = (next, spelt d)
 
 module _ (line : List ℕ) where
   -- a blank at a place is skipped

@@ -1,12 +1,10 @@
 -- What the functions on bytes and words promise, in the terms of Text, and the lines behind a place. Assumes nothing.
 use Rattle.std.specs.Prelude.{Bool, true, false, not, cond, ◌||◌, ◌&&◌, List, [], ◌∷◌, ◌≡◌, ℕ, zero, suc, ◌+◌, ◌-◌, ◌≤◌, ◌<◌, ltb, eqb, length, get_or, take, drop}
+use Rattle.std.specs.Prelude.{Option as Answer, Some, None}
 use Rattle.std.proofs.Math.Option.{Option, some, none}
 use Rattle.dimacs_words.specs.declared.Class.{Class}
 use Rattle.dimacs_words.specs.declared.Class.TheVariants.{Blank, Word as WordBytes, Line as LineBytes}
-use Rattle.dimacs_words.specs.declared.Number.{Number}
-use Rattle.dimacs_words.specs.declared.Number.TheVariants.{Value, Malformed}
-use Rattle.dimacs_words.specs.declared.Word.{Word as WordAnswer}
-use Rattle.dimacs_words.specs.declared.Word.TheVariants.{Read, Malformed as no_word}
+use Rattle.dimacs_words.specs.declared.Word.{Word as WordValue}
 use Rattle.dimacs_format.specs.Text.{ends_line, is_blank, Line, piece, lines, words, Token, literal, close, malformed}
 use Rattle.dimacs_format.specs.Text.{pos, neg, number_in, unsigned, negated, token_in}
 
@@ -43,9 +41,9 @@ pub record Skipped (text : List ℕ) (from to : ℕ) : Type 0 where
 -- ---- numbers and words
 
 -- the number that an answer of the code is
-abbrev pub number_of : Number → Option ℕ
-number_of (Value v) = some v
-number_of Malformed = none
+abbrev pub number_of : Answer ℕ → Option ℕ
+number_of (Some v) = some v
+number_of None = none
 
 -- the token of a number with its sign: a zero closes a clause
 abbrev pub signed : Bool → ℕ → Token
@@ -58,9 +56,13 @@ abbrev pub with_sign : Bool → Option ℕ → Token
 with_sign false o = unsigned o
 with_sign true o = negated o
 
+-- the word of a value with its sign, with the place behind it
+abbrev pub word_with : Bool → ℕ → ℕ → WordValue
+word_with b v at = record { negated = b; value = v; next = record { at = at } }
+
 -- what digits up to a place make, of this value
-abbrev pub word_made : Bool → ℕ → ℕ → WordAnswer
-word_made b v at = cond (eqb v 0 && b) no_word (Read b v (record { at = at }))
+abbrev pub word_made : Bool → ℕ → ℕ → Answer WordValue
+word_made b v at = cond (eqb v 0 && b) None (Some (word_with b v at))
 
 -- the digits from a place on go up to another place, and with their sign they are the token
 pub record DigitsAt (text : List ℕ) (sign : Bool) (from next : ℕ) (t : Token) : Type 0 where
@@ -68,9 +70,9 @@ pub record DigitsAt (text : List ℕ) (sign : Bool) (from next : ℕ) (t : Token
   pub token : with_sign sign (number_in (take (next - from) (drop from text))) ≡ t
 
 -- what the reader of digits answers
-abbrev pub DigitsRead : List ℕ → Bool → ℕ → WordAnswer → Type 0
-DigitsRead text sign from (Read b v c) = DigitsAt text sign from c.at (signed b v)
-DigitsRead text sign from no_word = (next : ℕ) × DigitsAt text sign from next malformed
+abbrev pub DigitsRead : List ℕ → Bool → ℕ → Answer WordValue → Type 0
+DigitsRead text sign from (Some w) = DigitsAt text sign from w.next.at (signed w.negated w.value)
+DigitsRead text sign from None = (next : ℕ) × DigitsAt text sign from next malformed
 
 -- a word of a text stands at a place, goes up to another one and is the token
 pub record Spelt (text : List ℕ) (at next : ℕ) (t : Token) : Type 0 where
@@ -78,9 +80,9 @@ pub record Spelt (text : List ℕ) (at next : ℕ) (t : Token) : Type 0 where
   pub token : token_in (take (next - at) (drop at text)) ≡ t
 
 -- what the word reader answers at a place
-abbrev pub WordRead : List ℕ → ℕ → WordAnswer → Type 0
-WordRead text at (Read b v c) = Spelt text at c.at (signed b v)
-WordRead text at no_word = (next : ℕ) × Spelt text at next malformed
+abbrev pub WordRead : List ℕ → ℕ → Answer WordValue → Type 0
+WordRead text at (Some w) = Spelt text at w.next.at (signed w.negated w.value)
+WordRead text at None = (next : ℕ) × Spelt text at next malformed
 
 -- the first word from a place of a line on stands there, goes up to another place and is the token
 pub record WordAt (line : List ℕ) (at next : ℕ) (t : Token) : Type 0 where
