@@ -1,89 +1,58 @@
-// What the stages of a search share: their answer, an index made of the points filled with which a stage explores on,
-// and the numbers found carried from one to the next. The stages stand in `search_stages` and `search_stages_large`.
+// What the stages of a search share: the numbers found carried from one to the next, and an index made of the points
+// filled with which a stage explores on. The stages stand in `search_stages` and `search_stages_large`.
 #![tactic(auto)]
 
-ghost use Rattle.std.specs.Prelude.{◌≡◌, ◌+◌, ◌*◌, ◌≤◌, length, take};
+ghost use Rattle.std.specs.Prelude.{◌≡◌, ◌≤◌, length, take};
 ghost use Rattle.math.specs.Lists.{over};
-ghost use Rattle.point_slices.specs.Laws.Contracts.{lent_clauses};
+ghost use Rattle.point_slices.specs.Laws.Contracts.{clauses_lent};
 ghost use Rattle.point_slices.specs.Slices.{slot_slices};
-ghost use Rattle.check_distinct.specs.Laws.Indexing.{Links};
-ghost use Rattle.search_expansion.specs.Laws.Memory.{Lends};
-ghost use Rattle.search_step.specs.Laws.Stepping.{framed, Searchable, Midway};
-ghost use Rattle.search_loop.specs.Laws.Exploring.{Numbers, Explores};
-ghost use Rattle.search_indexed.specs.Laws.StageLaws.{headed_by};
+ghost use Rattle.search_loop.specs.Laws.Exploring.{Explores};
+ghost use Rattle.search_indexed.specs.Laws.StageLaws.{headed_by, Sizes, Staged};
 
 use check_distinct::index_points;
-use permutation_coverage::Lookup;
-use points::{Depth, Point};
+use point_slices::Clauses;
+use points::Depth;
 use search_expansion::Frame;
-use search_level::{Position, keep, kept_at};
-use search_loop::{Explored, explore};
-use search_step::Conclusion;
+use search_level::Position;
+use search_loop::{Answer, explore};
 
-// What a search comes to, and the point that it hands back.
-#[derive(Clone, Copy)]
-pub struct Answer {
-    pub conclusion: Conclusion,
-    pub point: Point,
-}
-
-// The numbers found for the first `count` slots, from one stage to the next. One step a slot. The stages see to the
-// room.
-pub fn carry(earlier: &[u16], found: &mut [u16], count: usize)
+// The numbers found for the first `count` slots, from one stage to the next. `explore_stage` sees to the room.
+fn carry(earlier: &[u16], found: &mut [u16], count: usize)
     requires { (count ≤ length earlier.now) × (count ≤ length found.old) }
     ensures { found.new ≡ over (take count earlier.now) found.old }
 {
-    let mut i = 0;
-    while i < count {
-        let number = kept_at(earlier, i);
-        keep(found, i, number);
-        i += 1;
-    }
+    found[..count].copy_from_slice(&earlier[..count]);
 }
 
-// Explores from a position on with an index of as many points as there is room for numbers, made here of those filled:
-// one look-up each. The stages see to what it requires.
-pub fn explore_with(
-    g: Frame,
-    images: &[u8],
-    positive: &[u64],
-    negative: &[u64],
+// Explores as one stage does, from a position on: with the numbers found that the stage before hands on, and an index of
+// as many points as there is room for numbers, made here of those filled, one look-up each. The stack holds its links
+// while it runs, and no longer. The stages see to what it requires.
+#[inline(never)]
+pub fn explore_stage<const LINKS: usize>(
+    g: Frame<'_>,
+    clauses: Clauses<'_>,
     points: &mut [u64],
     falsified: &mut [u32],
     depths: &mut [Depth],
-    links: &mut [u32],
+    earlier: &[u16],
     found: &mut [u16],
     from: Position,
-) -> Explored
-    requires { Searchable g images.now (lent_clauses positive.now negative.now)
-        × Lends g.room (slot_slices points.old falsified.old depths.old)
-        × Midway (framed g images.now (lent_clauses positive.now negative.now)) g.room
-        (slot_slices points.old falsified.old depths.old) from
-        × Links (length found.old) (length found.old) links.old
-        × (length links.old ≡ length found.old + 2 * length found.old)
-        × (from.filled ≤ length found.old)
-        × Numbers (lent_clauses positive.now negative.now) (slot_slices points.old falsified.old depths.old)
-        from found.old }
-    ensures { Explores (headed_by (length found.old) g) images.now
-        (lent_clauses positive.now negative.now)
-        (slot_slices points.old falsified.old depths.old) from result.stage result.point
+) -> Result<Answer, Position>
+    requires { Sizes (length found.old) LINKS × (from.filled ≤ length found.old)
+        × Staged g (clauses_lent clauses) (slot_slices points.old falsified.old depths.old) from earlier.now }
+    ensures { Explores (headed_by (length found.old) g.entry) (clauses_lent clauses.entry)
+        (slot_slices points.old falsified.old depths.old) from result
         (slot_slices points.new falsified.new depths.new) found.new }
 {
-    let variables = g.lookup.variables;
-    let permutations = g.lookup.permutations;
-    let heads = found.len();
-    index_points(variables, points, links, heads, from.filled);
-    let lookup = Lookup {
-        variables,
-        permutations,
-        heads,
-    };
+    carry(earlier, found, from.filled);
+    let mut links = [0u32; LINKS];
     let headed = Frame {
-        lookup,
-        room: g.room,
-        target: g.target,
+        heads: found.len(),
+        ..g
     };
+    let n = g.permutations.variables;
+    index_points(n, points, &mut links, headed.heads, from.filled);
     explore(
-        headed, images, positive, negative, points, falsified, depths, links, found, from,
+        headed, clauses, points, falsified, depths, &mut links, found, from,
     )
 }

@@ -1,16 +1,11 @@
 // One step of the search: the slot that is next is processed.
 #![tactic(auto)]
 
-ghost use Rattle.std.specs.Prelude.{◌≡◌, ◌+◌, ◌<◌};
-ghost use Rattle.point_slices.specs.Laws.Contracts.{lent_clauses};
+ghost use Rattle.point_slices.specs.Laws.Contracts.{clauses_lent};
 ghost use Rattle.point_slices.specs.Slices.{points_of, slot_slices};
-ghost use Rattle.search_expansion.specs.Laws.Filling.{Headed};
-ghost use Rattle.search_expansion.specs.Laws.Memory.{Lends};
-ghost use Rattle.search_level.specs.Laws.Testing.{number_for};
-ghost use Rattle.search_step.specs.Laws.Stepping.{framed, Searchable, Linked, next_point, Next, StillLinked};
-ghost use Rattle.search_step.specs.Laws.Stepping.{StillThere, Midway, Unmet, Steps};
+ghost use Rattle.search_step.specs.Laws.Stepping.{framed, Processable, Steps, StillLinked, StillThere};
 
-use point_slices::{clause_at, point_at};
+use point_slices::{Clauses, point_at};
 use points::Depth;
 use search_expansion::{Frame, Visit, expand};
 use search_level::Position;
@@ -22,7 +17,8 @@ pub struct Turn {
     pub number: u32,
 }
 
-// What a search comes to, beside the point that it hands back; `search::Outcome` adds the refusals.
+// What a search that is not refused comes to, beside the point that it hands back. Of an unknown result the bound is a
+// number of variables: every satisfying point differs from the target in at least so many.
 #[derive(Clone, Copy)]
 pub enum Conclusion {
     Satisfiable { distance: u32, filled: u32 },
@@ -30,67 +26,48 @@ pub enum Conclusion {
     Unknown { bound: u32, filled: u32 },
 }
 
-// What processing one slot comes to: the search's answer, or how many slots are filled now.
-#[derive(Clone, Copy)]
-pub enum Step {
-    Ends(Conclusion),
-    Goes { filled: usize },
-}
-
 // W6, W7, Q03.4: processes a slot whose level is tested: the number of the clause that its point falsifies first is
 // stored, and then the flips of that clause's variables are tried; `moved` has the images of the point. At most n times
-// permutations + 2 look-ups. `explore` sees to what it requires.
+// permutations + 2 look-ups. It answers how many slots are filled then, or, where a flip found no room, the search's
+// conclusion. `explore` sees to what it requires.
 pub fn process(
-    g: Frame,
-    images: &[u8],
-    positive: &[u64],
-    negative: &[u64],
+    g: Frame<'_>,
+    clauses: Clauses<'_>,
     points: &mut [u64],
     falsified: &mut [u32],
     depths: &mut [Depth],
     links: &mut [u32],
     moved: &[u64],
     turn: Turn,
-) -> Step
-    requires { Searchable g images.now (lent_clauses positive.now negative.now)
-        × Lends g.room (slot_slices points.old falsified.old depths.old)
-        × (turn.position.at < turn.position.filled)
-        × Midway (framed g images.now (lent_clauses positive.now negative.now)) g.room
-        (slot_slices points.old falsified.old depths.old) turn.position
-        × Linked g (slot_slices points.old falsified.old depths.old) links.old turn.position.filled
-        × Headed g (turn.position.filled + g.lookup.variables)
-        × Next g images.now (slot_slices points.old falsified.old depths.old) (points_of moved.now)
-        turn.position
-        × Unmet (framed g images.now (lent_clauses positive.now negative.now)) g.room
-        (slot_slices points.old falsified.old depths.old) turn.position
-        × (turn.number ≡ number_for (lent_clauses positive.now negative.now)
-        (next_point (slot_slices points.old falsified.old depths.old) turn.position)) }
+) -> Result<usize, Conclusion>
+    requires { Processable g (clauses_lent clauses) (slot_slices points.old falsified.old depths.old)
+        links.old (points_of moved.now) turn }
     ensures { Steps
-        (framed g images.now (lent_clauses positive.now negative.now)) g.room
+        (framed g.entry (clauses_lent clauses.entry)) g.entry.room
         (slot_slices points.old falsified.old depths.old) turn.position result
         (slot_slices points.new falsified.new depths.new)
-        × StillLinked g (slot_slices points.new falsified.new depths.new)
+        × StillLinked g.entry (slot_slices points.new falsified.new depths.new)
         links.new result
         × StillThere (slot_slices points.old falsified.old depths.old)
         turn.position result (slot_slices points.new falsified.new depths.new) }
 {
     let at = turn.position.at;
-    let filled = turn.position.filled;
-    let x = point_at(points, at);
-    let d = depths[at];
+    let from = Visit {
+        point: point_at(points, at),
+        depth: depths[at],
+    };
     falsified[at] = turn.number;
-    let number = turn.number as usize;
-    let c = clause_at(positive, negative, number - 1);
-    let listed = points::listed(c);
-    let visit = Visit { point: x, depth: d };
-    let grown = expand(
-        g, images, points, falsified, depths, links, moved, filled, visit, listed,
-    );
-    let filled = grown.filled;
-    if grown.enough {
-        return Step::Goes { filled };
+    let clause = clauses.at(turn.number as usize - 1);
+    let listed = points::listed(clause);
+    let filled = turn.position.filled;
+    match expand(
+        g, points, falsified, depths, links, moved, filled, from, listed,
+    ) {
+        Ok(filled) => Ok(filled),
+        Err(filled) => {
+            let bound = from.depth + 1;
+            let filled = filled as u32;
+            Err(Conclusion::Unknown { bound, filled })
+        }
     }
-    let bound = d as u32 + 1;
-    let filled = filled as u32;
-    Step::Ends(Conclusion::Unknown { bound, filled })
 }

@@ -148,24 +148,24 @@ pub follows_added : {g : Frame} {filled : ℕ} {slots slots' : SlotSlices} {s : 
     {links links' : List ℕ}
     (es : List Permutation) → covered es (take filled slots.points) s.point ≡ false
     → filled < length slots.points
-    → Adds g.lookup.heads g.lookup.variables (take filled slots.points) links s.point held links'
+    → Adds g.heads g.permutations.variables (take filled slots.points) links s.point held links'
     → Stored slots filled s slots' → Follows g filled slots' links' (filled + 1)
 follows_added {g} {filled} {slots} {s = s} {links' = links'} es new lt a stored =
     record {
-      indexed = subst (λ (l : List ℕ). Indexed g.lookup.heads g.lookup.variables (take (filled + 1) l) links')
+      indexed = subst (λ (l : List ℕ). Indexed g.heads g.permutations.variables (take (filled + 1) l) links')
           (sym stored.points_stored)
-          (index_stored g.lookup.heads g.lookup.variables filled slots.points links' s.point lt
+          (index_stored g.heads g.permutations.variables filled slots.points links' s.point lt
           (a.grown (a.tells ∙ uncovered_new es (take filled slots.points) s.point new)));
       one = omega arith;
     }
 
 -- what lets the flip be added: a slot that there is has a head
-pub fillable_addable : {g : Frame} {images : List ℕ} {slots : SlotSlices} {links moved : List ℕ} {filled : ℕ}
-    {from : Visit} → Fillable g images slots links moved filled from
-    → Headed g (filled + 1) → filled < g.room → (v y : ℕ) → v < g.lookup.variables → y ≡ flip from.point v
-    → Addable g.lookup.heads g.lookup.variables filled slots.points links y
+pub fillable_addable : {g : Frame} {slots : SlotSlices} {links moved : List ℕ} {filled : ℕ}
+    {from : Visit} → Fillable g slots links moved filled from
+    → Headed g (filled + 1) → filled < g.room → (v y : ℕ) → v < g.permutations.variables → y ≡ flip from.point v
+    → Addable g.heads g.permutations.variables filled slots.points links y
 fillable_addable {g} {links = links} {filled = filled} {from = from} f headed lt v y small q =
-    let few : filled < g.lookup.heads = headed filled (omega arith) lt in
+    let few : filled < g.heads = headed filled (omega arith) lt in
     let linked = f.linked in
     let most = f.most in
     let long = f.room.points_room in
@@ -173,8 +173,8 @@ fillable_addable {g} {links = links} {filled = filled} {from = from} f headed lt
       askable = record {
         few = f.coverable.askable.few;
         indexed = f.coverable.askable.indexed;
-        narrow = subst (λ (z : ℕ). z < 2 ^ g.lookup.variables) (sym q)
-            (flip-lt g.lookup.variables from.point v f.coverable.askable.narrow small);
+        narrow = subst (λ (z : ℕ). z < 2 ^ g.permutations.variables) (sym q)
+            (flip-lt g.permutations.variables from.point v f.coverable.askable.narrow small);
       };
       enough = omega arith;
       small = omega arith;

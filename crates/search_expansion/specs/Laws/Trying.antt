@@ -9,11 +9,11 @@ use Rattle.point_slices.specs.Slices.{SlotSlices}
 
 -- the loop over the variables of the set `listed`: those of `left` are still to be tried, v the lowest of them, and the
 -- links are an index of the points of the slots filled, which with those left are at most n more than before
-pub record Trying (g : Frame) (images : List ℕ) (slots₀ : SlotSlices) (filled₀ : ℕ) (from : Visit) (listed : ℕ)
+pub record Trying (g : Frame) (slots₀ : SlotSlices) (filled₀ : ℕ) (from : Visit) (listed : ℕ)
     (slots : SlotSlices) (links : List ℕ) (filled left v : ℕ) : Type 0 where
-  pub within : left < 2 ^ g.lookup.variables
+  pub within : left < 2 ^ g.permutations.variables
   pub next : NextVariable left v
-  pub advances : Advances (listed_in g images) g.room from (members g.lookup.variables listed) filled₀ slots₀ true
-      (members g.lookup.variables left) filled slots
+  pub advances : Advances (listed_in g) g.room from (members g.permutations.variables listed) filled₀ slots₀ true
+      (members g.permutations.variables left) filled slots
   pub indexed : SlotsIndexed g slots links filled
-  pub bounded : filled + length (members g.lookup.variables left) ≤ filled₀ + g.lookup.variables
+  pub bounded : filled + length (members g.permutations.variables left) ≤ filled₀ + g.permutations.variables

@@ -1,5 +1,5 @@
 -- What the test of a level does: the contracts of `test_level` and of the functions that it calls. Assumes nothing.
-use Rattle.std.specs.Prelude.{Bool, true, false, List, ◌∷◌, ◌++◌, [], ◌≡◌, ℕ, zero, suc, ◌≤◌, ◌<◌, ltb, length, get_or, take, drop}
+use Rattle.std.specs.Prelude.{Option, None, Some, Bool, true, false, List, ◌∷◌, ◌++◌, [], ◌≡◌, ℕ, zero, suc, ◌≤◌, ◌<◌, ltb, length, get_or, take, drop}
 use Rattle.points.specs.Points.{Clause, numbered, first_falsified, number_of, Smallest, NoneSatisfies}
 use Rattle.formula.specs.Limits.{max_clauses}
 
@@ -16,15 +16,15 @@ unfoldable pub opens_at : List ℕ → ℕ → Bool
 opens_at depths zero = true
 opens_at depths (suc i) = ltb (get_or depths i 0) (get_or depths (suc i) 0)
 
--- the best of the points l: whether one satisfies, and the smallest that does
-abbrev pub Best : List Clause → List ℕ → Bool → ℕ → Type 0
-Best clauses l true x = Smallest (numbered clauses) l x
-Best clauses l false x = NoneSatisfies (numbered clauses) l
+-- the best of the points l: the smallest that satisfies, where one does
+abbrev pub Best : List Clause → List ℕ → Option ℕ → Type 0
+Best clauses l (Some x) = Smallest (numbered clauses) l x
+Best clauses l None = NoneSatisfies (numbered clauses) l
 
--- whatever points have the best (met₀, x₀): with y, whose first falsified clause is `number`, theirs is (met, x)
-abbrev pub Better : Bool → ℕ → ℕ → ℕ → Bool → ℕ → Type 0
-Better met₀ x₀ y number met x = (clauses : List Clause) (l : List ℕ) → number ≡ number_for clauses y
-    → Best clauses l met₀ x₀ → Best clauses (l ++ y ∷ []) met x
+-- whatever points have the best b₀: with y, whose first falsified clause is `number`, theirs is b
+abbrev pub Better : Option ℕ → ℕ → ℕ → Option ℕ → Type 0
+Better b₀ y number b = (clauses : List Clause) (l : List ℕ) → number ≡ number_for clauses y
+    → Best clauses l b₀ → Best clauses (l ++ y ∷ []) b
 
 -- `found` has the number for the point of index i
 abbrev pub NumberFound : List Clause → List ℕ → List ℕ → ℕ → Type 0
@@ -38,10 +38,9 @@ pub record Testable (clauses : List Clause) (points found : List ℕ) (at filled
   pub room : filled ≤ length found
 
 -- the slots of index `at` up to i are tested
-pub record Scans (clauses : List Clause) (points : List ℕ) (at i : ℕ) (met : Bool) (x : ℕ) (found : List ℕ) : Type 0
-  where
-    pub best : Best clauses (between at i points) met x
-    pub numbers : (k : ℕ) → at ≤ k → k < i → NumberFound clauses points found k
+pub record Scans (clauses : List Clause) (points : List ℕ) (at i : ℕ) (b : Option ℕ) (found : List ℕ) : Type 0 where
+  pub best : Best clauses (between at i points) b
+  pub numbers : (k : ℕ) → at ≤ k → k < i → NumberFound clauses points found k
 
 -- the numbers at hand before the slot of index `at` is taken: those of the waiting slots that are no deeper than a
 -- processed one
@@ -51,8 +50,8 @@ Found clauses points depths at filled found = (k j : ℕ) → j < at → at ≤ 
 
 -- a level is tested, if it is new, and the numbers at hand then are those of all waiting slots that are no deeper than
 -- the slot that is taken
-pub record Tests (clauses : List Clause) (points depths : List ℕ) (at filled : ℕ) (met : Bool) (x : ℕ)
+pub record Tests (clauses : List Clause) (points depths : List ℕ) (at filled : ℕ) (b : Option ℕ)
     (found : List ℕ) : Type 0 where
-  pub opened : opens_at depths at ≡ true → Best clauses (between at filled points) met x
-  pub unopened : opens_at depths at ≡ false → met ≡ false
+  pub opened : opens_at depths at ≡ true → Best clauses (between at filled points) b
+  pub unopened : opens_at depths at ≡ false → b ≡ None
   pub numbers : (k : ℕ) → at ≤ k → k < filled → get_or depths k 0 ≤ get_or depths at 0 → NumberFound clauses points found k

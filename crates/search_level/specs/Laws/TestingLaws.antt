@@ -1,8 +1,8 @@
 -- Laws of the test of a level: the best of points grows by one point at a time, and so do the numbers found. Assumes
 -- nothing.
-use Rattle.std.specs.Prelude.{Bool, true, ◌&&◌, List, [], ◌∷◌, ◌++◌, ◌≡◌, refl, length, set, take, drop}
+use Rattle.std.specs.Prelude.{Option, None, Some, true, List, [], ◌∷◌, ◌++◌, ◌≡◌, refl, length, set, take, drop}
 use Rattle.std.proofs.Math.Bool.{false}
-use Rattle.std.proofs.Common.{true≢false, sym, ◌∙◌, subst, le_refl, le_trans, le_of_eq, le_of_lt, le_antisymm, add-one, drop_of_length-le, length-take-le, take-suc, get_or-set_same, get_or-set_other, ltb-true, ltb-false}
+use Rattle.std.proofs.Common.{true≢false, sym, ◌∙◌, subst, le_refl, le_trans, le_of_eq, le_of_lt, le_antisymm, add-one, drop_of_length-le, length-take-le, take-suc, get_or-set_same, get_or-set_other, ltb-false}
 use mathlib.Core.List.Memᴰ
 use Rattle.std.proofs.Math.Path.{ap, ap₂}
 use Prim.Native.Nat.{ℕ, zero, suc, ◌+◌, ◌-◌, ◌≤◌, ◌<◌}
@@ -22,54 +22,57 @@ use Rattle.search_level.specs.Laws.Testing.{Tests}
 -- ---- one more point
 
 -- it falsifies a clause: the best stays
-pub better_falsified : (met : Bool) (x y number : ℕ) → (number ≡ 0 → ⊥) → Better met x y number met x
+pub better_falsified : (b : Option ℕ) (y number : ℕ) → (number ≡ 0 → ⊥) → Better b y number b
 unfolding number_of
-better_falsified met x y number ne clauses l e b = by met b
+better_falsified b y number ne clauses l e best = by b best
   where
     fails : SatisfiesAll (numbered clauses) y → ⊥
     fails s = ne (e ∙ ap number_of (none_first (numbered clauses) y s))
 
-    by : (met : Bool) → Best clauses l met x → Best clauses (l ++ y ∷ []) met x
-    by true b =
+    by : (b : Option ℕ) → Best clauses l b → Best clauses (l ++ y ∷ []) b
+    by (Some x) best =
         record {
-          among = Memᴰ.append_left (y ∷ []) b.among;
-          satisfying = b.satisfying;
-          least = each_snoc (λ z. SatisfiesAll (numbered clauses) z → x ≤ z) l b.least (λ s. absurd (fails s));
+          among = Memᴰ.append_left (y ∷ []) best.among;
+          satisfying = best.satisfying;
+          least = each_snoc (λ z. SatisfiesAll (numbered clauses) z → x ≤ z) l best.least (λ s. absurd (fails s));
         }
-    by false b = each_snoc (λ z. SatisfiesAll (numbered clauses) z → ⊥) l b fails
+    by None best = each_snoc (λ z. SatisfiesAll (numbered clauses) z → ⊥) l best fails
 
 -- it is larger: the best stays
-pub better_larger : (met smaller : Bool) (x y number : ℕ) → smaller ≡ ltb x y → met && smaller ≡ true
-    → Better met x y number met x
-better_larger false smaller x y number less both clauses l e b = absurd (true≢false (sym both))
-better_larger true smaller x y number less both clauses l e b =
+pub better_larger : (b : Option ℕ) (x y number : ℕ) → b ≡ Some x → x < y → Better b y number (Some x)
+better_larger b x y number same less clauses l e best₀ =
+    let best = subst (Best clauses l) same best₀ in
     record {
-      among = Memᴰ.append_left (y ∷ []) b.among;
-      satisfying = b.satisfying;
-      least = each_snoc (λ z. SatisfiesAll (numbered clauses) z → x ≤ z) l b.least
-          (λ s. le_of_lt (ltb-true x y (sym less ∙ both)));
+      among = Memᴰ.append_left (y ∷ []) best.among;
+      satisfying = best.satisfying;
+      least = each_snoc (λ z. SatisfiesAll (numbered clauses) z → x ≤ z) l best.least (λ s. le_of_lt less);
     }
 
--- it satisfies and is no larger: it is the best
-pub better_new : (met smaller : Bool) (x y number : ℕ) → smaller ≡ ltb x y → number ≡ 0 → met && smaller ≡ false
-    → Better met x y number true y
-better_new met smaller x y number less z not clauses l e b =
+-- no best, or one that is no smaller than y
+abbrev pub NoneSmaller : Option ℕ → ℕ → Type 0
+NoneSmaller (Some x) y = y ≤ x
+NoneSmaller None y = Unit {0}
+
+-- it satisfies and none is smaller: it is the best
+pub better_new : (b b' : Option ℕ) (y number : ℕ) → number ≡ 0 → b ≡ b' → NoneSmaller b' y → Better b y number (Some y)
+better_new b b' y number z same smaller clauses l e best =
     record {
       among = last_in l y;
       satisfying = number_none y clauses number e z;
-      least = each_snoc (λ v. SatisfiesAll (numbered clauses) v → y ≤ v) l (by met not b) (λ s. le_refl y);
+      least = each_snoc (λ v. SatisfiesAll (numbered clauses) v → y ≤ v) l
+          (by b' smaller (subst (Best clauses l) same best)) (λ s. le_refl y);
     }
   where
-    by : (met : Bool) → met && smaller ≡ false → Best clauses l met x → (v : ℕ) → v ∈ l
+    by : (b : Option ℕ) → NoneSmaller b y → Best clauses l b → (v : ℕ) → v ∈ l
         → SatisfiesAll (numbered clauses) v → y ≤ v
-    by true not b v m s = le_trans (ltb-false x y (sym less ∙ not)) (b.least v m s)
-    by false not b v m s = absurd (b v m s)
+    by (Some x) smaller best v m s = le_trans smaller (best.least v m s)
+    by None smaller best v m s = absurd (best v m s)
 
 -- ---- slot after slot
 
 module _ (clauses : List Clause) (points : List ℕ) (at : ℕ) where
-  pub scans_begin : (x : ℕ) (found : List ℕ) → at ≤ length points → Scans clauses points at at false x found
-  scans_begin x found enough =
+  pub scans_begin : (found : List ℕ) → at ≤ length points → Scans clauses points at at None found
+  scans_begin found enough =
       record {
         best = λ y m s. Memᴰ.not-nil (subst (λ l. y ∈ l) none m);
         numbers = λ k lo hi. absurd (let z : ⊥ = omega arith in z);
@@ -78,15 +81,15 @@ module _ (clauses : List Clause) (points : List ℕ) (at : ℕ) where
       none : between at at points ≡ []
       none = drop_of_length-le (take at points) (le_of_eq (length-take-le at points enough))
 
-  module _ {i : ℕ} {met : Bool} {x : ℕ} {found : List ℕ} (s : Scans clauses points at i met x found) (lo : at ≤ i)
+  module _ {i : ℕ} {b : Option ℕ} {found : List ℕ} (s : Scans clauses points at i b found) (lo : at ≤ i)
       (enough : i < length points) (room : i < length found) where
     -- the point y, of index i, is tested and its number kept
-    pub scans_on : {y number : ℕ} {met' : Bool} {x' : ℕ} {after : List ℕ} → y ≡ get_or points i 0
-        → number ≡ number_for clauses y → after ≡ set found i number → Better met x y number met' x'
-        → Scans clauses points at (i + 1) met' x' after
-    scans_on {y} {number} {met'} {x'} {after} read e stored next =
+    pub scans_on : {y number : ℕ} {b' : Option ℕ} {after : List ℕ} → y ≡ get_or points i 0
+        → number ≡ number_for clauses y → after ≡ set found i number → Better b y number b'
+        → Scans clauses points at (i + 1) b' after
+    scans_on {y} {number} {b'} {after} read e stored next =
         record {
-          best = subst (λ l. Best clauses l met' x') (sym one_more) (next clauses (between at i points) e s.best);
+          best = subst (λ l. Best clauses l b') (sym one_more) (next clauses (between at i points) e s.best);
           numbers = λ k from to. numbers k from to (dec_lt k i);
         }
       where
@@ -107,10 +110,10 @@ module _ (clauses : List Clause) (points : List ℕ) (at : ℕ) where
             subst (NumberFound clauses points after) (sym same)
             (ap (λ l. get_or l i 0) stored ∙ get_or-set_same found i number 0 room ∙ e ∙ ap (number_for clauses) read)
 
-  pub scans_end : {i filled : ℕ} {met : Bool} {x : ℕ} {found : List ℕ} → Scans clauses points at i met x found
-      → i ≤ filled → filled ≤ i → Scans clauses points at filled met x found
-  scans_end {i} {filled} {met} {x} {found} s up down =
-      subst (λ (j : ℕ). Scans clauses points at j met x found) (le_antisymm up down) s
+  pub scans_end : {i filled : ℕ} {b : Option ℕ} {found : List ℕ} → Scans clauses points at i b found
+      → i ≤ filled → filled ≤ i → Scans clauses points at filled b found
+  scans_end {i} {filled} {b} {found} s up down =
+      subst (λ (j : ℕ). Scans clauses points at j b found) (le_antisymm up down) s
 
 -- ---- whether a level is new
 
@@ -131,8 +134,8 @@ module _ (depths : List ℕ) where
 -- ---- the level
 
 module _ (clauses : List Clause) (points depths : List ℕ) (at filled : ℕ) where
-  pub tests_opened : {met : Bool} {x : ℕ} {found : List ℕ} → opens_at depths at ≡ true
-      → Scans clauses points at filled met x found → Tests clauses points depths at filled met x found
+  pub tests_opened : {b : Option ℕ} {found : List ℕ} → opens_at depths at ≡ true
+      → Scans clauses points at filled b found → Tests clauses points depths at filled b found
   tests_opened new s =
       record {
         opened = λ e. s.best;
@@ -141,8 +144,8 @@ module _ (clauses : List Clause) (points depths : List ℕ) (at filled : ℕ) wh
       }
 
   -- no slot of the level is left to be tested
-  pub tests_unopened : {x : ℕ} {found : List ℕ} → opens_at depths at ≡ false
-      → Found clauses points depths at filled found → Tests clauses points depths at filled false x found
+  pub tests_unopened : {found : List ℕ} → opens_at depths at ≡ false
+      → Found clauses points depths at filled found → Tests clauses points depths at filled None found
   unfolding opens_at
   tests_unopened {found = found} old f =
       record {

@@ -1,5 +1,5 @@
 -- Many steps of the search, from any slot on: the contract of `explore`. Assumes nothing.
-use Rattle.std.specs.Prelude.{List, ℕ, ◌≤◌, ◌<◌}
+use Rattle.std.specs.Prelude.{Result, Ok, Err, List, length, ℕ, ◌≤◌, ◌<◌}
 use Rattle.points.specs.Points.{Clause}
 use Rattle.point_slices.specs.Slices.{SlotSlices}
 use Rattle.formula.specs.Problem.{Problem}
@@ -9,9 +9,13 @@ use Rattle.search_expansion.specs.declared.Frame.{Frame}
 use Rattle.search_expansion.specs.Laws.Filling.{SlotsIndexed}
 use Rattle.search_level.specs.Laws.Testing.{Found}
 use Rattle.search_level.specs.declared.Position.{Position}
-use Rattle.search_step.specs.Laws.Stepping.{reply_of_conclusion, framed, Stands, GoesOn, Ended}
-use Rattle.search_loop.specs.declared.Stage.{Stage}
-use Rattle.search_loop.specs.declared.Stage.TheVariants.{Concluded, Paused}
+use Rattle.search_step.specs.Conclusions.{reply_of_conclusion}
+use Rattle.search_step.specs.Laws.Stepping.{framed, Resumable, Linked, Stands, GoesOn, Ended}
+use Rattle.search_loop.specs.declared.Answer.{Answer}
+
+-- F10: what the code's answer says in document 01's terms
+abbrev pub reply_of_answer : Answer → Reply
+reply_of_answer a = reply_of_conclusion a.point a.conclusion
 
 module _ (pb : Problem) (capacity : ℕ) where
   -- many steps, from one position to another
@@ -30,16 +34,31 @@ Numbers clauses m q found = Found clauses m.points m.depths q.at q.filled found
 
 -- the loop over the slots: it has come to the position q, the links are an index of the points filled, and the numbers
 -- of tested points are at hand
-pub record Exploring (g : Frame) (images : List ℕ) (clauses : List Clause) (m₀ : SlotSlices) (q₀ : Position)
+pub record Exploring (g : Frame) (clauses : List Clause) (m₀ : SlotSlices) (q₀ : Position)
     (m : SlotSlices) (links found : List ℕ) (q : Position) : Type 0 where
-  pub walking : Walking (framed g images clauses) g.room m₀ q₀ m q
+  pub walking : Walking (framed g clauses) g.room m₀ q₀ m q
   pub indexed : SlotsIndexed g m links q.filled
   pub numbers : Numbers clauses m q found
 
--- what exploring from a position comes to, beside the point x; it pauses nowhere but where more slots can be lent than
--- have heads, and has filled no more than have heads
-abbrev pub Explores : Frame → List ℕ → List Clause → SlotSlices → Position → Stage → ℕ → SlotSlices → List ℕ → Type 0
-Explores g images clauses m₀ q₀ (Concluded a) x m found = Concludes (framed g images clauses) g.room m₀ q₀
-    (reply_of_conclusion x a) m
-Explores g images clauses m₀ q₀ (Paused q) x m found = Walking (framed g images clauses) g.room m₀ q₀ m q
-    × (g.lookup.heads < g.room) × (q.filled ≤ g.lookup.heads) × Numbers clauses m q found
+-- what exploring begins with: a search that can go on from the position q, an index of the points filled, and the
+-- numbers at hand, of which there is room for one for each head
+pub record Explorable (g : Frame) (clauses : List Clause) (m : SlotSlices) (links found : List ℕ) (q : Position)
+    : Type 0 where
+  pub resumable : Resumable g clauses m q
+  pub linked : Linked g m links q.filled
+  pub room : g.heads ≤ length found
+  pub numbers : Numbers clauses m q found
+
+-- exploring has paused at the position q: more slots can be lent than have heads, and no more are filled than have heads
+pub record Pauses (g : Frame) (clauses : List Clause) (m₀ : SlotSlices) (q₀ : Position) (m : SlotSlices)
+    (found : List ℕ) (q : Position) : Type 0 where
+  pub walking : Walking (framed g clauses) g.room m₀ q₀ m q
+  pub outgrown : g.heads < g.room
+  pub headed : q.filled ≤ g.heads
+  pub numbers : Numbers clauses m q found
+
+-- what exploring from a position comes to
+abbrev pub Explores : Frame → List Clause → SlotSlices → Position → Result Answer Position → SlotSlices → List ℕ
+    → Type 0
+Explores g clauses m₀ q₀ (Ok a) m found = Concludes (framed g clauses) g.room m₀ q₀ (reply_of_answer a) m
+Explores g clauses m₀ q₀ (Err q) m found = Pauses g clauses m₀ q₀ m found q

@@ -1,7 +1,7 @@
 -- Laws of a level's test where the search stands at a slot: a point that it finds is the answer, else none that is
 -- tested satisfies, and the numbers that it keeps are at hand after the step. Assumes nothing.
-use Rattle.std.specs.Prelude.{Bool, true, false, List, [], ◌∷◌, ◌++◌, ◌≡◌, ℕ, zero, suc, ◌+◌, ◌≤◌, ◌<◌, ◌^◌, ltb, length, drop}
-use Rattle.std.proofs.Common.{true≢false, ⊎_elim, sym, ap, ap₂, ◌∙◌, subst, le_refl, arith, length-append, drop_at, lt-ltb, ltb-true}
+use Rattle.std.specs.Prelude.{Option, None, Some, true, false, List, [], ◌∷◌, ◌++◌, ◌≡◌, ℕ, zero, suc, ◌+◌, ◌≤◌, ◌<◌, ◌^◌, ltb, length, drop}
+use Rattle.std.proofs.Common.{⊎_elim, sym, ap, ap₂, ◌∙◌, subst, le_refl, arith, length-append, drop_at, lt-ltb, ltb-true}
 use mathlib.Core.List.Memᴰ
 use Rattle.std.proofs.Math.Path.{refl}
 use Rattle.std.proofs.Math.Decide.{dec_lt}
@@ -74,14 +74,17 @@ numbers_on clauses found {m = m} {q} {filled} {m'} at lt hand kept k j before fr
 
 -- ---- the test
 
+some-ne-none : {x : ℕ} → Some x ≡ None → ⊥
+some-ne-none e = cc
+
 no_slot : (p : List Slot) (s : Slot) → length p ≡ 0 → opens p s ≡ true
 unfolding opens
 no_slot [] s e = refl
 no_slot (t ∷ p) s e = absurd (let z : ⊥ = omega arith in z)
 
-module _ (g : Frame) (images : List ℕ) (clauses : List Clause) (ok : Searchable g images clauses) where
+module _ (g : Frame) (clauses : List Clause) (ok : Searchable g clauses) where
   abbrev pb : Problem
-  pb = framed g images clauses
+  pb = framed g clauses
 
   module _ {old : SlotSlices} {p w : List Slot} {s : Slot} {m : SlotSlices} {q : Position}
       (st : Stands pb g.room old p (s ∷ w) m q) where
@@ -146,11 +149,11 @@ module _ (g : Frame) (images : List ℕ) (clauses : List Clause) (ok : Searchabl
     tested_points new = waiting_points ∙ sym (tested-all pb g.room p w s st.invariants (opens_read ∙ new))
 
     -- Q03.2: "the one smallest as a number is now handed back"
-    found_ends : {x d : ℕ} {found : List ℕ} → Tests clauses m.points m.depths q.at q.filled true x found
+    found_ends : {x d : ℕ} {found : List ℕ} → Tests clauses m.points m.depths q.at q.filled (Some x) found
         → d ≡ distance point_digits x g.target
         → Ended pb g.room old p (s ∷ w) (satisfiable x d q.filled) m
     found_ends {x} {d} t far =
-        ⊎_elim new (λ e. absurd (true≢false (t.unopened e))) (true-or-false (opens_at m.depths q.at))
+        ⊎_elim new (λ e. absurd (some-ne-none (t.unopened e))) (true-or-false (opens_at m.depths q.at))
       where
         new : opens_at m.depths q.at ≡ true → Ended pb g.room old p (s ∷ w) (satisfiable x d q.filled) m
         new e =
@@ -158,10 +161,10 @@ module _ (g : Frame) (images : List ℕ) (clauses : List Clause) (ok : Searchabl
             subst (λ l. Smallest pb.clauses l x) (tested_points e) (t.opened e) in
             let o = map_out (λ (t : Slot). t.point) (s ∷ w)
             (subst (λ l. x ∈ l) waiting_points (t.opened e).among) in
-            let below : x < 2 ^ g.lookup.variables = subst (λ y. y < 2 ^ g.lookup.variables) (sym o.2)
+            let below : x < 2 ^ g.permutations.variables = subst (λ y. y < 2 ^ g.permutations.variables) (sym o.2)
             (st.invariants.filled.below o.0 (Memᴰ.append_right p o.1)) in
-            let near : distance g.lookup.variables x g.target ≡ d =
-            sym (distance_wider g.lookup.variables point_digits x g.target below ok.ready.target_below
+            let near : distance g.permutations.variables x g.target ≡ d =
+            sym (distance_wider g.permutations.variables point_digits x g.target below ok.ready.target_below
             ok.permuting.few) ∙ sym far in
             record {
               slots = p ++ s ∷ w;
@@ -170,7 +173,7 @@ module _ (g : Frame) (images : List ℕ) (clauses : List Clause) (ok : Searchabl
                   (ap₂ (λ a b. satisfiable x a b) near st.number) (met best);
             }
 
-    none_found : {x : ℕ} {found : List ℕ} → Tests clauses m.points m.depths q.at q.filled false x found
+    none_found : {found : List ℕ} → Tests clauses m.points m.depths q.at q.filled None found
         → NoneSatisfies pb.clauses (tested p s w)
     none_found t = ⊎_elim new old_depth (true-or-false (opens_at m.depths q.at))
       where
@@ -180,18 +183,16 @@ module _ (g : Frame) (images : List ℕ) (clauses : List Clause) (ok : Searchabl
         old_depth : opens_at m.depths q.at ≡ false → NoneSatisfies pb.clauses (tested p s w)
         old_depth e = untested_fails pb g.room p w s st.invariants (opens_read ∙ e)
 
-  module _ (m : SlotSlices) (q : Position) {met : Bool} {x : ℕ} {found : List ℕ}
-      (t : Tests clauses m.points m.depths q.at q.filled met x found) where
-    pub level_met : {d : ℕ} → q.at < q.filled → met ≡ true → d ≡ distance point_digits x g.target
-        → Concludes pb g.room m q (satisfiable x d q.filled) m
-    level_met lt e far old p [] st = absurd (one_waits g images clauses ok lt st)
-    level_met lt e far old p (s ∷ w) st = found_ends st
-        (subst (λ b. Tests clauses m.points m.depths q.at q.filled b x found) e t) far
+  module _ (m : SlotSlices) (q : Position) {found : List ℕ} where
+    pub level_met : {x d : ℕ} → Tests clauses m.points m.depths q.at q.filled (Some x) found → q.at < q.filled
+        → d ≡ distance point_digits x g.target → Concludes pb g.room m q (satisfiable x d q.filled) m
+    level_met t lt far old p [] st = absurd (one_waits g clauses ok lt st)
+    level_met t lt far old p (s ∷ w) st = found_ends st t far
 
-    pub level_unmet : met ≡ false → Unmet pb g.room m q
-    level_unmet e old p w s st = none_found st
-        (subst (λ b. Tests clauses m.points m.depths q.at q.filled b x found) e t)
+    pub level_unmet : Tests clauses m.points m.depths q.at q.filled None found → Unmet pb g.room m q
+    level_unmet t old p w s st = none_found st t
 
     -- the number of the slot that is next
-    pub next_number : q.at < q.filled → get_or found q.at 0 ≡ number_for clauses (get_or m.points q.at 0)
-    next_number lt = t.numbers q.at (le_refl q.at) lt (le_refl (get_or m.depths q.at 0))
+    pub next_number : {b : Option ℕ} → Tests clauses m.points m.depths q.at q.filled b found → q.at < q.filled
+        → get_or found q.at 0 ≡ number_for clauses (get_or m.points q.at 0)
+    next_number t lt = t.numbers q.at (le_refl q.at) lt (le_refl (get_or m.depths q.at 0))

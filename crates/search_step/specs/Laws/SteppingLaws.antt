@@ -1,6 +1,6 @@
 -- Laws of one step of the search: its slot is taken, the flips of its clause's variables are tried, and then it goes
 -- on or answers 'unknown'. Assumes nothing.
-use Rattle.std.specs.Prelude.{Bool, true, false, refl, ◌≡◌, ℕ, suc, ◌+◌, ◌-◌, ◌≤◌, ◌<◌, ◌^◌, length, get_or, set, drop}
+use Rattle.std.specs.Prelude.{Ok, Err, Bool, true, false, refl, ◌≡◌, ℕ, suc, ◌+◌, ◌-◌, ◌≤◌, ◌<◌, ◌^◌, length, get_or, set, drop}
 use mathlib.Core.List.Memᴰ
 use mathlib.Core.List.{List, [], map, append-nil, append_assoc, ◌∷◌, ◌++◌}
 use Rattle.std.proofs.Common.{sym, ap, ap₂, ◌∙◌, le_trans, le_of_eq, lt_of_lt_of_le, add-one, arith, length-append, length-set, get_or-append-add}
@@ -25,15 +25,15 @@ use Rattle.search_expansion.specs.declared.Frame.{Frame}
 use Rattle.search_expansion.specs.declared.Visit.{Visit}
 use Rattle.search_level.specs.declared.Position.{Position}
 use Rattle.search_step.specs.declared.Conclusion.TheVariants.{Unknown}
-use Rattle.search_step.specs.declared.Step.TheVariants.{Ends, Goes}
+use Rattle.search_step.specs.declared.Turn.{Turn}
 use Rattle.permutation_coverage.specs.Laws.Coverage.{Imaged}
-use Rattle.search_expansion.specs.Laws.Filling.{Fillable, Advances}
+use Rattle.search_expansion.specs.Laws.Filling.{Fillable, Advances, Expands}
 use Rattle.search_expansion.specs.Laws.FillingLaws.{ended, advances_ends}
 use Rattle.search_expansion.specs.Laws.Memory.{Holds, Lends}
 use Rattle.search_level.specs.Laws.NumberLaws.{number_none, number_found}
 use Rattle.search_level.specs.Laws.Testing.{number_for}
 use Rattle.search_step.specs.Laws.Stepping.{framed, Searchable, Linked, position, next_point, Next, Stands, Midway}
-use Rattle.search_step.specs.Laws.Stepping.{Unmet, GoesOn, Ended, Steps, Kept}
+use Rattle.search_step.specs.Laws.Stepping.{Unmet, GoesOn, Ended, Steps, Kept, Processable}
 use Rattle.search_theory.proofs.ExpansionLaws.{invariants_step}
 use Rattle.search_theory.specs.Laws.InvariantLaws.{first_in}
 use Rattle.search_theory.specs.Laws.Invariants.{slot_at}
@@ -98,9 +98,9 @@ number_stored old p w s c i m h n =
 
 -- ---- one step
 
-module _ (g : Frame) (images : List ℕ) (clauses : List Clause) (ok : Searchable g images clauses) where
+module _ (g : Frame) (clauses : List Clause) (ok : Searchable g clauses) where
   abbrev pb : Problem
-  pb = framed g images clauses
+  pb = framed g clauses
 
   -- a slot is taken, at the front of those that wait, and its point falsifies a clause first, the one of that number
   pub record Taken (old : SlotSlices) (p w : List Slot) (m₀ : SlotSlices) (q : Position) (from : Visit) (number : ℕ)
@@ -161,13 +161,13 @@ module _ (g : Frame) (images : List ℕ) (clauses : List Clause) (ok : Searchabl
 
   -- the point of the next slot is one of n digits, as those of all filled slots are
   pub next_narrow : {m₀ : SlotSlices} {q : Position} → q.at < q.filled → Midway pb g.room m₀ q
-      → next_point m₀ q < 2 ^ g.lookup.variables
+      → next_point m₀ q < 2 ^ g.permutations.variables
   next_narrow {m₀} {q} lt at = by at.front at.back at.stands
     where
-      by : (p w : List Slot) → Stands pb g.room at.old p w m₀ q → next_point m₀ q < 2 ^ g.lookup.variables
+      by : (p w : List Slot) → Stands pb g.room at.old p w m₀ q → next_point m₀ q < 2 ^ g.permutations.variables
       by p [] st = absurd (one_waits lt st)
       by p (s ∷ w) st =
-          subst (λ (y : ℕ). y < 2 ^ g.lookup.variables)
+          subst (λ (y : ℕ). y < 2 ^ g.permutations.variables)
           (sym (slot_read (λ (t : Slot). t.point) p w s at.old.points
           m₀.points q.at (ap (λ (t : SlotSlices). t.points) st.holds.held) st.processed))
           (st.invariants.filled.below s (Memᴰ.append_right p (here s w)))
@@ -206,12 +206,12 @@ module _ (g : Frame) (images : List ℕ) (clauses : List Clause) (ok : Searchabl
     clause-listed c s e l = l ∙ ap listed (e ∙ sym t.place)
 
     pub taken-below : (c : Clause) (s : ℕ) → c ≡ get_or clauses (number - 1) empty_clause → s ≡ listed c
-        → s < 2 ^ g.lookup.variables
+        → s < 2 ^ g.permutations.variables
     unfolding listed
     taken-below c s e l =
         let b = ok.ready.clauses-below t.falsified (first_in t.first) in
-        subst (λ (y : ℕ). y < 2 ^ g.lookup.variables) (sym (clause-listed c s e l))
-        (or_lt g.lookup.variables t.falsified.clause.positive t.falsified.clause.negative
+        subst (λ (y : ℕ). y < 2 ^ g.permutations.variables) (sym (clause-listed c s e l))
+        (or_lt g.permutations.variables t.falsified.clause.positive t.falsified.clause.negative
         b.positive-below b.negative-below)
 
     -- the flips are tried, and the memory holds the slots that wait then
@@ -220,11 +220,11 @@ module _ (g : Frame) (images : List ℕ) (clauses : List Clause) (ok : Searchabl
       pub holds : Holds old (known ++ waiting) m
       pub counted : length (known ++ waiting) ≡ filled'
       pub fills : Fills pb.permutations g.room known t.taken.point t.taken.depth
-          (variables g.lookup.variables t.falsified.clause) t.rest (ended enough waiting)
+          (variables g.permutations.variables t.falsified.clause) t.rest (ended enough waiting)
 
     pub flipped_of : {enough : Bool} {filled' : ℕ} {m : SlotSlices} (c : Clause) (s : ℕ)
         → c ≡ get_or clauses (number - 1) empty_clause → s ≡ listed c
-        → Advances pb.permutations g.room from (members g.lookup.variables s) q.filled
+        → Advances pb.permutations g.room from (members g.permutations.variables s) q.filled
         (numbered_in q.at number m₀) enough [] filled' m → Flipped enough filled' m
     unfolding variables
     flipped_of {enough = enough} c s e l adv =
@@ -235,7 +235,7 @@ module _ (g : Frame) (images : List ℕ) (clauses : List Clause) (ok : Searchabl
           waiting = a.waiting;
           holds = a.holds;
           counted = a.number;
-          fills = alike t.point t.depth (ap (members g.lookup.variables) (clause-listed c s e l)) f;
+          fills = alike t.point t.depth (ap (members g.permutations.variables) (clause-listed c s e l)) f;
         }
       where
         alike : {y z : ℕ} {us vs : List ℕ} {r : Expansion} → from.point ≡ y → from.depth ≡ z → us ≡ vs
@@ -374,10 +374,10 @@ module _ (g : Frame) (images : List ℕ) (clauses : List Clause) (ok : Searchabl
 
     -- what lets its flips be tried, where its images are at hand
     pub read_fillable : {links moved : List ℕ} → Midway pb g.room m₀ q → Linked g m₀ links q.filled
-        → Lends g.room m₀ → Next g images m₀ moved q
-        → Fillable g images (numbered_in q.at number m₀) links moved q.filled from
+        → Lends g.room m₀ → Next g m₀ moved q
+        → Fillable g (numbered_in q.at number m₀) links moved q.filled from
     read_fillable {moved = moved} at l room e =
-        let own = subst (λ (y : ℕ). Imaged g.lookup.variables g.lookup.permutations images y moved)
+        let own = subst (λ (y : ℕ). Imaged g.permutations.variables g.permutations.count g.permutations.images.now y moved)
         (sym a.point_read) e in
         record {
           coverable = record {
@@ -396,11 +396,11 @@ module _ (g : Frame) (images : List ℕ) (clauses : List Clause) (ok : Searchabl
           linked = le_of_eq (sym l.linked);
         }
 
-    pub read_below : Midway pb g.room m₀ q → s < 2 ^ g.lookup.variables
+    pub read_below : Midway pb g.room m₀ q → s < 2 ^ g.permutations.variables
     read_below at = taken-below (taken_read at.stands) c s a.clause_read a.listed_read
 
     module _ {enough : Bool} {filled' : ℕ} {m : SlotSlices}
-        (adv : Advances pb.permutations g.room from (members g.lookup.variables s) q.filled
+        (adv : Advances pb.permutations g.room from (members g.permutations.variables s) q.filled
         (numbered_in q.at number m₀) enough [] filled' m) where
       flipped_read : {old : SlotSlices} {p w : List Slot} (st : Stands pb g.room old p w m₀ q)
           → Flipped (taken_read st) enough filled' m
@@ -409,14 +409,32 @@ module _ (g : Frame) (images : List ℕ) (clauses : List Clause) (ok : Searchabl
       pub read_room : Midway pb g.room m₀ q → filled' ≤ g.room
       read_room at = flipped_room (taken_read at.stands) enough (flipped_read at.stands)
 
-      pub read_goes : enough ≡ true → Steps pb g.room m₀ q (Goes filled') m
-      read_goes e old p w st = step_goes (taken_read st)
-          (subst (λ b. Flipped (taken_read st) b filled' m) e (flipped_read st))
+    module _ {filled' : ℕ} {m : SlotSlices} where
+      pub read_goes : Expands pb.permutations g.room from (members g.permutations.variables s) q.filled
+          (numbered_in q.at number m₀) (Ok filled') m → Steps pb g.room m₀ q (Ok filled') m
+      read_goes adv old p w st = step_goes (taken_read st) (flipped_read adv st)
 
-      pub read_keeps : enough ≡ true → Midway pb g.room m₀ q → Kept m₀ q filled' m
-      read_keeps e at = step_keeps (taken_read at.stands)
-          (subst (λ b. Flipped (taken_read at.stands) b filled' m) e (flipped_read at.stands))
+      pub read_keeps : Expands pb.permutations g.room from (members g.permutations.variables s) q.filled
+          (numbered_in q.at number m₀) (Ok filled') m → Midway pb g.room m₀ q → Kept m₀ q filled' m
+      read_keeps adv at = step_keeps (taken_read at.stands) (flipped_read adv at.stands)
 
-      pub read_stuck : enough ≡ false → Steps pb g.room m₀ q (Ends (Unknown (from.depth + 1) filled')) m
-      read_stuck e old p w st = step_stuck (taken_read st)
-          (subst (λ b. Flipped (taken_read st) b filled' m) e (flipped_read st))
+      pub read_stuck : Expands pb.permutations g.room from (members g.permutations.variables s) q.filled
+          (numbered_in q.at number m₀) (Err filled') m
+          → Steps pb g.room m₀ q (Err (Unknown (from.depth + 1) filled')) m
+      read_stuck adv old p w st = step_stuck (taken_read st) (flipped_read adv st)
+
+-- what `process` has read of a slot that can be processed
+pub read_of : {g : Frame} {clauses : List Clause} {m : SlotSlices} {links moved : List ℕ} {turn : Turn} {x s : ℕ}
+    {c : Clause} → (p : Processable g clauses m links moved turn) → x ≡ next_point m turn.position
+    → c ≡ get_or clauses (turn.number - 1) empty_clause → s ≡ listed c
+    → Read g clauses p.resumable.searchable m turn.position
+    (record { point = x; depth = get_or m.depths turn.position.at 0 }) turn.number s c
+read_of {clauses = clauses} p point clause set =
+    record {
+      point_read = point;
+      depth_read = refl;
+      number_read = p.number ∙ ap (number_for clauses) (sym point);
+      unmet = p.unmet;
+      clause_read = clause;
+      listed_read = set;
+    }

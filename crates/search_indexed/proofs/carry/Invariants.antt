@@ -1,9 +1,0 @@
-use Rattle.std.proofs.Common.{◌≡◌, ◌-◌, length}
-use Rattle.math.specs.Laws.OverLaws.{Copying}
-use Rattle.search_indexed.proofs.carry.Given as goal
-
-abbrev pub invariant-loop-i : goal.invariant-loop-i
-invariant-loop-i l = Copying l.count l.earlier l.initial.found l.i l.found × (length l.found ≡ length l.initial.found)
-
-abbrev pub decreases-loop-i : goal.decreases-loop-i
-decreases-loop-i l = l.count - l.i
