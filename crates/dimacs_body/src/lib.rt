@@ -132,9 +132,10 @@ pub struct Lined {
     pub stop: usize,
 }
 
-// A comment, or lines of words: what begins at `start` decides; none is read on at a percent line, which ends the sheet. The heads are at most fourteen bytes to
-// compare, and each handler says how often it visits a byte. Comments are asked for first, so that remarks pay nothing
-// for percent lines; lines of words pay one step a part, which is many lines. `read_lines` sees to what it requires.
+// A comment, or lines of words: what begins at `start` decides; none is read on at a percent line, which ends the sheet.
+// The heads are at most fourteen bytes to compare, and each handler says how often it visits a byte. Comments are asked
+// for first, so that remarks pay nothing for percent lines; lines of words pay one step a part, which is many lines.
+// `read_lines` sees to what it requires.
 fn read_part(
     text: &[u8],
     start: usize,

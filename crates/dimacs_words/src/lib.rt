@@ -123,7 +123,9 @@ fn skip_blocks(text: &[u8], from: usize) -> usize
 }
 
 // Where the line ends that begins at `from`: one step a block without its end, then one a byte. A byte is visited at
-// most twice. Callers begin at 0, or where another line has ended within the text.
+// most twice. Callers begin at 0, or where another line has ended within the text. It stands in each caller: many lines are
+// short.
+#[inline(always)]
 pub fn line_end(text: &[u8], from: usize) -> usize
     requires { from ≤ length text.now }
     ensures { Stretch (belongs Class.Line) text.now from result }
@@ -164,7 +166,8 @@ fn made_word(negated: bool, value: u32, at: usize) -> Option<Word>
 
 // F7; S13: "one to four digits, leading zeros allowed": the rest of a word, behind its sign, up to a blank, the end of
 // its line or that of the text. Its value is read in the pass that finds its end: at most five steps. Callers stand
-// within the text.
+// within the text. It stands in each caller, so that the word goes on in registers, and the sign need not be asked for.
+#[inline(always)]
 pub fn read_digits(text: &[u8], negated: bool, from: usize) -> Option<Word>
     requires { from ≤ length text.now }
     ensures { DigitsRead text.now negated from result }
