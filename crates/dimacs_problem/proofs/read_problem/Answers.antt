@@ -2,7 +2,7 @@
 use Rattle.std.proofs.Common.{◌≡◌, sym, ◌∙◌, true}
 use Rattle.dimacs_words.specs.Laws.ScanLaws.{head_compared}
 use Rattle.dimacs_problem.specs.Laws.ProblemScanLaws.{problem_other, problem-first, problem_second, problem_third}
-use Rattle.dimacs_problem.specs.Laws.ProblemScanLaws.{problem_fourth, problem_fifth, problem_read}
+use Rattle.dimacs_problem.specs.Laws.ProblemScanLaws.{problem_fourth, problem_trailed, problem_whole}
 use Rattle.dimacs_format.specs.Text.{begins, problem_word}
 use Rattle.dimacs_problem.proofs.read_problem.Goals as goal
 use Rattle.dimacs_problem.proofs.read_problem.Goals.{Else-not-starts_with}
@@ -39,10 +39,10 @@ returns-in_err-total c =
 
 pub returns-then-not-blank_from : goal.returns-then-not-blank_from
 returns-then-not-blank_from c =
-    problem_fifth c.args.line.now (begun (goal.at.returns-then-not-blank_from c).Else-not-starts_with) _ c.in_ok-head.ensures _ c.in_ok-format.ensures _
+    problem_trailed c.args.line.now (begun (goal.at.returns-then-not-blank_from c).Else-not-starts_with) _ c.in_ok-head.ensures _ c.in_ok-format.ensures _
     c.in_ok-variables.ensures _ c.in_ok-total.ensures (sym c.blank_from.ensures ∙ c.if-not-blank_from.true)
 
 pub returns : goal.returns
 returns c =
-    problem_read c.args.line.now (begun (goal.at.returns c).Else-not-starts_with) _ c.in_ok-head.ensures _ c.in_ok-format.ensures _
+    problem_whole c.args.line.now (begun (goal.at.returns c).Else-not-starts_with) _ c.in_ok-head.ensures _ c.in_ok-format.ensures _
     c.in_ok-variables.ensures _ c.in_ok-total.ensures (sym c.blank_from.ensures ∙ c.if-not-blank_from.false)

@@ -2,14 +2,14 @@
 use Rattle.std.specs.Prelude.{Bool, true, false, ◌&&◌, ◌⊎◌, ◌≡◌, refl, ℕ, suc, ◌+◌, ◌-◌, ◌≤◌, ◌<◌, eqb, length, get_or, take, drop}
 use Rattle.std.proofs.Math.Bool.{cond}
 use mathlib.Core.List.{List, [], ◌∷◌, nil≢cons}
-use Rattle.std.proofs.Common.{inl, inr, ⊎_elim, sym, ◌∙◌, le_of_eq, arith, take_all, le-leb, eqb-true, eq-eqb, ne_eqb, length-drop, get_or-drop, subst}
+use Rattle.std.proofs.Common.{inl, inr, ⊎_elim, sym, ◌∙◌, le_of_eq, arith, take_all, le-leb, eqb-true}
 use Rattle.std.specs.Prelude.{Some, None}
 use Rattle.std.proofs.Math.Option.{Option, some, none}
 use Rattle.std.proofs.Math.Path.{ap}
 use Rattle.std.proofs.lemmas.Bool.{eqb-false}
 use Rattle.std.proofs.Math.Decide.{dec_lt}
-use Rattle.math.specs.Laws.ListLaws.{not-true-false, not-all, get_d_in}
-use Rattle.math.specs.Lists.{all, ◌∈◌, select}
+use Rattle.math.specs.Laws.ListLaws.{not-true-false}
+use Rattle.math.specs.Lists.{select}
 use Rattle.math.specs.Laws.SplitLaws.{select-cons, map-nil}
 use Rattle.dimacs_words.specs.declared.Class.TheVariants.{Blank, Word as WordBytes, Line as LineBytes}
 use Rattle.dimacs_words.specs.declared.Cursor.{Cursor}
@@ -21,7 +21,7 @@ use Rattle.dimacs_format.specs.Reader.{Sizes, sizes_in, problem_words, problem_i
 use Rattle.dimacs_format.specs.Laws.StepLaws.{not_some}
 use Rattle.dimacs_format.specs.Laws.TextLaws.{same_bytes_lem}
 use Rattle.dimacs_words.specs.Laws.Scans.{belongs, Stretch, lines_behind}
-use Rattle.dimacs_words.specs.Laws.ScanLaws.{here_on, run-all, words_skip, words_end, word_at, same_lengths}
+use Rattle.dimacs_words.specs.Laws.ScanLaws.{here_on, words_skip, words_end, word_at, same_lengths}
 use Rattle.dimacs_words.specs.Laws.ScanLaws.{bytes_turned, blanks_from, blanks_stop, behind-none, behind-some, lines_from_lem}
 use Rattle.dimacs_problem.specs.Laws.ProblemScans.{spelled_from, WordMatched, NumberMatched}
 
@@ -223,26 +223,38 @@ module _ (line : List ℕ) where
             four_words : spelled_from line 0 ≡ problem_word ∷ format_word ∷ c.1.0 ∷ d.1.0 ∷ spelled_from line m.next.at
             four_words = three_words ∙ ap (λ l. problem_word ∷ format_word ∷ c.1.0 ∷ l) d.1.1
 
+            module _ (end : ℕ) (s : Stretch (belongs Blank) line m.next.at end) where
+              pub problem_fifth : end < length line → none ≡ problem_in (piece 0 line)
+              problem_fifth inside =
+                  sym (by_words ∙ ap problem_words four_words
+                  ∙ others_fifth problem_word format_word c.1.0 d.1.0 (spelled_from line m.next.at)
+                  (word-left line m.next.at end s inside))
+
+              pub problem_read : length line ≤ end
+                  → some (record { variables = v.value; total = m.value }) ≡ problem_in (piece 0 line)
+              problem_read past =
+                  let last : spelled_from line m.next.at
+                  ≡ [] = ap spelled (words_skip line 0 s ∙ words_end line 0 end (let w = s.within in omega arith)) in
+                  sym (by_words ∙ ap problem_words (four_words
+                  ∙ ap (λ l. problem_word ∷ format_word ∷ c.1.0 ∷ d.1.0 ∷ l) last)
+                  ∙ just_four c.1.0 d.1.0 v.value m.value c.1.2 d.1.2)
+
             -- where the blanks behind the fourth word end
             blanks : (e : ℕ) × Stretch (belongs Blank) line m.next.at e × (eqb e (length line) ≡ all_blank (drop m.next.at line))
             blanks = blanks_from line d.0
 
-            pub problem_fifth : all_blank (drop m.next.at line) ≡ false → none ≡ problem_in (piece 0 line)
-            problem_fifth e =
+            -- the same, by whether all bytes behind that word are blanks
+            pub problem_trailed : all_blank (drop m.next.at line) ≡ false → none ≡ problem_in (piece 0 line)
+            problem_trailed e =
                 let ne : blanks.0 ≡ length line → ⊥ = eqb-false blanks.0 (length line) (blanks.2 ∙ e) in
                 let w = blanks.1.within in
-                sym (by_words ∙ ap problem_words four_words
-                ∙ others_fifth problem_word format_word c.1.0 d.1.0 (spelled_from line m.next.at)
-                (word-left line m.next.at blanks.0 blanks.1 (omega arith)))
+                problem_fifth blanks.0 blanks.1 (omega arith)
 
-            pub problem_read : all_blank (drop m.next.at line) ≡ true
+            pub problem_whole : all_blank (drop m.next.at line) ≡ true
                 → some (record { variables = v.value; total = m.value }) ≡ problem_in (piece 0 line)
-            problem_read e =
+            problem_whole e =
                 let end : blanks.0 ≡ length line = eqb-true blanks.0 (length line) (blanks.2 ∙ e) in
-                let last : spelled_from line m.next.at ≡ [] = ap spelled (words_skip line 0 blanks.1 ∙ words_end line 0 blanks.0 end) in
-                sym (by_words ∙ ap problem_words (four_words
-                ∙ ap (λ l. problem_word ∷ format_word ∷ c.1.0 ∷ d.1.0 ∷ l) last)
-                ∙ just_four c.1.0 d.1.0 v.value m.value c.1.2 d.1.2)
+                problem_read blanks.0 blanks.1 (le_of_eq (sym end))
 
 -- ---- lines that are skipped
 
