@@ -1,6 +1,6 @@
 -- Laws of the loop over the slots: it begins, a step goes on or stops with an answer, it pauses, and it ends where no
 -- slot waits. Assumes nothing.
-use Rattle.std.specs.Prelude.{None, Ok, Err, Bool, true, false, ◌&&◌, List, [], ◌∷◌, ◌++◌, ◌≡◌, ℕ, ◌+◌, ◌≤◌, ◌<◌, ◌^◌, get_or, ltb, length}
+use Rattle.std.specs.Prelude.{None, Result, Ok, Err, Bool, true, false, ◌&&◌, List, [], ◌∷◌, ◌++◌, ◌≡◌, ℕ, ◌+◌, ◌≤◌, ◌<◌, ◌^◌, get_or, ltb, length}
 use Rattle.std.proofs.Common.{true≢false, append-nil, sym, ap, ◌∙◌, subst, le_trans, le_of_eq, le_of_lt, arith, length-append, length-take-le, ltb-true, lt-ltb}
 use Rattle.std.proofs.Math.Decide.{dec_lt}
 use Rattle.points.specs.Points.{Clause}
@@ -20,7 +20,8 @@ use Rattle.search_step.specs.Laws.SteppingLaws.{next_narrow}
 use Rattle.permutation_coverage.specs.Laws.Coverage.{Imaged}
 use Rattle.search_level.specs.Laws.Testing.{Testable, Tests}
 use Rattle.search_expansion.specs.Laws.FillingLaws.{lends_still}
-use Rattle.search_loop.specs.Laws.Exploring.{Walking, Exploring, Concludes, Numbers, Explorable}
+use Rattle.search_loop.specs.Laws.Exploring.{Walking, Exploring, Concludes, Numbers, Explorable, Explores}
+use Rattle.search_loop.specs.declared.Answer.{Answer}
 use Rattle.search_loop.specs.Laws.TestedLaws.{AtHand, numbers_on, level_unmet, next_number}
 use Rattle.search_theory.specs.Walk.{state, Walks, none_left}
 
@@ -125,6 +126,23 @@ module _ {g : Frame} {clauses : List Clause} {m₀ : SlotSlices} {q₀ : Positio
           indexed = still;
           numbers = numbers_on clauses kept at lt tests there;
         }
+
+-- an answer, as the loop returns it
+pub explores_answer : (g : Frame) (clauses : List Clause) {m₀ m : SlotSlices} {q₀ : Position} (found : List ℕ)
+    (result : Result Answer Position) (x y : ℕ) (a : Conclusion)
+    → result ≡ Ok (record { conclusion = a; point = x }) → x ≡ y
+    → Concludes (framed g clauses) g.room m₀ q₀ (reply_of_conclusion y a) m
+    → Explores g clauses m₀ q₀ result m found
+explores_answer g clauses {m₀} {m} {q₀} found result x y a e same h =
+    subst (λ s. Explores g clauses m₀ q₀ s m found) (sym e)
+    (subst (λ z. Concludes (framed g clauses) g.room m₀ q₀ (reply_of_conclusion z a) m) (sym same) h)
+
+-- a pause
+pub explores_pause : (g : Frame) (clauses : List Clause) {m₀ m : SlotSlices} {q₀ : Position} (found : List ℕ)
+    (result : Result Answer Position) (q : Position) → result ≡ Err q
+    → Explores g clauses m₀ q₀ (Err q) m found → Explores g clauses m₀ q₀ result m found
+explores_pause g clauses {m₀} {m} {q₀} found result q e h =
+    subst (λ s. Explores g clauses m₀ q₀ s m found) (sym e) h
 
 -- whether one more step might fill more slots, `most`, than there are heads: if so there are more slots than heads
 pub outgrown_pauses : (g : Frame) (most : ℕ) (outgrown : Bool)
