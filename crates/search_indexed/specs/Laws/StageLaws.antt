@@ -1,6 +1,6 @@
 -- Laws of a stage: its links become an index of the filled points, the numbers found are carried into it, and the stage
 -- behind a paused one answers for both. Assumes nothing.
-use Rattle.std.specs.Prelude.{List, [], ◌∷◌, ◌++◌, ◌≡◌, refl, ℕ, ◌+◌, ◌*◌, ◌^◌, ◌≤◌, ◌<◌, length, get_or, take, drop, replicate}
+use Rattle.std.specs.Prelude.{Result, Ok, Err, List, [], ◌∷◌, ◌++◌, ◌≡◌, refl, ℕ, ◌+◌, ◌*◌, ◌^◌, ◌≤◌, ◌<◌, true, length, get_or, take, drop, replicate}
 use Rattle.std.proofs.Common.{sym, ap, ◌∙◌, subst, not-suc-le-zero, le_refl, le_trans, le_of_eq, lt_of_lt_of_le, arith, length-take-le, get_or-take}
 use Rattle.std.proofs.lemmas.List.{length-replicate}
 use Rattle.std.proofs.Math.ListN.{get_or-append}
@@ -13,15 +13,16 @@ use Rattle.formula.specs.Problem.{Problem}
 use Rattle.formula.specs.Reply.{Reply}
 use Rattle.search_theory.specs.Laws.InvariantLaws.{invariants_start}
 use Rattle.search_theory.specs.Walk.{Slot, slot, points_in}
-use Rattle.check_distinct.specs.Laws.Indexing.{Sifts}
-use Rattle.check_distinct.specs.Laws.IndexingLaws.{sifts_full}
+use Rattle.check_distinct.specs.Laws.Indexing.{Indexable, Links, Sifts, suits}
+use Rattle.check_distinct.specs.Laws.IndexingLaws.{links_indexable, sifts_full, zeros_links}
 use Rattle.search_expansion.specs.declared.Frame.{Frame}
 use Rattle.search_expansion.specs.Laws.FillingLaws.{held_points, held_first, lends_fewer, lends_still}
-use Rattle.search_expansion.specs.Laws.Memory.{Lends, Stored}
+use Rattle.search_expansion.specs.Laws.Memory.{Holds, Lends, Stored}
 use Rattle.search_level.specs.declared.Position.{Position}
 use Rattle.search_step.specs.Laws.Stepping.{framed, Searchable, Resumable, Linked, position, Stands, Midway}
 use Rattle.search_step.specs.Laws.Stepping.{Ended}
-use Rattle.search_loop.specs.Laws.Exploring.{Numbers, Pauses, Explorable, Concludes}
+use Rattle.search_loop.specs.declared.Answer.{Answer}
+use Rattle.search_loop.specs.Laws.Exploring.{reply_of_answer, Numbers, Pauses, Explorable, Explores, Concludes}
 use Rattle.search_loop.specs.Laws.WalkingLaws.{walking_midway, walking_answers, midway_room}
 
 -- the heads of the stages' indexes but for the last, which has one for each slot that can be lent
@@ -50,24 +51,41 @@ pub record Staged (g : Frame) (clauses : List Clause) (m : SlotSlices) (q : Posi
   pub enough : q.filled ≤ length found
   pub numbers : Numbers clauses m q found
 
+-- what a stage is handed by the one before it: the numbers of the slots filled, of which there are at most `heads`
+pub record Carried (clauses : List Clause) (m : SlotSlices) (q : Position) (earlier : List ℕ) (heads : ℕ) : Type 0
+  where
+    pub enough : q.filled ≤ length earlier
+    pub room : q.filled ≤ heads
+    pub numbers : Numbers clauses m q earlier
+
 -- the numbers are at hand in the stage's own array
-numbers_carried : {g : Frame} {clauses : List Clause} {m : SlotSlices} {q : Position} {earlier : List ℕ}
-    (blank found : List ℕ) → Staged g clauses m q earlier → found ≡ over (take q.filled earlier) blank
+pub numbers_carried : (clauses : List Clause) (m : SlotSlices) (q : Position) (earlier blank found : List ℕ) {heads : ℕ}
+    → Carried clauses m q earlier heads → found ≡ over (take q.filled earlier) blank
     → Numbers clauses m q found
 unfolding over
-numbers_carried {q = q} {earlier} blank found s e k j before from to le =
+numbers_carried clauses m q earlier blank found c e k j before from to le =
     ap (λ l. get_or l k 0) e
     ∙ get_or-append (take q.filled earlier) (drop (length (take q.filled earlier)) blank) 0 k
-    (lt_of_lt_of_le to (le_of_eq (sym (length-take-le q.filled earlier s.enough))))
+    (lt_of_lt_of_le to (le_of_eq (sym (length-take-le q.filled earlier c.enough))))
     ∙ get_or-take q.filled earlier k 0 to
-    ∙ s.numbers k j before from to le
+    ∙ c.numbers k j before from to le
+
+-- the links of a stage, all 0, suit as many heads as there is room for numbers
+pub stage_blank : (heads : ℕ) (found : List ℕ) → suits heads heads (3 * heads) ≡ true → length found ≡ heads
+    → Links (length found) (length found) (replicate (3 * heads) 0)
+    × (length (replicate {A = ℕ} (3 * heads) 0) ≡ length found + 2 * length found)
+stage_blank heads found fits long =
+    let zeros = length-replicate {A = ℕ} (3 * heads) 0 in (
+      subst (λ (h : ℕ). Links h h (replicate (3 * heads) 0)) (sym long) (zeros_links heads heads (3 * heads) fits),
+      omega (arith, zeros, long),
+    )
 
 module _ (g : Frame) (clauses : List Clause) (ok : Searchable g clauses) where
   abbrev pb : Problem
   pb = framed g clauses
 
   -- the number of heads does not matter
-  searchable_headed : (heads : ℕ) → Searchable (headed_by heads g) clauses
+  pub searchable_headed : (heads : ℕ) → Searchable (headed_by heads g) clauses
   searchable_headed heads =
       record {
         few = ok.few;
@@ -85,6 +103,10 @@ module _ (g : Frame) (clauses : List Clause) (ok : Searchable g clauses) where
     enough : q.filled ≤ length m.points
     enough = le_trans (midway_room at) room.points_room
 
+    pub stage_indexable : {heads : ℕ} {links : List ℕ} → Links heads heads links → q.filled ≤ heads
+        → Indexable heads g.permutations.variables q.filled m.points links
+    stage_indexable blank few = links_indexable blank (record { few = ok.few; enough = enough; most = few })
+
     indexed_points : take q.filled m.points ≡ points_in (at.front ++ at.back)
     indexed_points = held_points q.filled at.stands.holds at.stands.number
 
@@ -95,7 +117,7 @@ module _ (g : Frame) (clauses : List Clause) (ok : Searchable g clauses) where
         subst (λ (y : ℕ). y < 2 ^ g.permutations.variables) (sym w.2)
         (at.stands.invariants.filled.below w.0 w.1)
 
-    stage_linked : {heads first links : ℕ} {links' : List ℕ}
+    pub stage_linked : {heads first links : ℕ} {links' : List ℕ}
         → Sifts heads g.permutations.variables q.filled m.points first links'
         → length links' ≡ links → links ≡ 3 * heads → Linked (headed_by heads g) m links' q.filled
     stage_linked {heads} {links' = links'} s all three =
@@ -126,7 +148,8 @@ staged_explorable {g} {clauses} {m} {q} {earlier} blank {found} {links} sizes s 
       linked = stage_linked g clauses r.searchable r.midway r.lends sifts
           (same ∙ length-replicate {A = ℕ} links 0) (sizes.linked ∙ ap (λ (h : ℕ). 3 * h) (sym long));
       room = le_refl (length found);
-      numbers = numbers_carried blank found s carried;
+      numbers = numbers_carried clauses m q earlier blank found
+          (record { enough = s.enough; room = le_refl q.filled; numbers = s.numbers }) carried;
     }
 
 -- ---- stages behind one another
@@ -155,21 +178,71 @@ pub paused_answers : (g : Frame) (clauses : List Clause) {heads : ℕ} {m m' m''
     → Concludes (framed g clauses) g.room m' q' r m'' → Concludes (framed g clauses) g.room m q r m''
 paused_answers g clauses p next = walking_answers (framed g clauses) g.room p.walking next
 
--- ---- the first stage: the target stands in the first slot, in front of what was there
+module _ (g : Frame) (clauses : List Clause) (ok : Searchable g clauses) (heads : ℕ) (m : SlotSlices) (q : Position)
+    (result : Result Answer Position) (m' : SlotSlices) (found : List ℕ)
+    (e : Explores (headed_by heads g) clauses m q result m' found) where
+  -- a stage's answer is the search's
+  pub stage_answered : (a : Answer) → result ≡ Ok a → Concludes (framed g clauses) g.room m q (reply_of_answer a) m'
+  stage_answered a same =
+      subst (λ (r : Result Answer Position). Explores (headed_by heads g) clauses m q r m' found) same e
+
+  module _ (q' : Position) (same : result ≡ Err q') where
+    paused : Pauses (headed_by heads g) clauses m q m' found q'
+    paused = subst (λ (r : Result Answer Position). Explores (headed_by heads g) clauses m q r m' found) same e
+
+    pub stage_midway : Midway (framed g clauses) g.room m q → Midway (framed g clauses) g.room m' q'
+    stage_midway at = walking_midway (framed g clauses) g.room paused.walking at
+
+    pub stage_followed : {r : Reply} {m'' : SlotSlices} → Concludes (framed g clauses) g.room m' q' r m''
+        → Concludes (framed g clauses) g.room m q r m''
+    stage_followed next = paused_answers g clauses paused next
+
+    -- the stage behind it has more heads, and is handed the numbers
+    pub stage_carries : (more : ℕ) → heads ≤ length found → heads ≤ more → Carried clauses m' q' found more
+    stage_carries more long le =
+        record {
+          enough = le_trans paused.headed long;
+          room = le_trans paused.headed le;
+          numbers = paused.numbers;
+        }
+
+    -- with a head for each slot lent there is no pause
+    pub stage_roomy : g.room ≤ heads → ⊥
+    stage_roomy all = let lt = paused.outgrown in omega arith
+
+    -- so none with a head for each slot that can be lent
+    pub stage_last : max_slots ≤ heads → ⊥
+    stage_last all = stage_roomy (le_trans ok.most all)
+
+-- ---- the first stage: the target stands in the first slot
+
+module _ (g : Frame) (clauses : List Clause) (ok : Searchable g clauses) {old m : SlotSlices}
+    (h : Holds old (slot g.target 0 0 ∷ []) m) where
+  begun : Stands (framed g clauses) g.room old [] (slot g.target 0 0 ∷ []) m (position 0 1)
+  begun = record {
+    holds = h;
+    processed = refl;
+    number = refl;
+    invariants = invariants_start (framed g clauses) g.room ok.ready ok.some;
+  }
+
+  pub begun_midway : Midway (framed g clauses) g.room m (position 0 1)
+  begun_midway = record { old = old; front = []; back = slot g.target 0 0 ∷ []; stands = begun }
+
+  pub begun_ends : {r : Reply} {m' : SlotSlices} → Concludes (framed g clauses) g.room m (position 0 1) r m'
+      → Ended (framed g clauses) g.room old [] (slot g.target 0 0 ∷ []) r m'
+  begun_ends a = a old [] (slot g.target 0 0 ∷ []) begun
+
+-- it was stored there, in front of what was there
 
 module _ (g : Frame) (clauses : List Clause) (ok : Searchable g clauses) (points₀ points : List ℕ)
     {falsified₀ depths₀ falsified depths : List ℕ}
     (room : Lends g.room (slot_slices points₀ falsified₀ depths₀))
     (stored : Stored (slot_slices points₀ falsified₀ depths₀) 0 (slot g.target 0 0)
     (slot_slices points falsified depths)) where
-  begun : Stands (framed g clauses) g.room (slot_slices points₀ falsified₀ depths₀) [] (slot g.target 0 0 ∷ [])
-      (slot_slices points falsified depths) (position 0 1)
-  begun = record {
-    holds = held_first (lends_fewer ok.some room) stored;
-    processed = refl;
-    number = refl;
-    invariants = invariants_start (framed g clauses) g.room ok.ready ok.some;
-  }
+  begun_holds : Holds (slot_slices points₀ falsified₀ depths₀) (slot g.target 0 0 ∷ [])
+      (slot_slices points falsified depths)
+  begun_holds = held_first (lends_fewer ok.some room) stored
 
   -- no number is needed yet
   pub begun_staged : length points ≡ length points₀ → length falsified ≡ length falsified₀
@@ -180,18 +253,13 @@ module _ (g : Frame) (clauses : List Clause) (ok : Searchable g clauses) (points
         resumable = record {
           searchable = ok;
           lends = lends_still _ _ room p f d;
-          midway = record {
-            old = slot_slices points₀ falsified₀ depths₀;
-            front = [];
-            back = slot g.target 0 0 ∷ [];
-            stands = begun;
-          };
+          midway = begun_midway g clauses ok begun_holds;
         };
         enough = some;
         numbers = λ k j before from to le. absurd (not-suc-le-zero before);
       }
 
-  pub begun_ends : {r : Reply} {m' : SlotSlices}
+  pub begun_answers : {r : Reply} {m' : SlotSlices}
       → Concludes (framed g clauses) g.room (slot_slices points falsified depths) (position 0 1) r m'
       → Ended (framed g clauses) g.room (slot_slices points₀ falsified₀ depths₀) [] (slot g.target 0 0 ∷ []) r m'
-  begun_ends a = a (slot_slices points₀ falsified₀ depths₀) [] (slot g.target 0 0 ∷ []) begun
+  begun_answers a = begun_ends g clauses ok begun_holds a
