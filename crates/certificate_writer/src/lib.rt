@@ -9,6 +9,7 @@ ghost use Rattle.point_slices.specs.Slices.{points_of, slices_lent, slot_slices}
 ghost use Rattle.formula.specs.Limits.{max_variables, max_permutations, max_slots};
 ghost use Rattle.formula.specs.Laws.Contracts.{formula_lent};
 ghost use Rattle.formula.specs.Refusals.{fault_of};
+ghost use Rattle.formula.specs.Reply.{no_fault};
 ghost use Rattle.certificate.specs.Certificate.{certificate_length};
 ghost use Rattle.certificate_writer.specs.Contract.{Wrote};
 ghost use Rattle.check_distinct.specs.Laws.Indexing.{Counted};
@@ -37,7 +38,7 @@ fn slots_refusal(
     filled: u32,
 ) -> Result<(), Refusal>
     requires { Counted max_slots n lent (points_of points.now) }
-    ensures { fault_of result ≡ slots_fault lent n (numbered (clauses_lent clauses.entry)) filled
+    ensures { fault_of result ≡ slots_fault no_fault lent n (numbered (clauses_lent clauses.entry)) filled
         (points_of points.now) falsified.now }
 {
     let many = filled as usize;

@@ -1,8 +1,7 @@
 -- `search::search_refusal` meets its contract: rows 10 to 12, and then row 13. Assumes nothing.
 use Rattle.std.proofs.Common.{sym, ap, ◌∙◌}
 use Rattle.std.proofs.lemmas.Result.{err_from_is_err_and}
-use Rattle.search.specs.Laws.Accepted.{slot_complete}
-use Rattle.search.specs.Laws.SearchLaws.{fault_refused, fault_passed}
+use Rattle.search.specs.Laws.SearchLaws.{fault_refused, fault_passed, fault_none}
 use Rattle.search.specs.Search.{slot_fault}
 use Rattle.search.proofs.search_refusal.Goals as goal
 
@@ -16,4 +15,4 @@ unfolding slot_fault
 returns-then-lent-eq0 c = sym (fault_passed _ _ c.args.lent (sym c.in_ok-problem_refusal.ensures) ∙ ap slot_fault c.if-lent-eq0.true)
 
 pub returns : goal.returns
-returns c = sym (fault_passed _ _ c.args.lent (sym c.in_ok-problem_refusal.ensures) ∙ slot_complete c.args.lent c.if-lent-eq0.false)
+returns c = sym (fault_none _ _ c.args.lent (sym c.in_ok-problem_refusal.ensures) c.if-lent-eq0.false)

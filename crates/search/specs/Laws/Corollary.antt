@@ -1,6 +1,6 @@
 -- The sentences of demand 3 about the builder's result, in terms of what a call of `search` returns and leaves in the
 -- lent slices: each follows from the call's contract, the record `Searched`. Assumes nothing.
-use Rattle.std.specs.Prelude.{Result, Ok, Err, List, [], ◌≡◌, refl, ℕ, ◌≤◌, ◌^◌, length}
+use Rattle.std.specs.Prelude.{Result, Ok, Err, List, [], ◌∷◌, ◌≡◌, refl, ℕ, ◌≤◌, ◌^◌, get_or, length}
 use Rattle.std.proofs.Common.{sym, ap, ◌∙◌, subst}
 use Rattle.point_slices.specs.Slices.{ClauseSlices, SlotSlices}
 use Rattle.formula.specs.declared.Formula.{Formula}
@@ -15,49 +15,65 @@ use Rattle.search.specs.Laws.Left.{search_depths_left}
 use Rattle.search.specs.Search.{search_reply, search_slots}
 use Rattle.search.specs.Contract.{reply_of_outcome, reply_of_found, Searched}
 use Rattle.search.specs.declared.Found.{Found}
-use Rattle.search_step.specs.Conclusions.{reply_of_conclusion}
 use Rattle.search_step.specs.declared.Conclusion.{Conclusion}
 use Rattle.search_step.specs.declared.Conclusion.TheVariants.{Satisfiable, Unsatisfiable, Unknown}
+use Rattle.formula.specs.declared.reasons.Reason.{Reason}
+use Rattle.formula.specs.declared.reasons.Reason.TheVariants.{LongText, ProblemLine, Sizes, ClauseRoom, Word, Literal, ClauseCount, TargetLine, PermutationLine, Formula as FormulaRow}
+use Rattle.formula.specs.declared.reasons.Reason.TheVariants.{Permutation, Symmetry, NoSlot, CertificateFile, CertificateSizes, CertificatePoints, CertificateNumbers, CertificateFlips, OutputRoom}
 use Rattle.formula.specs.declared.reasons.Refusal.{Refusal}
 use Rattle.formula.specs.Reasons.{code_of}
 use Rattle.search.specs.Laws.Theorems.{search_nearest, search_slot, search_exactly, search_closed}
 use Rattle.search.specs.Laws.Theorems.{search_smallest-filled, search_smallest, search_bound, search_room_lent}
 
--- ---- a conclusion is known by its reply
+-- ---- an outcome is known by its reply
 
--- the conclusion that a reply of the builder comes from
-abbrev conclusion_of : Reply → Conclusion
-conclusion_of (satisfiable x d filled) = Satisfiable d filled
-conclusion_of (unsatisfiable filled) = Unsatisfiable filled
-conclusion_of (unknown b filled) = Unknown b filled
-conclusion_of (refused code place) = Unsatisfiable 0
-conclusion_of parsed = Unsatisfiable 0
-conclusion_of (written size) = Unsatisfiable 0
-conclusion_of opened = Unsatisfiable 0
-conclusion_of accepted = Unsatisfiable 0
+-- the reason for a row's number
+abbrev reason_of : ℕ → Reason
+reason_of k =
+    get_or (LongText ∷ LongText ∷ ProblemLine ∷ Sizes ∷ ClauseRoom ∷ Word ∷ Literal ∷ ClauseCount ∷ TargetLine ∷
+    PermutationLine ∷ FormulaRow ∷ Permutation ∷ Symmetry ∷ NoSlot ∷ CertificateFile ∷ CertificateSizes ∷
+    CertificatePoints ∷ CertificateNumbers ∷ CertificateFlips ∷ OutputRoom ∷ []) k LongText
 
-conclusion_back : (x : ℕ) (c : Conclusion) → conclusion_of (reply_of_conclusion x c) ≡ c
-conclusion_back x (Satisfiable d filled) = refl
-conclusion_back x (Unsatisfiable filled) = refl
-conclusion_back x (Unknown b filled) = refl
+reason_back : (r : Reason) → reason_of (code_of r) ≡ r
+reason_back LongText = refl
+reason_back ProblemLine = refl
+reason_back Sizes = refl
+reason_back ClauseRoom = refl
+reason_back Word = refl
+reason_back Literal = refl
+reason_back ClauseCount = refl
+reason_back TargetLine = refl
+reason_back PermutationLine = refl
+reason_back FormulaRow = refl
+reason_back Permutation = refl
+reason_back Symmetry = refl
+reason_back NoSlot = refl
+reason_back CertificateFile = refl
+reason_back CertificateSizes = refl
+reason_back CertificatePoints = refl
+reason_back CertificateNumbers = refl
+reason_back CertificateFlips = refl
+reason_back OutputRoom = refl
 
--- the reply of a conclusion is no refusal
-conclusion_stands : (x : ℕ) (c : Conclusion) (code place : ℕ) → reply_of_conclusion x c ≡ refused code place → ⊥
-conclusion_stands x (Satisfiable d filled) code place e = cc
-conclusion_stands x (Unsatisfiable filled) code place e = cc
-conclusion_stands x (Unknown b filled) code place e = cc
+-- the outcome that a reply of the builder comes from
+abbrev outcome_of : Reply → Result Conclusion Refusal
+outcome_of (refused code place) = Err (record { reason = reason_of code; place = place })
+outcome_of (satisfiable x d filled) = Ok (Satisfiable d filled)
+outcome_of (unsatisfiable filled) = Ok (Unsatisfiable filled)
+outcome_of (unknown b filled) = Ok (Unknown b filled)
+outcome_of parsed = Ok (Unsatisfiable 0)
+outcome_of (written size) = Ok (Unsatisfiable 0)
+outcome_of opened = Ok (Unsatisfiable 0)
+outcome_of accepted = Ok (Unsatisfiable 0)
 
--- an answer that is no refusal and has the reply of a conclusion is that conclusion
-same_outcome : (x : ℕ) (r : Result Conclusion Refusal) (c : Conclusion)
-    → reply_of_outcome x r ≡ reply_of_conclusion x c → r ≡ Ok c
-same_outcome x (Ok d) c e = ap Ok (sym (conclusion_back x d) ∙ ap conclusion_of e ∙ conclusion_back x c)
-same_outcome x (Err r) c e = absurd (conclusion_stands x c (code_of r.reason) r.place (sym e))
+outcome_back : (x : ℕ) (r : Result Conclusion Refusal) → outcome_of (reply_of_outcome x r) ≡ r
+outcome_back x (Ok (Satisfiable d filled)) = refl
+outcome_back x (Ok (Unsatisfiable filled)) = refl
+outcome_back x (Ok (Unknown b filled)) = refl
+outcome_back x (Err r) = ap (λ (why : Reason). Err (record { reason = why; place = r.place })) (reason_back r.reason)
 
--- an answer that is no refusal has the reply of none
-outcome_stands : (x : ℕ) (r : Result Conclusion Refusal) → ((e : Refusal) → r ≡ Err e → ⊥) → (code place : ℕ)
-    → reply_of_outcome x r ≡ refused code place → ⊥
-outcome_stands x (Ok c) ok code place e = conclusion_stands x c code place e
-outcome_stands x (Err e) ok code place h = ok e refl
+same_outcome : (x : ℕ) (r q : Result Conclusion Refusal) → reply_of_outcome x r ≡ reply_of_outcome x q → r ≡ q
+same_outcome x r q e = sym (outcome_back x r) ∙ ap outcome_of e ∙ outcome_back x q
 
 -- ---- the call
 
@@ -80,7 +96,7 @@ module _ (f : Formula) (clauses : ClauseSlices) (slots₀ : SlotSlices) (r : Fou
 
   module _ (ok : NotRefused) where
     not-refusal : (code place : ℕ) → reply_of_found r ≡ refused code place → ⊥
-    not-refusal = outcome_stands r.point r.answer ok
+    not-refusal code place e = ok _ (sym (outcome_back r.point r.answer) ∙ ap outcome_of e)
 
     -- the number reported is that of the slots filled
     pub outcome_reported : reported (reply_of_found r) ≡ length slots_of
@@ -114,9 +130,9 @@ module _ (f : Formula) (clauses : ClauseSlices) (slots₀ : SlotSlices) (r : Fou
         × (NoneSatisfies (problem_of f clauses) → r.answer ≡ Ok (Unsatisfiable (length slots_of)))
     outcome_exactly known =
         let w = search_exactly f clauses lent (reply_of_found r) (sym call.reply) not-refusal
-        (λ b filled e. known b filled (same_outcome r.point r.answer (Unknown b filled) e)) in (
+        (λ b filled e. known b filled (same_outcome r.point r.answer (Ok (Unknown b filled)) e)) in (
           λ filled e. w.0 filled (ap (reply_of_outcome r.point) e),
-          λ none. same_outcome r.point r.answer (Unsatisfiable (length slots_of)) (w.1 none),
+          λ none. same_outcome r.point r.answer (Ok (Unsatisfiable (length slots_of))) (w.1 none),
         )
 
   -- D3.1: "A choice handed back meets the rules, and every other choice that meets them differs from the client's wish

@@ -1,5 +1,5 @@
 -- Laws of the builder's answer: a refusal, and the search that is run where there is none. Assumes nothing.
-use Rattle.std.specs.Prelude.{Err, List, [], ◌∷◌, ◌≡◌, ℕ}
+use Rattle.std.specs.Prelude.{Result, Ok, Err, List, [], ◌∷◌, ◌≡◌, ℕ}
 use Rattle.std.proofs.Math.Path.{refl, sym, ap}
 use Rattle.std.proofs.Common.{◌∙◌, subst, le_trans, le_of_eq, arith}
 use Rattle.formula.specs.Laws.Contracts.{formula_lent, problem_fault}
@@ -8,15 +8,16 @@ use Rattle.point_slices.specs.Slices.{ClauseSlices, SlotSlices, clauses_of}
 use Rattle.permutation_theory.specs.Permutations.{permutations_in}
 use Rattle.formula.specs.declared.Formula.{Formula}
 use Rattle.formula.specs.declared.view.FormulaView.{FormulaView}
+use Rattle.formula.specs.declared.reasons.Reason.TheVariants.{NoSlot}
 use Rattle.formula.specs.declared.reasons.Refusal.{Refusal}
 use Rattle.formula.specs.Limits.{capacity}
 use Rattle.formula.specs.Problem.{problem_of}
 use Rattle.formula.specs.Laws.RefusalLaws.{formula_passes, formula_listed, permutation_passes, passes_few}
 use Rattle.formula.specs.Laws.RefusalLaws.{digits_suffice, fits_count}
-use Rattle.formula.specs.Refusals.{formula_fault, permutation_fault, symmetry_fault, refusal_fault}
+use Rattle.formula.specs.Refusals.{formula_fault, permutation_fault, symmetry_fault, fault_of, refusal_fault}
 use Rattle.formula.specs.Reply.{Reply, Fault, no_fault, fault, point_in}
 use Rattle.formula.specs.Laws.ReplyLaws.{first_last, first-after, first-before, unless-none}
-use Rattle.search.specs.Laws.Accepted.{rows, ready_of_faults, lent_of_faults, lent_few}
+use Rattle.search.specs.Laws.Accepted.{slot_complete, rows, ready_of_faults, lent_of_faults, lent_few}
 use Rattle.search.specs.Search.{slot_fault, search_fault, search_reply, search_slots, search_slices}
 use Rattle.search.specs.Contract.{reply_of_found, Searched}
 use Rattle.search_expansion.specs.declared.Frame.{Frame}
@@ -47,6 +48,10 @@ pub lent_room : (slots : SlotSlices) → Lends (capacity slots) slots
 unfolding capacity
 lent_room slots = record { points_room = omega arith; falsified_room = omega arith; depths_room = omega arith }
 
+-- a refusal, which hands back no point
+abbrev pub refusal : Refusal → Found
+refusal r = record { answer = Err r; point = 0 }
+
 module _ (f : Formula) (clauses : ClauseSlices) where
   -- N4: rows 10 to 12, and then row 13
   abbrev tests : List Fault
@@ -68,6 +73,11 @@ module _ (f : Formula) (clauses : ClauseSlices) where
   unfolding search_fault problem_fault problem_of
   fault_passed lent h = first-after tests (slot_fault lent ∷ []) h ∙ first_last (slot_fault lent)
 
+  -- the rows 10 to 12 passed, and a slot lent
+  pub fault_none : (lent : ℕ) → problem_fault f clauses ≡ no_fault → (lent ≡ 0 → ⊥)
+      → search_fault f clauses lent ≡ no_fault
+  fault_none lent h ne = fault_passed lent h ∙ slot_complete lent ne
+
   -- where no row refuses, the reply and the slices are those of the walk
   reply_of : (lent : ℕ) (r : Reply) → search_fault f clauses lent ≡ no_fault
       → (walked (problem_of f clauses) lent).reply ≡ r → r ≡ search_reply f clauses lent
@@ -83,9 +93,31 @@ module _ (f : Formula) (clauses : ClauseSlices) where
 
   -- "Every row leaves all lent slices unchanged"
   pub searched_refused : (slots : SlotSlices) (r : Refusal) → refusal_fault r ≡ search_fault f clauses (capacity slots)
-      → Searched f clauses slots (record { answer = Err r; point = 0 }) slots
+      → Searched f clauses slots (refusal r) slots
   unfolding search_reply search_slices point_in
   searched_refused slots r h = let e = sym h in record { reply = rw e; point = sym (rw e refl); slots = rw e }
+
+  module _ (slots : SlotSlices) (checked : Result Unit Refusal) (tested : fault_of checked ≡ problem_fault f clauses)
+      where
+    -- refusals 10 to 12
+    pub searched_faulty : (r : Refusal) → checked ≡ Err r → Searched f clauses slots (refusal r) slots
+    searched_faulty r e = searched_refused slots r
+        (sym (fault_refused (capacity slots) _ _ (sym tested ∙ ap fault_of e)))
+
+    module _ (passed : checked ≡ Ok tt) (k : ℕ) (room : k ≡ capacity slots) where
+      none : problem_fault f clauses ≡ no_fault
+      none = sym tested ∙ ap fault_of passed
+
+      -- R13
+      pub searched_none-lent : k ≡ 0
+          → Searched f clauses slots (refusal (record { reason = NoSlot; place = 0 })) slots
+      unfolding slot_fault
+      searched_none-lent z = searched_refused slots _
+          (sym (fault_passed (capacity slots) none ∙ ap slot_fault (sym room ∙ z)))
+
+      -- what `search_accepted` requires
+      pub accepted_of : (k ≡ 0 → ⊥) → search_fault f clauses (capacity slots) ≡ no_fault
+      accepted_of ne = fault_none (capacity slots) none (λ z. ne (room ∙ z))
 
 -- ---- the formula where it lies
 

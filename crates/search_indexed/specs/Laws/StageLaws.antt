@@ -1,6 +1,6 @@
 -- Laws of a stage: its links become an index of the filled points, the numbers found are carried into it, and the stage
 -- behind a paused one answers for both. Assumes nothing.
-use Rattle.std.specs.Prelude.{Result, Ok, Err, true, List, [], ◌∷◌, ◌++◌, ◌≡◌, refl, ℕ, ◌+◌, ◌*◌, ◌^◌, ◌≤◌, ◌<◌, length, get_or, take, drop, replicate}
+use Rattle.std.specs.Prelude.{Result, Ok, Err, List, [], ◌∷◌, ◌++◌, ◌≡◌, refl, ℕ, ◌+◌, ◌*◌, ◌^◌, ◌≤◌, ◌<◌, true, length, get_or, take, drop, replicate}
 use Rattle.std.proofs.Common.{sym, ap, ◌∙◌, subst, not-suc-le-zero, le_refl, le_trans, le_of_eq, lt_of_lt_of_le, arith, length-take-le, get_or-take}
 use Rattle.std.proofs.lemmas.List.{length-replicate}
 use Rattle.std.proofs.Math.ListN.{get_or-append}
@@ -21,8 +21,8 @@ use Rattle.search_expansion.specs.Laws.Memory.{Holds, Lends, Stored}
 use Rattle.search_level.specs.declared.Position.{Position}
 use Rattle.search_step.specs.Laws.Stepping.{framed, Searchable, Resumable, Linked, position, Stands, Midway}
 use Rattle.search_step.specs.Laws.Stepping.{Ended}
-use Rattle.search_loop.specs.Laws.Exploring.{Numbers, Pauses, Explorable, Explores, Concludes, reply_of_answer}
 use Rattle.search_loop.specs.declared.Answer.{Answer}
+use Rattle.search_loop.specs.Laws.Exploring.{reply_of_answer, Numbers, Pauses, Explorable, Explores, Concludes}
 use Rattle.search_loop.specs.Laws.WalkingLaws.{walking_midway, walking_answers, midway_room}
 
 -- the heads of the stages' indexes but for the last, which has one for each slot that can be lent
@@ -117,70 +117,15 @@ module _ (g : Frame) (clauses : List Clause) (ok : Searchable g clauses) where
         subst (λ (y : ℕ). y < 2 ^ g.permutations.variables) (sym w.2)
         (at.stands.invariants.filled.below w.0 w.1)
 
-    pub stage_linked : {heads first : ℕ} (links : List ℕ) {links' : List ℕ}
+    pub stage_linked : {heads first links : ℕ} {links' : List ℕ}
         → Sifts heads g.permutations.variables q.filled m.points first links'
-        → length links ≡ heads + 2 * heads → length links' ≡ length links
-        → Linked (headed_by heads g) m links' q.filled
-    stage_linked links s all same =
+        → length links' ≡ links → links ≡ 3 * heads → Linked (headed_by heads g) m links' q.filled
+    stage_linked {heads} {links' = links'} s all three =
         record {
           indexed = sifts_full enough narrow
               (subst Distinct (sym indexed_points) at.stands.invariants.filled.distinct) s;
-          linked = same ∙ all;
+          linked = let l : length links' ≡ heads + 2 * heads = omega (arith, all, three) in l;
         }
-
-  -- ---- stages behind one another
-
-  module _ (heads : ℕ) (m : SlotSlices) (q : Position) (stage : Result Answer Position) (m' : SlotSlices)
-      (found : List ℕ) (e : Explores (headed_by heads g) clauses m q stage m' found) where
-    pub stage_answered : (a : Answer) → stage ≡ Ok a → Concludes pb g.room m q (reply_of_answer a) m'
-    stage_answered a same =
-        subst (λ (s : Result Answer Position). Explores (headed_by heads g) clauses m q s m' found) same e
-
-    module _ (q' : Position) (same : stage ≡ Err q') where
-      paused : Pauses (headed_by heads g) clauses m q m' found q'
-      paused = subst (λ (s : Result Answer Position). Explores (headed_by heads g) clauses m q s m' found) same e
-
-      pub stage_midway : Midway pb g.room m q → Midway pb g.room m' q'
-      stage_midway at = walking_midway pb g.room paused.walking at
-
-      pub stage_followed : {r : Reply} {m'' : SlotSlices} → Concludes pb g.room m' q' r m''
-          → Concludes pb g.room m q r m''
-      stage_followed next = walking_answers pb g.room paused.walking next
-
-      -- the stage behind it has more heads, and is handed the numbers
-      pub stage_carries : (more : ℕ) → heads ≤ length found → heads ≤ more → Carried clauses m' q' found more
-      stage_carries more long le =
-          record {
-            enough = le_trans paused.headed long;
-            room = le_trans paused.headed le;
-            numbers = paused.numbers;
-          }
-
-      -- with a head for each slot lent there is no pause
-      pub stage_roomy : g.room ≤ heads → ⊥
-      stage_roomy all = let lt = paused.outgrown in omega arith
-
-      -- so none with a head for each slot that can be lent
-      pub stage_last : max_slots ≤ heads → ⊥
-      stage_last all = stage_roomy (le_trans ok.most all)
-
-  -- ---- the first stage: the target stands in the first slot
-
-  module _ {old m : SlotSlices} (h : Holds old (slot g.target 0 0 ∷ []) m) where
-    begun : Stands pb g.room old [] (slot g.target 0 0 ∷ []) m (position 0 1)
-    begun = record {
-      holds = h;
-      processed = refl;
-      number = refl;
-      invariants = invariants_start pb g.room ok.ready ok.some;
-    }
-
-    pub begun_midway : Midway pb g.room m (position 0 1)
-    begun_midway = record { old = old; front = []; back = slot g.target 0 0 ∷ []; stands = begun }
-
-    pub begun_ends : {r : Reply} {m' : SlotSlices} → Concludes pb g.room m (position 0 1) r m'
-        → Ended pb g.room old [] (slot g.target 0 0 ∷ []) r m'
-    begun_ends a = a old [] (slot g.target 0 0 ∷ []) begun
 
 -- ---- a stage
 
@@ -200,9 +145,8 @@ staged_explorable {g} {clauses} {m} {q} {earlier} blank {found} {links} sizes s 
         lends = r.lends;
         midway = r.midway;
       };
-      linked = stage_linked g clauses r.searchable r.midway r.lends (replicate links 0) sifts
-          (let k : length (replicate {A = ℕ} links 0) ≡ length found + 2 * length found = omega
-          (arith, length-replicate {A = ℕ} links 0, sizes.linked, long) in k) same;
+      linked = stage_linked g clauses r.searchable r.midway r.lends sifts
+          (same ∙ length-replicate {A = ℕ} links 0) (sizes.linked ∙ ap (λ (h : ℕ). 3 * h) (sym long));
       room = le_refl (length found);
       numbers = numbers_carried clauses m q earlier blank found
           (record { enough = s.enough; room = le_refl q.filled; numbers = s.numbers }) carried;
@@ -234,15 +178,71 @@ pub paused_answers : (g : Frame) (clauses : List Clause) {heads : ℕ} {m m' m''
     → Concludes (framed g clauses) g.room m' q' r m'' → Concludes (framed g clauses) g.room m q r m''
 paused_answers g clauses p next = walking_answers (framed g clauses) g.room p.walking next
 
--- ---- the first stage: the target is stored in the first slot, in front of what was there
+module _ (g : Frame) (clauses : List Clause) (ok : Searchable g clauses) (heads : ℕ) (m : SlotSlices) (q : Position)
+    (result : Result Answer Position) (m' : SlotSlices) (found : List ℕ)
+    (e : Explores (headed_by heads g) clauses m q result m' found) where
+  -- a stage's answer is the search's
+  pub stage_answered : (a : Answer) → result ≡ Ok a → Concludes (framed g clauses) g.room m q (reply_of_answer a) m'
+  stage_answered a same =
+      subst (λ (r : Result Answer Position). Explores (headed_by heads g) clauses m q r m' found) same e
+
+  module _ (q' : Position) (same : result ≡ Err q') where
+    paused : Pauses (headed_by heads g) clauses m q m' found q'
+    paused = subst (λ (r : Result Answer Position). Explores (headed_by heads g) clauses m q r m' found) same e
+
+    pub stage_midway : Midway (framed g clauses) g.room m q → Midway (framed g clauses) g.room m' q'
+    stage_midway at = walking_midway (framed g clauses) g.room paused.walking at
+
+    pub stage_followed : {r : Reply} {m'' : SlotSlices} → Concludes (framed g clauses) g.room m' q' r m''
+        → Concludes (framed g clauses) g.room m q r m''
+    stage_followed next = paused_answers g clauses paused next
+
+    -- the stage behind it has more heads, and is handed the numbers
+    pub stage_carries : (more : ℕ) → heads ≤ length found → heads ≤ more → Carried clauses m' q' found more
+    stage_carries more long le =
+        record {
+          enough = le_trans paused.headed long;
+          room = le_trans paused.headed le;
+          numbers = paused.numbers;
+        }
+
+    -- with a head for each slot lent there is no pause
+    pub stage_roomy : g.room ≤ heads → ⊥
+    stage_roomy all = let lt = paused.outgrown in omega arith
+
+    -- so none with a head for each slot that can be lent
+    pub stage_last : max_slots ≤ heads → ⊥
+    stage_last all = stage_roomy (le_trans ok.most all)
+
+-- ---- the first stage: the target stands in the first slot
+
+module _ (g : Frame) (clauses : List Clause) (ok : Searchable g clauses) {old m : SlotSlices}
+    (h : Holds old (slot g.target 0 0 ∷ []) m) where
+  begun : Stands (framed g clauses) g.room old [] (slot g.target 0 0 ∷ []) m (position 0 1)
+  begun = record {
+    holds = h;
+    processed = refl;
+    number = refl;
+    invariants = invariants_start (framed g clauses) g.room ok.ready ok.some;
+  }
+
+  pub begun_midway : Midway (framed g clauses) g.room m (position 0 1)
+  begun_midway = record { old = old; front = []; back = slot g.target 0 0 ∷ []; stands = begun }
+
+  pub begun_ends : {r : Reply} {m' : SlotSlices} → Concludes (framed g clauses) g.room m (position 0 1) r m'
+      → Ended (framed g clauses) g.room old [] (slot g.target 0 0 ∷ []) r m'
+  begun_ends a = a old [] (slot g.target 0 0 ∷ []) begun
+
+-- it was stored there, in front of what was there
 
 module _ (g : Frame) (clauses : List Clause) (ok : Searchable g clauses) (points₀ points : List ℕ)
     {falsified₀ depths₀ falsified depths : List ℕ}
     (room : Lends g.room (slot_slices points₀ falsified₀ depths₀))
     (stored : Stored (slot_slices points₀ falsified₀ depths₀) 0 (slot g.target 0 0)
     (slot_slices points falsified depths)) where
-  first_held : Holds (slot_slices points₀ falsified₀ depths₀) (slot g.target 0 0 ∷ []) (slot_slices points falsified depths)
-  first_held = held_first (lends_fewer ok.some room) stored
+  begun_holds : Holds (slot_slices points₀ falsified₀ depths₀) (slot g.target 0 0 ∷ [])
+      (slot_slices points falsified depths)
+  begun_holds = held_first (lends_fewer ok.some room) stored
 
   -- no number is needed yet
   pub begun_staged : length points ≡ length points₀ → length falsified ≡ length falsified₀
@@ -253,13 +253,13 @@ module _ (g : Frame) (clauses : List Clause) (ok : Searchable g clauses) (points
         resumable = record {
           searchable = ok;
           lends = lends_still _ _ room p f d;
-          midway = begun_midway g clauses ok first_held;
+          midway = begun_midway g clauses ok begun_holds;
         };
         enough = some;
         numbers = λ k j before from to le. absurd (not-suc-le-zero before);
       }
 
-  pub stored_ends : {r : Reply} {m' : SlotSlices}
+  pub begun_answers : {r : Reply} {m' : SlotSlices}
       → Concludes (framed g clauses) g.room (slot_slices points falsified depths) (position 0 1) r m'
       → Ended (framed g clauses) g.room (slot_slices points₀ falsified₀ depths₀) [] (slot g.target 0 0 ∷ []) r m'
-  stored_ends a = begun_ends g clauses ok first_held a
+  begun_answers a = begun_ends g clauses ok begun_holds a

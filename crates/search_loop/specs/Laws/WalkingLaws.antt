@@ -129,17 +129,19 @@ module _ {g : Frame} {clauses : List Clause} {m₀ : SlotSlices} {q₀ : Positio
 
 -- an answer, as the loop returns it
 pub explores_answer : (g : Frame) (clauses : List Clause) {m₀ m : SlotSlices} {q₀ : Position} (found : List ℕ)
-    (stage : Result Answer Position) (x y : ℕ) (a : Conclusion) → stage ≡ Ok (record { conclusion = a; point = x }) → x ≡ y
-    → Concludes (framed g clauses) g.room m₀ q₀ (reply_of_conclusion y a) m → Explores g clauses m₀ q₀ stage m found
-explores_answer g clauses {m₀} {m} {q₀} found stage x y a e same h =
+    (result : Result Answer Position) (x y : ℕ) (a : Conclusion)
+    → result ≡ Ok (record { conclusion = a; point = x }) → x ≡ y
+    → Concludes (framed g clauses) g.room m₀ q₀ (reply_of_conclusion y a) m
+    → Explores g clauses m₀ q₀ result m found
+explores_answer g clauses {m₀} {m} {q₀} found result x y a e same h =
     subst (λ s. Explores g clauses m₀ q₀ s m found) (sym e)
     (subst (λ z. Concludes (framed g clauses) g.room m₀ q₀ (reply_of_conclusion z a) m) (sym same) h)
 
 -- a pause
 pub explores_pause : (g : Frame) (clauses : List Clause) {m₀ m : SlotSlices} {q₀ : Position} (found : List ℕ)
-    (stage : Result Answer Position) (q : Position) → stage ≡ Err q → Explores g clauses m₀ q₀ (Err q) m found
-    → Explores g clauses m₀ q₀ stage m found
-explores_pause g clauses {m₀} {m} {q₀} found stage q e h =
+    (result : Result Answer Position) (q : Position) → result ≡ Err q
+    → Explores g clauses m₀ q₀ (Err q) m found → Explores g clauses m₀ q₀ result m found
+explores_pause g clauses {m₀} {m} {q₀} found result q e h =
     subst (λ s. Explores g clauses m₀ q₀ s m found) (sym e) h
 
 -- whether one more step might fill more slots, `most`, than there are heads: if so there are more slots than heads

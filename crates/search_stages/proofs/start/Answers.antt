@@ -3,7 +3,7 @@
 use Rattle.std.proofs.Common.{[], ◌∷◌, refl, le_trans, leb-true}
 use Rattle.formula.specs.Limits.{max_slots}
 use Rattle.search_indexed.specs.Laws.StageLaws.{tiny_heads, few_heads, paused_staged, paused_answers}
-use Rattle.search_indexed.specs.Laws.StageLaws.{begun_staged, stored_ends}
+use Rattle.search_indexed.specs.Laws.StageLaws.{begun_staged, begun_answers}
 use Rattle.search_stages.proofs.start.Goals as goal
 
 pub explore_stage-requires : goal.explore_stage-requires
@@ -23,7 +23,7 @@ second-requires c =
     (le_trans p.headed (leb-true tiny_heads few_heads refl), paused_staged _ _ p begun.resumable kept.points kept.falsified kept.depths kept.found)
 
 pub returns-in-Ok : goal.returns-in-Ok
-returns-in-Ok c = stored_ends _ _ c.requires.0 _ _ c.requires.1 c.fill.ensures c.in-Ok.ensures
+returns-in-Ok c = begun_answers _ _ c.requires.0 _ _ c.requires.1 c.fill.ensures c.in-Ok.ensures
 
 pub returns-in-Err : goal.returns-in-Err
-returns-in-Err c = stored_ends _ _ c.requires.0 _ _ c.requires.1 c.fill.ensures (paused_answers c.args.g _ c.in-Err.ensures c.second.ensures)
+returns-in-Err c = begun_answers _ _ c.requires.0 _ _ c.requires.1 c.fill.ensures (paused_answers c.args.g _ c.in-Err.ensures c.second.ensures)
