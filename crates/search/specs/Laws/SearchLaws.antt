@@ -98,26 +98,26 @@ module _ (f : Formula) (clauses : ClauseSlices) where
   searched_refused slots r h = let e = sym h in record { reply = rw e; point = sym (rw e refl); slots = rw e }
 
   module _ (slots : SlotSlices) (checked : Result Unit Refusal) (tested : fault_of checked ≡ problem_fault f clauses)
-      where
-    -- refusals 10 to 12
-    pub searched_faulty : (r : Refusal) → checked ≡ Err r → Searched f clauses slots (refusal r) slots
-    searched_faulty r e = searched_refused slots r
-        (sym (fault_refused (capacity slots) _ _ (sym tested ∙ ap fault_of e)))
+    where
+      -- refusals 10 to 12
+      pub searched_faulty : (r : Refusal) → checked ≡ Err r → Searched f clauses slots (refusal r) slots
+      searched_faulty r e = searched_refused slots r
+          (sym (fault_refused (capacity slots) _ _ (sym tested ∙ ap fault_of e)))
 
-    module _ (passed : checked ≡ Ok tt) (k : ℕ) (room : k ≡ capacity slots) where
-      none : problem_fault f clauses ≡ no_fault
-      none = sym tested ∙ ap fault_of passed
+      module _ (passed : checked ≡ Ok tt) (k : ℕ) (room : k ≡ capacity slots) where
+        none : problem_fault f clauses ≡ no_fault
+        none = sym tested ∙ ap fault_of passed
 
-      -- R13
-      pub searched_none-lent : k ≡ 0
-          → Searched f clauses slots (refusal (record { reason = NoSlot; place = 0 })) slots
-      unfolding slot_fault
-      searched_none-lent z = searched_refused slots _
-          (sym (fault_passed (capacity slots) none ∙ ap slot_fault (sym room ∙ z)))
+        -- R13
+        pub searched_none-lent : k ≡ 0
+            → Searched f clauses slots (refusal (record { reason = NoSlot; place = 0 })) slots
+        unfolding slot_fault
+        searched_none-lent z = searched_refused slots _
+            (sym (fault_passed (capacity slots) none ∙ ap slot_fault (sym room ∙ z)))
 
-      -- what `search_accepted` requires
-      pub accepted_of : (k ≡ 0 → ⊥) → search_fault f clauses (capacity slots) ≡ no_fault
-      accepted_of ne = fault_none (capacity slots) none (λ z. ne (room ∙ z))
+        -- what `search_accepted` requires
+        pub accepted_of : (k ≡ 0 → ⊥) → search_fault f clauses (capacity slots) ≡ no_fault
+        accepted_of ne = fault_none (capacity slots) none (λ z. ne (room ∙ z))
 
 -- ---- the formula where it lies
 
