@@ -1,33 +1,31 @@
 -- `certificate_writer::put_certificate` meets its contract: four parts, one behind the other. Assumes nothing.
-use Rattle.std.proofs.Common.{refl, ◌+◌, ◌*◌, ◌≤◌, arith, length}
+use Rattle.std.proofs.Common.{refl, List, ℕ, ◌+◌, ◌*◌, ◌≤◌, arith, length}
 use Rattle.certificate.specs.Bytes.{point_width, number_width}
 use Rattle.certificate.specs.Certificate.{certificate_length, contents_length}
+use Rattle.certificate_writer.specs.Laws.Parts.{Storable}
 use Rattle.certificate_writer.specs.Laws.PartsLaws.{certificate_stored}
-use Rattle.certificate_writer.proofs.put_certificate.Lts as lts
-use Rattle.certificate_writer.proofs.put_certificate.Reads as reads
-use Rattle.certificate_writer.proofs.put_certificate.Tie as tie
 use Rattle.certificate_writer.proofs.put_certificate.Goals as goal
 
 -- the room that is required, as a sum
-room : (c : lts.Start tie.the-claims reads.Pre reads.Post) → contents_length + c.args.permutations * c.args.n + c.args.filled * point_width
-    + c.args.filled * number_width ≤ length c.args.out.now
+room : {n a filled : ℕ} {images points falsified out : List ℕ} → Storable n a images points falsified filled out
+    → contents_length + a * n + filled * point_width + filled * number_width ≤ length out
 unfolding certificate_length
-room c = c.requires.room
+room s = s.room
 
 pub put_contents-requires : goal.put_contents-requires
-put_contents-requires c = (omega (arith, room c.before.before.before.before.before.before), refl, refl)
+put_contents-requires c = let all = room c.requires in (omega arith, refl, refl)
 
 pub put_bytes-requires : goal.put_bytes-requires
-put_bytes-requires c =
-    (omega (arith, room c.before.before.before.before.before.before.before.before.before.before, c.put_contents.auto.out), c.requires.images_held)
+put_bytes-requires c = let all = room c.requires in (omega (arith, c.put_contents.auto.out), c.requires.images_held)
 
 pub put_points-requires : goal.put_points-requires
 put_points-requires c =
-    (omega (arith, room c.before.before.before.before.before.before.before.before.before.before.before.before.before.before, c.put_contents.auto.out, c.put_bytes.auto.out), c.requires.points_held)
+    let all = room c.requires in (omega (arith, c.put_contents.auto.out, c.put_bytes.auto.out), c.requires.points_held)
 
 pub put_numbers-requires : goal.put_numbers-requires
 put_numbers-requires c =
-    (omega (arith, room c.before.before.before.before.before.before.before.before.before.before.before.before.before.before.before.before.before.before, c.put_contents.auto.out, c.put_bytes.auto.out, c.put_points.auto.out), c.requires.numbers_held)
+    let all = room c.requires in
+    (omega (arith, c.put_contents.auto.out, c.put_bytes.auto.out, c.put_points.auto.out), c.requires.numbers_held)
 
 pub returns : goal.returns
 returns c =

@@ -7,11 +7,11 @@ use Rattle.certificate.specs.Bytes.{bytes_of, field_width, point_width, number_w
 use Rattle.certificate.specs.Certificate.{fields_of, layout, certificate_length}
 use Rattle.certificate.specs.Rows.{points_fault, numbers_fault}
 
--- N5: rows 16 and 17, of the first count slots, behind what was found before
-unfoldable pub slots_fault : Fault → ℕ → ℕ → List Numbered → ℕ → List ℕ → List ℕ → Fault
+-- N5: rows 16 and 17, of the first count slots
+unfoldable pub slots_fault : ℕ → ℕ → List Numbered → ℕ → List ℕ → List ℕ → Fault
 unfolding first points_fault numbers_fault
-slots_fault earlier limit n clauses filled points falsified =
-    first (earlier ∷ points_fault limit n filled points ∷ numbers_fault clauses filled points falsified ∷ [])
+slots_fault limit n clauses filled points falsified =
+    first (points_fault limit n filled points ∷ numbers_fault clauses filled points falsified ∷ [])
 
 -- C3: "Bodies follow without gaps": the contents, then the bytes of the permutations as they stand, the points and the
 -- clause numbers

@@ -1,7 +1,6 @@
 -- Laws of the writer's steps: rows 16 and 17 in order, and four parts stored one behind the other. Assumes nothing.
 use mathlib.Core.List.{List, [], ◌∷◌, ◌++◌, flat_map}
 use Rattle.std.specs.Prelude.{◌≡◌, ℕ, ◌+◌, ◌*◌, ◌≤◌, length, take}
-use Rattle.std.proofs.Math.Path.{refl}
 use Rattle.std.proofs.Common.{sym, ap, ap₂, ◌∙◌, zero-le, zero-add, length-append, length-take-le}
 use Rattle.math.specs.Lists.{over, spliced}
 use Rattle.math.specs.Laws.SpliceLaws.{spliced-front}
@@ -21,31 +20,22 @@ use Rattle.certificate_writer.specs.Laws.Parts.{slots_fault, parts, Storable}
 
 -- ---- rows 16 and 17
 
-module _ (earlier : Fault) (limit n : ℕ) (clauses : List Numbered) (filled : ℕ) (points falsified : List ℕ) where
+module _ (limit n : ℕ) (clauses : List Numbered) (filled : ℕ) (points falsified : List ℕ) where
   abbrev sixteen : Fault
   sixteen = points_fault limit n filled points
 
   abbrev seventeen : Fault
   seventeen = numbers_fault clauses filled points falsified
 
-  -- what was found before is the answer
-  pub stops_earlier : IsFault earlier → earlier ≡ slots_fault earlier limit n clauses filled points falsified
+  -- what row 16 finds is the answer
+  pub stops_16 : (r : Fault) → r ≡ sixteen → IsFault r → r ≡ slots_fault limit n clauses filled points falsified
   unfolding slots_fault
-  stops_earlier h = answers-first earlier earlier (sixteen ∷ seventeen ∷ []) refl h
+  stops_16 r e h = answers-first r sixteen (seventeen ∷ []) e h
 
-  module _ (passed : earlier ≡ no_fault) (r : Fault) (tested : r ≡ sixteen) where
-    -- else what row 16 finds
-    pub stops_16 : IsFault r → r ≡ slots_fault earlier limit n clauses filled points falsified
-    unfolding slots_fault
-    stops_16 h = answers-rest r earlier (sixteen ∷ seventeen ∷ []) passed
-        (answers-first r sixteen (seventeen ∷ []) tested h)
-
-    -- and else what row 17 does
-    pub ends_17 : r ≡ no_fault → seventeen ≡ slots_fault earlier limit n clauses filled points falsified
-    unfolding slots_fault
-    ends_17 h =
-        answers-rest seventeen earlier (sixteen ∷ seventeen ∷ []) passed
-        (answers-rest seventeen sixteen (seventeen ∷ []) (sym tested ∙ h) (sym (first_last seventeen)))
+  -- else what row 17 does
+  pub ends_17 : no_fault ≡ sixteen → (r : Fault) → r ≡ seventeen → r ≡ slots_fault limit n clauses filled points falsified
+  unfolding slots_fault
+  ends_17 passed r e = answers-rest r sixteen (seventeen ∷ []) (sym passed) (e ∙ sym (first_last seventeen))
 
 -- ---- the stores
 

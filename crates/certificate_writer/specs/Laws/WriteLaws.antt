@@ -1,7 +1,7 @@
 -- Laws of the writer's answer, one for each way out: refusals 10 to 17, refusal 19, and a certificate; and of what row
 -- 16 requires. Assumes nothing.
-use Rattle.std.specs.Prelude.{List, [], ◌∷◌, ◌++◌, ◌≡◌, ℕ, ◌≤◌, ◌<◌, length}
-use Rattle.std.proofs.Math.Path.{sym, ap, ap₂}
+use Rattle.std.specs.Prelude.{Ok, Err, List, [], ◌∷◌, ◌++◌, ◌≡◌, ℕ, ◌≤◌, ◌<◌, length}
+use Rattle.std.proofs.Math.Path.{sym, ap}
 use Rattle.std.proofs.Common.{◌∙◌, le_of_eq, le_trans, arith}
 use Rattle.std.proofs.Math.ListN.{drop}
 use Rattle.math.specs.Lists.{over}
@@ -10,16 +10,15 @@ use Rattle.points.specs.Points.{numbered}
 use Rattle.point_slices.specs.Slices.{ClauseSlices, SlotSlices, clauses_of}
 use Rattle.permutation_theory.specs.Permutations.{Permutation, permutations_in}
 use Rattle.permutation_images.specs.Laws.LoopLaws.{length-permutations}
-use Rattle.formula.specs.declared.Checked.{Checked}
-use Rattle.formula.specs.declared.Checked.TheVariants.{Passed, Refused as Faulty}
+use Rattle.formula.specs.declared.reasons.Reason.TheVariants.{OutputRoom}
+use Rattle.formula.specs.declared.reasons.Refusal.{Refusal}
 use Rattle.formula.specs.declared.Formula.{Formula}
 use Rattle.formula.specs.Limits.{max_variables, max_permutations, max_slots, capacity, max_images}
 use Rattle.formula.specs.Problem.{problem_of}
 use Rattle.formula.specs.Laws.RefusalLaws.{formula_passes, passes_few, images_room, too_short, long_enough}
-use Rattle.formula.specs.Refusals.{formula_fault, permutation_fault, symmetry_fault, fault_of, room_fault}
-use Rattle.formula.specs.Reply.{Fault, no_fault, fault, first, written}
-use Rattle.formula.specs.Laws.ReplyLaws.{first_split, first_last, first-after, first-before, first_nested}
-use Rattle.certificate_writer.specs.declared.Written.TheVariants.{Bytes, Refused}
+use Rattle.formula.specs.Refusals.{formula_fault, permutation_fault, symmetry_fault, refusal_fault, room_fault}
+use Rattle.formula.specs.Reply.{Fault, no_fault, first, written}
+use Rattle.formula.specs.Laws.ReplyLaws.{first_split, first_last, first-after, first-before}
 use Rattle.certificate.specs.Certificate.{certificate_length}
 use Rattle.certificate.specs.Rows.{points_fault, numbers_fault}
 use Rattle.certificate.specs.Writer.{length_needed, write_fault, write_reply, certificate_of, write_output}
@@ -31,17 +30,14 @@ use Rattle.certificate_writer.specs.Laws.Parts.{slots_fault, parts, Storable}
 use Rattle.certificate_writer.specs.Laws.PartsLaws.{parts-encode}
 
 -- what row 16 requires where nothing was found before: few variables, and a point for each slot lent
-pub slots_counted : (f : Formula) (clauses : ClauseSlices) (earlier : Fault)
-    → earlier ≡ problem_fault f clauses
-    → (slots : SlotSlices) (limit : ℕ) → limit ≡ capacity slots → earlier ≡ no_fault
-    → Counted max_slots f.variables limit slots.points
+pub slots_counted : (f : Formula) (clauses : ClauseSlices) → no_fault ≡ problem_fault f clauses
+    → (slots : SlotSlices) (limit : ℕ) → limit ≡ capacity slots → Counted max_slots f.variables limit slots.points
 unfolding problem_fault problem_of capacity
-slots_counted f clauses earlier is slots limit lent passed =
+slots_counted f clauses passed slots limit lent =
     let es = permutations_in f.variables f.permutations f.images in
     let rest = permutation_fault f.variables es ∷ symmetry_fault (numbered (clauses_of clauses)) es ∷ [] in
     record {
-      few = (formula_passes f clauses (first_split (formula_fault f clauses) rest
-          (sym is ∙ passed)).0).0.few_variables;
+      few = (formula_passes f clauses (first_split (formula_fault f clauses) rest (sym passed)).0).0.few_variables;
       enough = omega arith;
       most = omega arith;
     }
@@ -71,31 +67,42 @@ module _ (f : Formula) (clauses : ClauseSlices) (slots : SlotSlices) (filled : �
   rows = write_rows f clauses slots filled out
 
   -- N1: "Every row leaves all lent slices unchanged"
-  refused_by : (code place : ℕ) → write_fault f clauses slots filled out ≡ fault code place
-      → Wrote f clauses slots filled out (Refused code place) out
+  refused_by : (r : Refusal) → write_fault f clauses slots filled out ≡ refusal_fault r
+      → Wrote f clauses slots filled out (Err r) out
   unfolding write_reply write_output reply_of_written
-  refused_by code place h = record { reply = rw h; output = rw h }
+  refused_by r h = record { reply = rw h; output = rw h }
 
-  module _ (earlier : Fault) (problem-tested : earlier ≡ problem_fault f clauses) (limit : ℕ)
-      (limit_is : limit ≡ lent) (promised : Checked)
-      (slots-tested : fault_of promised ≡ slots_fault earlier limit f.variables (numbered (clauses_of clauses))
-      filled slots.points slots.falsified) where
-    all_tested : first (problem_tests ++ slot_tests) ≡ fault_of promised
+  -- a test before the last decides
+  refused_before : (r : Refusal) → first (problem_tests ++ slot_tests) ≡ refusal_fault r
+      → Wrote f clauses slots filled out (Err r) out
+  refused_before r h = refused_by r (rows ∙ first-before (problem_tests ++ slot_tests) (room_test ∷ []) _ _ h)
+
+  -- refusals 10 to 12
+  pub wrote_problem : (r : Refusal) → refusal_fault r ≡ problem_fault f clauses
+      → Wrote f clauses slots filled out (Err r) out
+  unfolding problem_fault problem_of
+  wrote_problem r e = refused_before r (first-before problem_tests slot_tests _ _ (sym e))
+
+  module _ (problem-passed : no_fault ≡ problem_fault f clauses) (limit : ℕ) (limit_is : limit ≡ lent) where
+    -- behind them the slots decide
+    slots_decide : first (problem_tests ++ slot_tests)
+        ≡ slots_fault limit f.variables (numbered (clauses_of clauses)) filled slots.points slots.falsified
     unfolding problem_fault problem_of slots_fault
-    all_tested =
-        sym (slots-tested ∙ ap₂ (λ (t : Fault) (k : ℕ). slots_fault t k f.variables
-        (numbered (clauses_of clauses)) filled slots.points slots.falsified) problem-tested limit_is
-        ∙ first_nested problem_tests slot_tests)
+    slots_decide =
+        first-after problem_tests slot_tests (sym problem-passed)
+        ∙ ap (λ (k : ℕ). slots_fault k f.variables (numbered (clauses_of clauses)) filled slots.points slots.falsified)
+        (sym limit_is)
 
-    -- refusals 10 to 17
-    pub wrote_faulty : (code place : ℕ) → promised ≡ Faulty code place
-        → Wrote f clauses slots filled out (Refused code place) out
-    wrote_faulty code place e = refused_by code place (rows
-        ∙ first-before (problem_tests ++ slot_tests) (room_test ∷ []) code place (all_tested ∙ ap fault_of e))
+    -- refusals 16 and 17
+    pub wrote_slots : (r : Refusal)
+        → refusal_fault r ≡ slots_fault limit f.variables (numbered (clauses_of clauses)) filled slots.points slots.falsified
+        → Wrote f clauses slots filled out (Err r) out
+    wrote_slots r e = refused_before r (slots_decide ∙ sym e)
 
-    module _ (fine : promised ≡ Passed) where
+    module _ (slots-passed : no_fault ≡ slots_fault limit f.variables (numbered (clauses_of clauses))
+        filled slots.points slots.falsified) where
       all_sound : first (problem_tests ++ slot_tests) ≡ no_fault
-      all_sound = all_tested ∙ ap fault_of fine
+      all_sound = slots_decide ∙ sym slots-passed
 
       row10 : formula_fault f clauses ≡ no_fault
       row10 = (first_split _ _ all_sound).0
@@ -144,9 +151,9 @@ module _ (f : Formula) (clauses : ClauseSlices) (slots : SlotSlices) (filled : �
 
         -- refusal 19
         pub wrote_too_short : length out < size
-            → Wrote f clauses slots filled out (Refused 19 size) out
+            → Wrote f clauses slots filled out (Err (record { reason = OutputRoom; place = size })) out
         wrote_too_short h =
-            refused_by 19 size (rows ∙ first-after (problem_tests ++ slot_tests) (room_test ∷ []) all_sound
+            refused_by _ (rows ∙ first-after (problem_tests ++ slot_tests) (room_test ∷ []) all_sound
             ∙ first_last room_test ∙ ap (λ (k : ℕ). room_fault k (length out)) (sym size-needed)
             ∙ too_short size (length out) h)
 
@@ -190,7 +197,7 @@ module _ (f : Formula) (clauses : ClauseSlices) (slots : SlotSlices) (filled : �
               → after ≡ over (parts f.variables f.clauses f.permutations f.images slots.points
               slots.falsified filled)
               out
-              → Wrote f clauses slots filled out (Bytes size) after
+              → Wrote f clauses slots filled out (Ok size) after
           unfolding over reply_of_written length_needed problem_of
           wrote_all after e =
               record {
