@@ -16,32 +16,35 @@ use search_expansion::Frame;
 use search_level::Position;
 use search_loop::{Answer, explore};
 
-// The numbers found for the first `count` slots, from one stage to the next. The stages see to the room.
-pub fn carry(earlier: &[u16], found: &mut [u16], count: usize)
+// The numbers found for the first `count` slots, from one stage to the next. `explore_stage` sees to the room.
+fn carry(earlier: &[u16], found: &mut [u16], count: usize)
     requires { (count ≤ length earlier.now) × (count ≤ length found.old) }
     ensures { found.new ≡ over (take count earlier.now) found.old }
 {
     found[..count].copy_from_slice(&earlier[..count]);
 }
 
-// Explores from a position on with an index of as many points as there is room for numbers, made here of those filled:
-// one look-up each. The stack holds its links while it runs, and no longer. The stages see to what it requires.
+// Explores as one stage does, from a position on: with the numbers found that the stage before hands on, and an index of
+// as many points as there is room for numbers, made here of those filled, one look-up each. The stack holds its links
+// while it runs, and no longer. The stages see to what it requires.
 #[inline(never)]
-pub fn explore_indexed<const LINKS: usize>(
+pub fn explore_stage<const LINKS: usize>(
     g: Frame<'_>,
     clauses: Clauses<'_>,
     points: &mut [u64],
     falsified: &mut [u32],
     depths: &mut [Depth],
+    earlier: &[u16],
     found: &mut [u16],
     from: Position,
 ) -> Result<Answer, Position>
-    requires { Sizes (length found.old) LINKS
-        × Staged g (clauses_lent clauses) (slot_slices points.old falsified.old depths.old) from found.old }
+    requires { Sizes (length found.old) LINKS × (from.filled ≤ length found.old)
+        × Staged g (clauses_lent clauses) (slot_slices points.old falsified.old depths.old) from earlier.now }
     ensures { Explores (headed_by (length found.old) g.entry) (clauses_lent clauses.entry)
         (slot_slices points.old falsified.old depths.old) from result
         (slot_slices points.new falsified.new depths.new) found.new }
 {
+    carry(earlier, found, from.filled);
     let mut links = [0u32; LINKS];
     let headed = Frame {
         heads: found.len(),

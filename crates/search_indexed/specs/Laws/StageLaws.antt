@@ -7,18 +7,17 @@ use Rattle.std.proofs.Math.ListN.{get_or-append}
 use Rattle.points.specs.Points.{Clause}
 use Rattle.math.specs.Laws.ListLaws.{map_out}
 use Rattle.math.specs.Lists.{◌∈◌, Distinct, over}
-use Rattle.point_slices.specs.Slices.{SlotSlices}
+use Rattle.point_slices.specs.Slices.{SlotSlices, slot_slices}
 use Rattle.formula.specs.Limits.{max_slots}
 use Rattle.formula.specs.Problem.{Problem}
 use Rattle.formula.specs.Reply.{Reply}
 use Rattle.search_theory.specs.Laws.InvariantLaws.{invariants_start}
 use Rattle.search_theory.specs.Walk.{Slot, slot, points_in}
-use Rattle.point_index.specs.Laws.IndexLaws.{zeros-replicate}
-use Rattle.check_distinct.specs.Laws.Indexing.{Indexable, Links, Sifts}
-use Rattle.check_distinct.specs.Laws.IndexingLaws.{links_indexable, sifts_full}
+use Rattle.check_distinct.specs.Laws.Indexing.{Sifts}
+use Rattle.check_distinct.specs.Laws.IndexingLaws.{sifts_full}
 use Rattle.search_expansion.specs.declared.Frame.{Frame}
-use Rattle.search_expansion.specs.Laws.FillingLaws.{held_points}
-use Rattle.search_expansion.specs.Laws.Memory.{Holds, Lends}
+use Rattle.search_expansion.specs.Laws.FillingLaws.{held_points, held_first, lends_fewer, lends_still}
+use Rattle.search_expansion.specs.Laws.Memory.{Lends, Stored}
 use Rattle.search_level.specs.declared.Position.{Position}
 use Rattle.search_step.specs.Laws.Stepping.{framed, Searchable, Resumable, Linked, position, Stands, Midway}
 use Rattle.search_step.specs.Laws.Stepping.{Ended}
@@ -52,32 +51,16 @@ pub record Staged (g : Frame) (clauses : List Clause) (m : SlotSlices) (q : Posi
   pub numbers : Numbers clauses m q found
 
 -- the numbers are at hand in the stage's own array
-pub staged_carried : {g : Frame} {clauses : List Clause} {m : SlotSlices} {q : Position} {earlier : List ℕ}
-    (blank found : List ℕ) → Staged g clauses m q earlier → q.filled ≤ length found
-    → found ≡ over (take q.filled earlier) blank → Staged g clauses m q found
+numbers_carried : {g : Frame} {clauses : List Clause} {m : SlotSlices} {q : Position} {earlier : List ℕ}
+    (blank found : List ℕ) → Staged g clauses m q earlier → found ≡ over (take q.filled earlier) blank
+    → Numbers clauses m q found
 unfolding over
-staged_carried {q = q} {earlier} blank found s enough e =
-    record {
-      resumable = s.resumable;
-      enough = enough;
-      numbers = λ k j before from to le.
-          ap (λ l. get_or l k 0) e
-          ∙ get_or-append (take q.filled earlier) (drop (length (take q.filled earlier)) blank) 0 k
-          (lt_of_lt_of_le to (le_of_eq (sym (length-take-le q.filled earlier s.enough))))
-          ∙ get_or-take q.filled earlier k 0 to
-          ∙ s.numbers k j before from to le;
-    }
-
--- the links of a stage, all 0
-pub stage_links : {heads links : ℕ} → Sizes heads links → Links heads heads (replicate links 0)
-stage_links {heads} {links} s =
-    let most = s.most in
-    record {
-      headed = (s.some, omega arith);
-      most_slots = s.most;
-      room = omega (arith, s.linked, length-replicate {A = ℕ} links 0);
-      zeros = zeros-replicate links;
-    }
+numbers_carried {q = q} {earlier} blank found s e k j before from to le =
+    ap (λ l. get_or l k 0) e
+    ∙ get_or-append (take q.filled earlier) (drop (length (take q.filled earlier)) blank) 0 k
+    (lt_of_lt_of_le to (le_of_eq (sym (length-take-le q.filled earlier s.enough))))
+    ∙ get_or-take q.filled earlier k 0 to
+    ∙ s.numbers k j before from to le
 
 module _ (g : Frame) (clauses : List Clause) (ok : Searchable g clauses) where
   abbrev pb : Problem
@@ -98,13 +81,9 @@ module _ (g : Frame) (clauses : List Clause) (ok : Searchable g clauses) where
 
   -- ---- the index of the filled points
 
-  module _ {heads : ℕ} {m : SlotSlices} {q : Position} {links : List ℕ} (at : Midway pb g.room m q)
-      (room : Lends g.room m) (blank : Links heads heads links) (few : q.filled ≤ heads) where
+  module _ {m : SlotSlices} {q : Position} (at : Midway pb g.room m q) (room : Lends g.room m) where
     enough : q.filled ≤ length m.points
     enough = le_trans (midway_room at) room.points_room
-
-    stage_indexable : Indexable heads g.permutations.variables q.filled m.points links
-    stage_indexable = links_indexable blank (record { few = ok.few; enough = enough; most = few })
 
     indexed_points : take q.filled m.points ≡ points_in (at.front ++ at.back)
     indexed_points = held_points q.filled at.stands.holds at.stands.number
@@ -116,59 +95,57 @@ module _ (g : Frame) (clauses : List Clause) (ok : Searchable g clauses) where
         subst (λ (y : ℕ). y < 2 ^ g.permutations.variables) (sym w.2)
         (at.stands.invariants.filled.below w.0 w.1)
 
-    stage_linked : {first : ℕ} {links' : List ℕ}
+    stage_linked : {heads first links : ℕ} {links' : List ℕ}
         → Sifts heads g.permutations.variables q.filled m.points first links'
-        → length links ≡ heads + 2 * heads → length links' ≡ length links
-        → Linked (headed_by heads g) m links' q.filled
-    stage_linked s all same =
+        → length links' ≡ links → links ≡ 3 * heads → Linked (headed_by heads g) m links' q.filled
+    stage_linked {heads} {links' = links'} s all three =
         record {
           indexed = sifts_full enough narrow
               (subst Distinct (sym indexed_points) at.stands.invariants.filled.distinct) s;
-          linked = same ∙ all;
+          linked = let l : length links' ≡ heads + 2 * heads = omega (arith, all, three) in l;
         }
 
 -- ---- a stage
 
-module _ {g : Frame} {clauses : List Clause} {m : SlotSlices} {q : Position} {found : List ℕ} {links : ℕ}
-    (sizes : Sizes (length found) links) (s : Staged g clauses m q found) where
-  pub staged_indexable : Indexable (length found) g.permutations.variables q.filled m.points (replicate links 0)
-  staged_indexable = stage_indexable g clauses s.resumable.searchable s.resumable.midway s.resumable.lends
-      (stage_links sizes) s.enough
-
-  -- the index made, exploring can begin
-  pub staged_explorable : {first : ℕ} {links' : List ℕ}
-      → Sifts (length found) g.permutations.variables q.filled m.points first links'
-      → length links' ≡ length (replicate {A = ℕ} links 0)
-      → Explorable (headed_by (length found) g) clauses m links' found q
-  staged_explorable sifts same =
-      let r = s.resumable in
-      let zeros = length-replicate {A = ℕ} links 0 in
-      record {
-        resumable = record {
-          searchable = searchable_headed g clauses r.searchable (length found);
-          lends = r.lends;
-          midway = r.midway;
-        };
-        linked = stage_linked g clauses r.searchable r.midway r.lends (stage_links sizes) s.enough sifts
-            (omega (arith, zeros, sizes.linked)) same;
-        room = le_refl (length found);
-        numbers = s.numbers;
-      }
+-- the numbers carried and the index made, exploring can begin
+pub staged_explorable : {g : Frame} {clauses : List Clause} {m : SlotSlices} {q : Position}
+    {earlier : List ℕ} (blank : List ℕ) {found : List ℕ} {links first : ℕ} {links' : List ℕ}
+    → Sizes (length blank) links → Staged g clauses m q earlier → length found ≡ length blank
+    → found ≡ over (take q.filled earlier) blank
+    → Sifts (length found) g.permutations.variables q.filled m.points first links'
+    → length links' ≡ length (replicate {A = ℕ} links 0)
+    → Explorable (headed_by (length found) g) clauses m links' found q
+staged_explorable {g} {clauses} {m} {q} {earlier} blank {found} {links} sizes s long carried sifts same =
+    let r = s.resumable in
+    record {
+      resumable = record {
+        searchable = searchable_headed g clauses r.searchable (length found);
+        lends = r.lends;
+        midway = r.midway;
+      };
+      linked = stage_linked g clauses r.searchable r.midway r.lends sifts
+          (same ∙ length-replicate {A = ℕ} links 0) (sizes.linked ∙ ap (λ (h : ℕ). 3 * h) (sym long));
+      room = le_refl (length found);
+      numbers = numbers_carried blank found s carried;
+    }
 
 -- ---- stages behind one another
 
 -- the stage behind a pause begins with what the paused one left
-pub paused_staged : {g : Frame} {clauses : List Clause} {heads : ℕ} {m m' : SlotSlices} {q q' : Position}
-    {found : List ℕ} → Pauses (headed_by heads g) clauses m q m' found q' → Resumable g clauses m q → Lends g.room m'
-    → heads ≤ length found → Staged g clauses m' q' found
-paused_staged {g} {clauses} p r lends long =
+pub paused_staged : {g : Frame} {clauses : List Clause} (points₀ points : List ℕ)
+    {falsified₀ depths₀ falsified depths found : List ℕ} {q q' : Position} {heads : ℕ}
+    → Pauses (headed_by heads g) clauses (slot_slices points₀ falsified₀ depths₀) q
+    (slot_slices points falsified depths) found q' → Resumable g clauses (slot_slices points₀ falsified₀ depths₀) q
+    → length points ≡ length points₀ → length falsified ≡ length falsified₀ → length depths ≡ length depths₀
+    → length found ≡ heads → Staged g clauses (slot_slices points falsified depths) q' found
+paused_staged {g} {clauses} _ _ p r points falsified depths long =
     record {
       resumable = record {
         searchable = r.searchable;
-        lends = lends;
+        lends = lends_still _ _ r.lends points falsified depths;
         midway = walking_midway (framed g clauses) g.room p.walking r.midway;
       };
-      enough = le_trans p.headed long;
+      enough = le_trans p.headed (le_of_eq (sym long));
       numbers = p.numbers;
     }
 
@@ -178,36 +155,43 @@ pub paused_answers : (g : Frame) (clauses : List Clause) {heads : ℕ} {m m' m''
     → Concludes (framed g clauses) g.room m' q' r m'' → Concludes (framed g clauses) g.room m q r m''
 paused_answers g clauses p next = walking_answers (framed g clauses) g.room p.walking next
 
--- there are fewer heads than slots that can be lent
-pub paused_fewer : {g : Frame} {clauses : List Clause} {heads : ℕ} {m m' : SlotSlices} {q q' : Position}
-    {found : List ℕ} → Pauses (headed_by heads g) clauses m q m' found q' → Searchable g clauses → heads < max_slots
-paused_fewer p ok = lt_of_lt_of_le p.outgrown ok.most
+-- ---- the first stage: the target stands in the first slot, in front of what was there
 
--- ---- the first stage: the target stands in the first slot
-
-module _ (g : Frame) (clauses : List Clause) (ok : Searchable g clauses) {old m : SlotSlices}
-    (h : Holds old (slot g.target 0 0 ∷ []) m) where
-  begun : Stands (framed g clauses) g.room old [] (slot g.target 0 0 ∷ []) m (position 0 1)
+module _ (g : Frame) (clauses : List Clause) (ok : Searchable g clauses) (points₀ points : List ℕ)
+    {falsified₀ depths₀ falsified depths : List ℕ}
+    (room : Lends g.room (slot_slices points₀ falsified₀ depths₀))
+    (stored : Stored (slot_slices points₀ falsified₀ depths₀) 0 (slot g.target 0 0)
+    (slot_slices points falsified depths)) where
+  begun : Stands (framed g clauses) g.room (slot_slices points₀ falsified₀ depths₀) [] (slot g.target 0 0 ∷ [])
+      (slot_slices points falsified depths) (position 0 1)
   begun = record {
-    holds = h;
+    holds = held_first (lends_fewer ok.some room) stored;
     processed = refl;
     number = refl;
     invariants = invariants_start (framed g clauses) g.room ok.ready ok.some;
   }
 
   -- no number is needed yet
-  pub begun_staged : Lends g.room m → (found : List ℕ) → 1 ≤ length found → Staged g clauses m (position 0 1) found
-  begun_staged lends found enough =
+  pub begun_staged : length points ≡ length points₀ → length falsified ≡ length falsified₀
+      → length depths ≡ length depths₀ → (found : List ℕ) → 1 ≤ length found
+      → Staged g clauses (slot_slices points falsified depths) (position 0 1) found
+  begun_staged p f d found some =
       record {
         resumable = record {
           searchable = ok;
-          lends = lends;
-          midway = record { old = old; front = []; back = slot g.target 0 0 ∷ []; stands = begun };
+          lends = lends_still _ _ room p f d;
+          midway = record {
+            old = slot_slices points₀ falsified₀ depths₀;
+            front = [];
+            back = slot g.target 0 0 ∷ [];
+            stands = begun;
+          };
         };
-        enough = enough;
+        enough = some;
         numbers = λ k j before from to le. absurd (not-suc-le-zero before);
       }
 
-  pub begun_ends : {r : Reply} {m' : SlotSlices} → Concludes (framed g clauses) g.room m (position 0 1) r m'
-      → Ended (framed g clauses) g.room old [] (slot g.target 0 0 ∷ []) r m'
-  begun_ends a = a old [] (slot g.target 0 0 ∷ []) begun
+  pub begun_ends : {r : Reply} {m' : SlotSlices}
+      → Concludes (framed g clauses) g.room (slot_slices points falsified depths) (position 0 1) r m'
+      → Ended (framed g clauses) g.room (slot_slices points₀ falsified₀ depths₀) [] (slot g.target 0 0 ∷ []) r m'
+  begun_ends a = a (slot_slices points₀ falsified₀ depths₀) [] (slot g.target 0 0 ∷ []) begun

@@ -9,7 +9,8 @@ use Rattle.search_expansion.specs.declared.Frame.{Frame}
 use Rattle.search_expansion.specs.Laws.Filling.{SlotsIndexed}
 use Rattle.search_level.specs.Laws.Testing.{Found}
 use Rattle.search_level.specs.declared.Position.{Position}
-use Rattle.search_step.specs.Laws.Stepping.{reply_of_conclusion, framed, Resumable, Linked, Stands, GoesOn, Ended}
+use Rattle.search_step.specs.Conclusions.{reply_of_conclusion}
+use Rattle.search_step.specs.Laws.Stepping.{framed, Resumable, Linked, Stands, GoesOn, Ended}
 use Rattle.search_loop.specs.declared.Answer.{Answer}
 
 -- F10: what the code's answer says in document 01's terms

@@ -13,7 +13,8 @@ use Rattle.search_level.specs.declared.Position.{Position}
 use Rattle.search_expansion.specs.declared.Frame.{Frame}
 use Rattle.search_expansion.specs.Laws.Filling.{Headed}
 use Rattle.search_expansion.specs.Laws.Memory.{Holds, SameSizes}
-use Rattle.search_step.specs.Laws.Stepping.{reply_of_conclusion, framed, Linked, StillLinked, position, next_point, Midway}
+use Rattle.search_step.specs.Conclusions.{reply_of_conclusion}
+use Rattle.search_step.specs.Laws.Stepping.{framed, Linked, StillLinked, position, next_point, Midway}
 use Rattle.search_step.specs.Laws.Stepping.{After, Steps, StillThere, Processable}
 use Rattle.search_step.specs.Laws.SteppingLaws.{next_narrow}
 use Rattle.permutation_coverage.specs.Laws.Coverage.{Imaged}

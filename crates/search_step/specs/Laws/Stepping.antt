@@ -5,9 +5,9 @@ use Rattle.points.specs.Points.{Clause, numbered, NoneSatisfies}
 use Rattle.permutation_coverage.specs.Laws.Coverage.{Permuting, Imaged}
 use Rattle.formula.specs.Limits.{max_variables, max_clauses, max_permutations, max_slots}
 use Rattle.formula.specs.Problem.{Problem}
-use Rattle.formula.specs.Reply.{Reply, satisfiable, unsatisfiable, unknown}
+use Rattle.formula.specs.Reply.{Reply}
 use Rattle.search_step.specs.declared.Conclusion.{Conclusion}
-use Rattle.search_step.specs.declared.Conclusion.TheVariants.{Satisfiable, Unsatisfiable, Unknown}
+use Rattle.search_step.specs.Conclusions.{reply_of_conclusion}
 use Rattle.search_expansion.specs.declared.Frame.{Frame}
 use Rattle.search_level.specs.declared.Position.{Position}
 use Rattle.search_level.specs.Laws.Testing.{number_for}
@@ -17,12 +17,6 @@ use Rattle.point_slices.specs.Slices.{SlotSlices}
 use Rattle.search_expansion.specs.Laws.Memory.{Holds, Lends}
 use Rattle.search_theory.specs.Laws.Invariants.{Ready, Invariants}
 use Rattle.search_theory.specs.Walk.{Slot, state, tested, Walks}
-
--- F10: what the code's answer says in document 01's terms, beside the point handed back
-abbrev pub reply_of_conclusion : ℕ → Conclusion → Reply
-reply_of_conclusion x (Satisfiable d filled) = satisfiable x d filled
-reply_of_conclusion x (Unsatisfiable filled) = unsatisfiable filled
-reply_of_conclusion x (Unknown b filled) = unknown b filled
 
 -- the problem that the frame and the clauses make
 abbrev pub framed : Frame → List Clause → Problem
