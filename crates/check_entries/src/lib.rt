@@ -9,7 +9,7 @@ ghost use Rattle.permutation_images.specs.Laws.Contracts.{permutations_of};
 ghost use Rattle.formula.specs.Limits.{max_slots};
 ghost use Rattle.formula.specs.Refusals.{fault_of};
 ghost use Rattle.check_distinct.specs.Laws.Indexing.{suits};
-ghost use Rattle.check_entries.specs.Laws.Entries.{lists_fault, bodies_fault, Ready, Decodable, Lent};
+ghost use Rattle.check_entries.specs.Laws.Entries.{lists_fault, decoded_fault, Ready, Decodable, Lent};
 
 use certificate::bodies::{numbers_into, points_into};
 use check_distinct::{
@@ -70,7 +70,7 @@ fn copied_refusal(
 ) -> Result<(), Refusal>
     requires { Decodable permutations (clauses_lent clauses) bodies max_slots
         × Lent heads bodies.count (points_of held.old) named.old links.old }
-    ensures { fault_of result ≡ bodies_fault permutations.entry (clauses_lent clauses.entry) bodies.entry }
+    ensures { fault_of result ≡ decoded_fault permutations.entry (clauses_lent clauses.entry) bodies.entry }
 {
     points_into(held, bodies.points, bodies.count);
     numbers_into(named, bodies.falsified, bodies.count);
@@ -95,7 +95,7 @@ fn sized_refusal<const POINTS: usize, const LINKS: usize>(
 ) -> Result<(), Refusal>
     requires { Decodable permutations (clauses_lent clauses) bodies POINTS
         × (suits (LINKS - 2 * POINTS) POINTS LINKS ≡ true) }
-    ensures { fault_of result ≡ bodies_fault permutations.entry (clauses_lent clauses.entry) bodies.entry }
+    ensures { fault_of result ≡ decoded_fault permutations.entry (clauses_lent clauses.entry) bodies.entry }
 {
     let mut held = [0u64; POINTS];
     let mut named = [0u32; POINTS];
@@ -124,7 +124,7 @@ pub fn decoded_refusal(
     bodies: Bodies<'_>,
 ) -> Result<(), Refusal>
     requires { Decodable permutations (clauses_lent clauses) bodies max_slots }
-    ensures { fault_of result ≡ bodies_fault permutations.entry (clauses_lent clauses.entry) bodies.entry }
+    ensures { fault_of result ≡ decoded_fault permutations.entry (clauses_lent clauses.entry) bodies.entry }
 {
     if bodies.count <= TINY_POINTS {
         sized_refusal::<{ TINY_POINTS }, { TINY_LINKS }>(permutations, clauses, bodies)

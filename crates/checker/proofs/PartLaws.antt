@@ -1,5 +1,5 @@
 -- Laws of the checker's parts: one for each way out of each of its functions. Assumes nothing.
-use Rattle.std.specs.Prelude.{Bool, true, false, ◌&&◌, List, [], ◌∷◌, ◌≡◌, refl, ℕ, ◌+◌, ◌-◌, ◌*◌, ◌≤◌, ◌<◌, length, take, drop}
+use Rattle.std.specs.Prelude.{Result, Ok, Err, Bool, true, false, ◌&&◌, List, [], ◌∷◌, ◌≡◌, refl, ℕ, ◌+◌, ◌-◌, ◌*◌, ◌≤◌, ◌<◌, length, take, drop}
 use Rattle.std.proofs.Math.Bool.{cond}
 use Rattle.std.proofs.Math.Option.{some, none, some-ne-none}
 use Rattle.std.proofs.Common.{sym, ◌∙◌, subst, le_refl, le_of_eq, lt_of_lt_of_le, arith, length-take, length-drop, eq-eqb, ne_eqb}
@@ -14,7 +14,8 @@ use Rattle.formula.specs.declared.Formula.{Formula}
 use Rattle.formula.specs.Limits.{max_variables, max_slots}
 use Rattle.formula.specs.Problem.{problem_of}
 use Rattle.formula.specs.Laws.RefusalLaws.{passes_few, passes_listed, permutation_passes, fits_sound, fits_below}
-use Rattle.formula.specs.Refusals.{fits, clauses_fault, permutation_fault, symmetry_fault}
+use Rattle.formula.specs.Refusals.{fits, clauses_fault, permutation_fault, symmetry_fault, fault_of}
+use Rattle.formula.specs.declared.reasons.Refusal.{Refusal}
 use Rattle.formula.specs.Reply.{Fault, no_fault, fault, first, refused, opened, accepted, unless}
 use Rattle.formula.specs.Laws.ReplyLaws.{IsFault, answers-first, answers-rest, tested, opened_not_refused}
 use Rattle.formula.specs.Laws.ReplyLaws.{refused_fault}
@@ -32,6 +33,7 @@ use Rattle.certificate.specs.Rows.{file_fault, points_fault, numbers_fault}
 use Rattle.check_flips.specs.Flips.{flips_fault}
 use Rattle.check_flips.specs.Laws.Loops.{Proper}
 use Rattle.check_entries.specs.Laws.Entries.{lists_fault}
+use Rattle.checker.specs.Contract.{reply_of_verdict, CheckedAs}
 use Rattle.checker.specs.Checker.{same_sizes, sizes_fault, check_fault, check_reply}
 use Rattle.checker.proofs.CheckerLaws.{check_rows}
 use Rattle.checker.specs.Laws.Parts.{bodies_fault, file_rows, Readable}
@@ -240,6 +242,12 @@ opened_file file c h = by (well_formed file) refl h
 
 -- ---- the checker
 
+-- it accepts where its tests found nothing
+verdict : (r : Result Unit Refusal) → reply_of_verdict r ≡ unless (fault_of r) accepted
+unfolding reply_of_verdict unless
+verdict (Ok passed) = refl
+verdict (Err r) = refl
+
 module _ (f : Formula) (clauses : ClauseSlices) (file : List ℕ) where
   -- its rows are refusal 10 and the file's
   all-rows : check_fault f clauses file
@@ -248,25 +256,22 @@ module _ (f : Formula) (clauses : ClauseSlices) (file : List ℕ) where
   unfolding problem_of
   all-rows = check_rows f clauses file
 
-  answered : (r : Fault) → r ≡ check_fault f clauses file
-      → unless r accepted ≡ check_reply f clauses file
+  answered : (r : Result Unit Refusal) → fault_of r ≡ check_fault f clauses file → CheckedAs f clauses file r
   unfolding check_reply
-  answered r e = ap (λ (t : Fault). unless t accepted) e
+  answered r e = record { reply = verdict r ∙ ap (λ (t : Fault). unless t accepted) e }
 
-  pub stops_10 : (r : Fault) → r ≡ clauses_fault f clauses → IsFault r
-      → unless r accepted ≡ check_reply f clauses file
-  stops_10 r e h = answered r (answers-first r _ _ e h ∙ sym all-rows)
+  pub stops_10 : (r : Refusal) → fault_of (Err r) ≡ clauses_fault f clauses → CheckedAs f clauses file (Err r)
+  stops_10 r e = answered (Err r) (answers-first (fault_of (Err r)) _ _ e tt ∙ sym all-rows)
 
-  pub ends_file : (r : Fault) → clauses_fault f clauses ≡ no_fault
-      → r ≡ file_rows f.variables f.clauses (clauses_of clauses) file
-      → unless r accepted ≡ check_reply f clauses file
-  ends_file r ten e = answered r (answers-rest r _ _ ten e ∙ sym all-rows)
+  pub ends_file : (r : Result Unit Refusal) → no_fault ≡ clauses_fault f clauses
+      → fault_of r ≡ file_rows f.variables f.clauses (clauses_of clauses) file → CheckedAs f clauses file r
+  ends_file r ten e = answered r (answers-rest (fault_of r) _ _ (sym ten) e ∙ sym all-rows)
 
   -- what refusal 10 leaves certain
-  pub clauses_fit_lem : clauses_fault f clauses ≡ no_fault
+  pub clauses_fit_lem : no_fault ≡ clauses_fault f clauses
       → (f.variables ≤ max_variables) × ClausesBelow f.variables (numbered (clauses_of clauses))
   unfolding clauses_fault
   clauses_fit_lem h =
       let g = fits_sound f.variables f.clauses clauses
-      (tested (fits f.variables f.clauses clauses) no_fault 10 0 h).0 in
+      (tested (fits f.variables f.clauses clauses) no_fault 10 0 (sym h)).0 in
       (g.few_variables, fits_below f.variables f.clauses clauses g)

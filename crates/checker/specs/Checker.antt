@@ -1,7 +1,6 @@
 -- Document 01, 'Checker': the checker's reply, with its refusals in their order. Assumes nothing.
 use Rattle.std.specs.Prelude.{Bool, cond, ◌&&◌, List, [], ◌∷◌, ◌≡◌, ℕ, eqb, length}
 use Rattle.point_slices.specs.Slices.{ClauseSlices}
-use Rattle.points.specs.Points.{variables}
 use Rattle.formula.specs.declared.Formula.{Formula}
 use Rattle.formula.specs.Limits.{max_slots}
 use Rattle.formula.specs.Problem.{problem_of}

@@ -1,20 +1,20 @@
 -- What `search::search` promises. Assumes nothing.
-use Rattle.std.specs.Prelude.{◌≡◌, ℕ}
+use Rattle.std.specs.Prelude.{◌≡◌, ℕ, Result, Ok, Err}
 use Rattle.point_slices.specs.Slices.{ClauseSlices, SlotSlices}
 use Rattle.formula.specs.declared.Formula.{Formula}
 use Rattle.formula.specs.Limits.{capacity}
-use Rattle.formula.specs.Reply.{Reply, refused, satisfiable, unsatisfiable, unknown, point_in}
+use Rattle.formula.specs.Reply.{Reply, refused, point_in}
+use Rattle.formula.specs.declared.reasons.Refusal.{Refusal}
+use Rattle.formula.specs.Reasons.{code_of}
+use Rattle.search_step.specs.Conclusions.{reply_of_conclusion}
+use Rattle.search_step.specs.declared.Conclusion.{Conclusion}
 use Rattle.search.specs.Search.{search_reply, search_slices}
 use Rattle.search.specs.declared.Found.{Found}
-use Rattle.search.specs.declared.Outcome.{Outcome}
-use Rattle.search.specs.declared.Outcome.TheVariants.{Satisfiable, Unsatisfiable, Unknown, Refused}
 
 -- F10: what the code's answer says in document 01's terms, beside the point x
-abbrev pub reply_of_outcome : ℕ → Outcome → Reply
-reply_of_outcome x (Satisfiable d filled) = satisfiable x d filled
-reply_of_outcome x (Unsatisfiable filled) = unsatisfiable filled
-reply_of_outcome x (Unknown b filled) = unknown b filled
-reply_of_outcome x (Refused code place) = refused code place
+abbrev pub reply_of_outcome : ℕ → Result Conclusion Refusal → Reply
+reply_of_outcome x (Ok c) = reply_of_conclusion x c
+reply_of_outcome x (Err r) = refused (code_of r.reason) r.place
 
 -- the same with the point that stands beside it
 abbrev pub reply_of_found : Found → Reply

@@ -2,38 +2,31 @@
 // the end of the room.
 #![tactic(auto)]
 
-ghost use Rattle.std.specs.Prelude.{◌≡◌, length};
-ghost use Rattle.point_slices.specs.Slices.{clause_slices, slot_slices};
-ghost use Rattle.formula.specs.Limits.{max_images, capacity};
+ghost use Rattle.std.specs.Prelude.{◌≡◌};
+ghost use Rattle.point_slices.specs.Slices.{slices_lent, slot_slices};
+ghost use Rattle.formula.specs.Limits.{capacity};
+ghost use Rattle.formula.specs.Refusals.{fault_of};
 ghost use Rattle.formula.specs.Reply.{point_in, no_fault};
-ghost use Rattle.formula.specs.Laws.Contracts.{formula_with};
-ghost use Rattle.search_indexed.specs.Laws.StageLaws.{reply_of_answer};
+ghost use Rattle.formula.specs.Laws.Contracts.{formula_lent};
+ghost use Rattle.search_loop.specs.Laws.Exploring.{reply_of_answer};
 ghost use Rattle.search.specs.Search.{search_fault};
 ghost use Rattle.search.specs.Contract.{reply_of_found, Searched};
 
+use formula::Formula;
+use formula::reasons::{Reason, Refusal};
 use formula::refusals::problem_refusal;
 use formula::room::room;
-use formula::{Checked, Formula, Numbers};
-use permutation_coverage::Lookup;
+use formula::view::FormulaView;
+use point_slices::Clauses;
 use points::{Depth, Point};
 use search_expansion::Frame;
-use search_indexed::Answer;
+use search_loop::Answer;
 use search_step::Conclusion;
 
-// What the search answers, beside the point that it finds. Of an unknown result the bound is a number of variables:
-// every satisfying point differs from the target in at least so many.
-#[derive(Clone, Copy)]
-pub enum Outcome {
-    Satisfiable { distance: u32, filled: u32 },
-    Unsatisfiable { filled: u32 },
-    Unknown { bound: u32, filled: u32 },
-    Refused { code: u32, place: usize },
-}
-
-// The answer, and the point that it hands back: 0 where it has none.
+// What the search answers, or why it is refused, and the point that it hands back: 0 where it has none.
 #[derive(Clone, Copy)]
 pub struct Found {
-    pub answer: Outcome,
+    pub answer: Result<Conclusion, Refusal>,
     pub point: Point,
 }
 
@@ -41,128 +34,91 @@ pub struct Found {
 fn as_found(a: Answer) -> Found
     ensures { (reply_of_found result ≡ reply_of_answer a) × (result.point ≡ point_in (reply_of_answer a)) }
 {
-    let conclusion = a.conclusion;
-    let none = points::EMPTY;
-    match conclusion {
-        Conclusion::Satisfiable { distance, filled } => Found {
-            answer: Outcome::Satisfiable {
-                distance: distance,
-                filled: filled,
-            },
-            point: a.point,
-        },
-        Conclusion::Unsatisfiable { filled } => Found {
-            answer: Outcome::Unsatisfiable { filled: filled },
-            point: none,
-        },
-        Conclusion::Unknown { bound, filled } => Found {
-            answer: Outcome::Unknown {
-                bound: bound,
-                filled: filled,
-            },
-            point: none,
-        },
+    let point = match a.conclusion {
+        Conclusion::Satisfiable { .. } => a.point,
+        _ => points::EMPTY,
+    };
+    Found {
+        answer: Ok(a.conclusion),
+        point,
     }
 }
 
-// The search of a formula that refusals 10 to 13 let pass, by its numbers and images. It takes at most as many steps as
-// slots are filled: each a scan of the clauses, one step for each permutation and each variable in which its point
-// differs from the one before, and for each variable of a clause at most permutations + 2 look-ups, none of more than
-// n + 1 comparisons.
+// The search of a formula that refusals 10 to 13 let pass. It takes at most as many steps as slots are filled: each a
+// scan of the clauses, one step for each permutation and each variable in which its point differs from the one before,
+// and for each variable of a clause at most permutations + 2 look-ups, none of more than n + 1 comparisons.
 pub fn search_accepted(
-    f: Numbers,
-    images: &[u8],
-    positive: &[u64],
-    negative: &[u64],
+    f: FormulaView<'_>,
+    clauses: Clauses<'_>,
     points: &mut [u64],
     falsified: &mut [u32],
     depths: &mut [Depth],
 ) -> Found
-    requires { (length images.now ≡ max_images) × (search_fault (formula_with f images.now)
-        (clause_slices positive.now negative.now)
-        (capacity (slot_slices points.old falsified.old depths.old)) ≡ no_fault) }
-    ensures { Searched (formula_with f images.now)
-        (clause_slices positive.now negative.now)
+    requires { search_fault (formula_lent f) (slices_lent clauses)
+        (capacity (slot_slices points.old falsified.old depths.old)) ≡ no_fault }
+    ensures { Searched (formula_lent f.entry) (slices_lent clauses.entry)
         (slot_slices points.old falsified.old depths.old) result
         (slot_slices points.new falsified.new depths.new) }
 {
-    let lent = room(points, falsified, depths);
-    let target = f.target;
     // each stage has heads of its own
-    let lookup = Lookup {
-        variables: f.variables,
-        permutations: f.permutations,
-        heads: 0,
-    };
     let g = Frame {
-        lookup,
-        room: lent,
-        target,
+        permutations: f.permutations(),
+        heads: 0,
+        room: room(points, falsified, depths),
+        target: f.numbers.target,
     };
-    let answer = search_stages::start(g, images, positive, negative, points, falsified, depths);
+    let answer = search_stages::start(g, clauses, points, falsified, depths);
     as_found(answer)
 }
 
-// The search of the formula that numbers and images make, of which no copy is made; as many images as a formula has.
+// Refusals 10 to 13, with so many slots lent.
+fn search_refusal(f: FormulaView<'_>, clauses: Clauses<'_>, lent: usize) -> Result<(), Refusal>
+    ensures { fault_of result ≡ search_fault (formula_lent f.entry) (slices_lent clauses.entry) lent }
+{
+    problem_refusal(f, clauses)?;
+    if lent == 0 {
+        return Err(Refusal {
+            reason: Reason::NoSlot,
+            place: 0,
+        });
+    }
+    Ok(())
+}
+
+// The search of a formula where it lies, of which no copy is made.
 pub fn search_lent(
-    f: Numbers,
-    images: &[u8],
-    positive: &[u64],
-    negative: &[u64],
+    f: FormulaView<'_>,
+    clauses: Clauses<'_>,
     points: &mut [u64],
     falsified: &mut [u32],
     depths: &mut [Depth],
 ) -> Found
-    requires { length images.now ≡ max_images }
-    ensures { Searched (formula_with f images.now)
-        (clause_slices positive.now negative.now)
+    ensures { Searched (formula_lent f.entry) (slices_lent clauses.entry)
         (slot_slices points.old falsified.old depths.old) result
         (slot_slices points.new falsified.new depths.new) }
 {
-    let checked = problem_refusal(f, images, positive, negative);
-    match checked {
-        Checked::Passed => {}
-        Checked::Refused { code, place } => {
-            return Found {
-                answer: Outcome::Refused {
-                    code: code,
-                    place: place,
-                },
-                point: points::EMPTY,
-            };
-        }
-    }
     let lent = room(points, falsified, depths);
-    if lent == 0 {
-        return Found {
-            answer: Outcome::Refused { code: 13, place: 0 },
+    match search_refusal(f, clauses, lent) {
+        Ok(()) => search_accepted(f, clauses, points, falsified, depths),
+        Err(refusal) => Found {
+            answer: Err(refusal),
             point: points::EMPTY,
-        };
+        },
     }
-    search_accepted(f, images, positive, negative, points, falsified, depths)
 }
 
 // D2.2: searches from the formula's target, with the slots in the three lent slices; refusals 10 to 13 leave all three
 // as they were.
 pub fn search(
     f: Formula,
-    positive: &[u64],
-    negative: &[u64],
+    clauses: Clauses<'_>,
     points: &mut [u64],
     falsified: &mut [u32],
     depths: &mut [Depth],
 ) -> Found
-    ensures { Searched f (clause_slices positive.now negative.now)
+    ensures { Searched f (slices_lent clauses.entry)
         (slot_slices points.old falsified.old depths.old) result
         (slot_slices points.new falsified.new depths.new) }
 {
-    let numbers = Numbers {
-        variables: f.variables,
-        clauses: f.clauses,
-        target: f.target,
-        permutations: f.permutations,
-    };
-    search_lent(
-        numbers, &f.images, positive, negative, points, falsified, depths,
-    )
+    search_lent(f.view(), clauses, points, falsified, depths)
 }

@@ -24,8 +24,8 @@ entries_fault n permutations images clauses points falsified count =
     (numbers_in point_width count points) (numbers_in number_width count falsified)
 
 -- the same, of the entries that a value of the code's type lends
-abbrev pub bodies_fault : Permutations → List Clause → Bodies → Fault
-bodies_fault g clauses b = entries_fault g.variables g.count g.images.now clauses b.points.now b.falsified.now b.count
+abbrev pub decoded_fault : Permutations → List Clause → Bodies → Fault
+decoded_fault g clauses b = entries_fault g.variables g.count g.images.now clauses b.points.now b.falsified.now b.count
 
 -- there are `count` points, and links that are all 0 with room for them
 pub record Ready (g : Permutations) (clauses : List Clause) (heads : ℕ) (points links : List ℕ) (count : ℕ) : Type 0

@@ -1,81 +1,59 @@
 -- `checker::bodies_refusal` meets its contract: a law of PartLaws for each way out. Assumes nothing.
-use Rattle.std.proofs.Common.{◌≡◌, sym, ap, ◌∙◌, subst, ◌-◌, arith, take, drop}
-use Rattle.point_slices.specs.Laws.Contracts.{lent_clauses}
-use Rattle.points.specs.Points.{numbered}
-use Rattle.permutation_theory.specs.Permutations.{permutations_in}
-use Rattle.formula.specs.Refusals.{permutation_fault, symmetry_fault, fault_of}
-use Rattle.formula.specs.Reply.{no_fault}
-use Rattle.formula.specs.Laws.ReplyLaws.{IsFault}
-use Rattle.checker.proofs.PartLaws.{Laid, laid, images-listed, images_proper, stops_11, stops_12}
+use Rattle.std.proofs.Common.{sym, arith}
+use Rattle.std.proofs.lemmas.Result.{err_from_is_err_and}
+use Rattle.checker.proofs.PartLaws.{laid, images-listed, images_proper, stops_11, stops_12}
 use Rattle.checker.proofs.PartLaws.{too_many_points, ends_decoded}
-use Rattle.checker.proofs.bodies_refusal.Lts as lts
-use Rattle.checker.proofs.bodies_refusal.Reads as reads
-use Rattle.checker.proofs.bodies_refusal.Tie as tie
 use Rattle.checker.proofs.bodies_refusal.Goals as goal
 
--- where the parts lie
-lies : (c : lts.Start tie.the-claims reads.Pre reads.Post) → Laid c.args.c (lent_clauses c.args.positive.now c.args.negative.now) c.args.file.now c.requires
-lies c = laid c.args.c (lent_clauses c.args.positive.now c.args.negative.now) c.args.file.now c.requires
+pub slice_bounds-permutations-count : goal.slice_bounds-permutations-count
+slice_bounds-permutations-count c = (laid _ _ _ c.requires).first_second
 
--- what follows is reached where refusal 11 found nothing
-eleven : (c : lts.Past-After-enum_told tie.the-claims reads.Pre reads.Post) → permutation_fault c.args.c.variables (permutations_in c.args.c.variables c.args.c.permutations (take (c.args.c.points_at - c.args.c.permutations_at) (drop c.args.c.permutations_at c.args.file.now))) ≡ no_fault
-eleven c = sym c.permutations_refusal-eleven.ensures ∙ ap fault_of c.in-Passed.is
+pub slice_bounds-permutations-start : goal.slice_bounds-permutations-start
+slice_bounds-permutations-start c = (laid _ _ _ c.requires).first_second
 
--- and what follows here where refusal 12 did not either
-twelve : (c : lts.Past-After-enum_told3 tie.the-claims reads.Pre reads.Post)
-    → symmetry_fault (numbered (lent_clauses c.args.positive.now c.args.negative.now)) (permutations_in c.args.c.variables c.args.c.permutations (take (c.args.c.points_at - c.args.c.permutations_at) (drop c.args.c.permutations_at c.args.file.now))) ≡ no_fault
-twelve c = sym c.symmetry_refusal-twelve.ensures ∙ ap fault_of c.in-Passed-twelve.is
+pub slice_bounds-permutations-end : goal.slice_bounds-permutations-end
+slice_bounds-permutations-end c = let l = laid _ _ _ c.requires in omega (arith, l.second_third, l.third_end)
 
-pub slice_bounds-images-count : goal.slice_bounds-images-count
-slice_bounds-images-count c = (lies c.before.before.before.before.before.before.before).first_second
+pub permutations_refusal-requires : goal.permutations_refusal-requires
+permutations_refusal-requires c = (c.requires.few, λ _. (laid _ _ _ c.requires).images_long)
 
-pub slice_bounds-images-start : goal.slice_bounds-images-start
-slice_bounds-images-start c = (lies c.before.before.before.before.before.before.before).first_second
+pub returns-in_err-permutations_refusal : goal.returns-in_err-permutations_refusal
+returns-in_err-permutations_refusal c =
+    let p = err_from_is_err_and c.from_residual.result c.from_residual.ensures.1 in
+    rw (p.1, p.2) (stops_11 _ _ _ c.requires _ c.in_err-permutations_refusal.ensures tt)
 
-pub slice_bounds-images-end : goal.slice_bounds-images-end
-slice_bounds-images-end c = let l = lies c.before.before.before.before.before.before.before in omega (arith, l.second_third, l.third_end)
+pub symmetry_refusal-requires : goal.symmetry_refusal-requires
+symmetry_refusal-requires c = images-listed _ _ _ c.requires (sym c.in_ok-permutations_refusal.ensures)
 
-pub permutations_refusal-eleven-requires : goal.permutations_refusal-eleven-requires
-permutations_refusal-eleven-requires c = (c.requires.few, λ _. (lies c.before.before.before.before.before.before.before.before).images_long)
-
-pub returns-in_default : goal.returns-in_default
-returns-in_default c =
-    stops_11 c.args.c (lent_clauses c.args.positive.now c.args.negative.now) c.args.file.now c.requires (fault_of c.permutations_refusal-eleven.result) c.permutations_refusal-eleven.ensures
-    (subst IsFault (sym (ap fault_of c.in_default.is)) tt)
-
-pub symmetry_refusal-twelve-requires : goal.symmetry_refusal-twelve-requires
-symmetry_refusal-twelve-requires c =
-    images-listed c.args.c (lent_clauses c.args.positive.now c.args.negative.now) c.args.file.now c.requires (eleven c.before)
-
-pub returns-in_default-twelve : goal.returns-in_default-twelve
-returns-in_default-twelve c =
-    stops_12 c.args.c (lent_clauses c.args.positive.now c.args.negative.now) c.args.file.now c.requires (eleven c.before.before.before) (fault_of c.symmetry_refusal-twelve.result) c.symmetry_refusal-twelve.ensures
-    (subst IsFault (sym (ap fault_of c.in_default-twelve.is)) tt)
+pub returns-in_err-symmetry_refusal : goal.returns-in_err-symmetry_refusal
+returns-in_err-symmetry_refusal c =
+    let p = err_from_is_err_and c.from_residual-in_err-symmetry_refusal.result c.from_residual-in_err-symmetry_refusal.ensures.1 in
+    rw (p.1, p.2) (stops_12 _ _ _ c.requires (sym c.in_ok-permutations_refusal.ensures) _ c.in_err-symmetry_refusal.ensures tt)
 
 pub returns-then-c-gt-MAX_SLOTS : goal.returns-then-c-gt-MAX_SLOTS
 returns-then-c-gt-MAX_SLOTS c =
-    too_many_points c.args.c (lent_clauses c.args.positive.now c.args.negative.now) c.args.file.now c.requires (eleven c.before.before.before.before.before) (twelve c.before.before.before) c.if-c-gt-MAX_SLOTS.true
+    too_many_points _ _ _ c.requires (sym c.in_ok-permutations_refusal.ensures) (sym c.in_ok-symmetry_refusal.ensures) c.if-c-gt-MAX_SLOTS.true
 
-pub slice_bounds-points-count : goal.slice_bounds-points-count
-slice_bounds-points-count c = (lies c.before.before.before.before.before.before.before.before.before.before.before.before.before.before.before).second_third
+pub slice_bounds-bodies-count : goal.slice_bounds-bodies-count
+slice_bounds-bodies-count c = (laid _ _ _ c.requires).second_third
 
-pub slice_bounds-points-start : goal.slice_bounds-points-start
-slice_bounds-points-start c = (lies c.before.before.before.before.before.before.before.before.before.before.before.before.before.before.before).second_third
+pub slice_bounds-bodies-start : goal.slice_bounds-bodies-start
+slice_bounds-bodies-start c = (laid _ _ _ c.requires).second_third
 
-pub slice_bounds-points-end : goal.slice_bounds-points-end
-slice_bounds-points-end c = (lies c.before.before.before.before.before.before.before.before.before.before.before.before.before.before.before).third_end
+pub slice_bounds-bodies-end : goal.slice_bounds-bodies-end
+slice_bounds-bodies-end c = (laid _ _ _ c.requires).third_end
 
-pub slice_bounds-falsified-count : goal.slice_bounds-falsified-count
-slice_bounds-falsified-count c = (lies c.before.before.before.before.before.before.before.before.before.before.before.before.before.before.before.before).third_end
+pub slice_bounds-bodies-count-2 : goal.slice_bounds-bodies-count-2
+slice_bounds-bodies-count-2 c = (laid _ _ _ c.requires).third_end
 
-pub slice_bounds-falsified-start : goal.slice_bounds-falsified-start
-slice_bounds-falsified-start c = (lies c.before.before.before.before.before.before.before.before.before.before.before.before.before.before.before.before).third_end
+pub slice_bounds-bodies-start-2 : goal.slice_bounds-bodies-start-2
+slice_bounds-bodies-start-2 c = (laid _ _ _ c.requires).third_end
 
 pub decoded_refusal-requires : goal.decoded_refusal-requires
 decoded_refusal-requires c =
-    let l = lies c.before.before.before.before.before.before.before.before.before.before.before.before.before.before.before.before.before in
+    let l = laid _ _ _ c.requires in
     record {
-      given = images_proper c.args.c (lent_clauses c.args.positive.now c.args.negative.now) c.args.file.now c.requires (eleven c.before.before.before.before.before.before.before.before);
+      given = images_proper _ _ _ c.requires (sym c.in_ok-permutations_refusal.ensures);
       most = c.if-c-gt-MAX_SLOTS.false;
       points_long = l.points_long;
       numbers_long = l.numbers_long;
@@ -83,4 +61,4 @@ decoded_refusal-requires c =
 
 pub returns : goal.returns
 returns c =
-    ends_decoded c.args.c (lent_clauses c.args.positive.now c.args.negative.now) c.args.file.now c.requires (eleven c.before.before.before.before.before.before.before.before.before) (twelve c.before.before.before.before.before.before.before) (fault_of c.decoded_refusal.result) c.decoded_refusal.ensures
+    ends_decoded _ _ _ c.requires (sym c.in_ok-permutations_refusal.ensures) (sym c.in_ok-symmetry_refusal.ensures) _ c.decoded_refusal.ensures

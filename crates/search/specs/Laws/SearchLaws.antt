@@ -1,27 +1,26 @@
 -- Laws of the builder's answer: a refusal, and the search that is run where there is none. Assumes nothing.
-use Rattle.std.specs.Prelude.{List, [], ◌∷◌, ◌≡◌, ℕ, zero, suc, length}
+use Rattle.std.specs.Prelude.{Err, List, [], ◌∷◌, ◌≡◌, ℕ}
 use Rattle.std.proofs.Math.Path.{refl, sym, ap}
 use Rattle.std.proofs.Common.{◌∙◌, subst, le_trans, le_of_eq, arith}
-use Rattle.formula.specs.Laws.Contracts.{problem_fault}
+use Rattle.formula.specs.Laws.Contracts.{formula_lent, problem_fault}
 use Rattle.points.specs.Points.{numbered}
 use Rattle.point_slices.specs.Slices.{ClauseSlices, SlotSlices, clauses_of}
 use Rattle.permutation_theory.specs.Permutations.{permutations_in}
-use Rattle.formula.specs.declared.Checked.{Checked}
-use Rattle.formula.specs.declared.Checked.TheVariants.{Passed, Refused as Faulty}
 use Rattle.formula.specs.declared.Formula.{Formula}
-use Rattle.formula.specs.Limits.{max_images, capacity}
+use Rattle.formula.specs.declared.view.FormulaView.{FormulaView}
+use Rattle.formula.specs.declared.reasons.Refusal.{Refusal}
+use Rattle.formula.specs.Limits.{capacity}
 use Rattle.formula.specs.Problem.{problem_of}
 use Rattle.formula.specs.Laws.RefusalLaws.{formula_passes, formula_listed, permutation_passes, passes_few}
 use Rattle.formula.specs.Laws.RefusalLaws.{digits_suffice, fits_count}
-use Rattle.formula.specs.Refusals.{formula_fault, permutation_fault, symmetry_fault, fault_of}
+use Rattle.formula.specs.Refusals.{formula_fault, permutation_fault, symmetry_fault, refusal_fault}
 use Rattle.formula.specs.Reply.{Reply, Fault, no_fault, fault, point_in}
 use Rattle.formula.specs.Laws.ReplyLaws.{first_last, first-after, first-before, unless-none}
-use Rattle.search.specs.Laws.Accepted.{slot_complete, rows, ready_of_faults, lent_of_faults, lent_few}
+use Rattle.search.specs.Laws.Accepted.{rows, ready_of_faults, lent_of_faults, lent_few}
 use Rattle.search.specs.Search.{slot_fault, search_fault, search_reply, search_slots, search_slices}
 use Rattle.search.specs.Contract.{reply_of_found, Searched}
 use Rattle.search_expansion.specs.declared.Frame.{Frame}
 use Rattle.search.specs.declared.Found.{Found}
-use Rattle.search.specs.declared.Outcome.TheVariants.{Refused}
 use Rattle.search_expansion.specs.Laws.Memory.{Lends}
 use Rattle.search_step.specs.Laws.Stepping.{framed, Searchable, Ended}
 use Rattle.search_theory.specs.Laws.Invariants.{Ready}
@@ -31,21 +30,22 @@ use Rattle.search_theory.proofs.WalkLaws.{walks_walked}
 
 -- ---- what the code hands to the search
 
-abbrev pub frame_of : Formula → ℕ → Frame
-frame_of f lent =
+abbrev pub frame_of : FormulaView → ℕ → Frame
+frame_of v lent =
     record {
-      lookup = record { variables = f.variables; permutations = f.permutations; heads = 0 };
+      permutations = record {
+        variables = v.numbers.variables;
+        count = v.numbers.permutations;
+        images = v.images;
+      };
+      heads = 0;
       room = lent;
-      target = f.target;
+      target = v.numbers.target;
     }
 
 pub lent_room : (slots : SlotSlices) → Lends (capacity slots) slots
 unfolding capacity
 lent_room slots = record { points_room = omega arith; falsified_room = omega arith; depths_room = omega arith }
-
--- a refusal, which hands back no point
-abbrev pub refusal : ℕ → ℕ → Found
-refusal code place = record { answer = Refused code place; point = 0 }
 
 module _ (f : Formula) (clauses : ClauseSlices) where
   -- N4: rows 10 to 12, and then row 13
@@ -56,33 +56,17 @@ module _ (f : Formula) (clauses : ClauseSlices) where
       ∷ symmetry_fault (numbered (clauses_of clauses))
       (permutations_in f.variables f.permutations f.images) ∷ []
 
-  fault_refused : (lent code place : ℕ) → problem_fault f clauses ≡ fault code place
+  -- a refusal of theirs
+  pub fault_refused : (lent code place : ℕ) → problem_fault f clauses ≡ fault code place
       → search_fault f clauses lent ≡ fault code place
   unfolding search_fault problem_fault problem_of
   fault_refused lent code place h = first-before tests (slot_fault lent ∷ []) code place h
 
-  fault_passed : (lent : ℕ) → problem_fault f clauses ≡ no_fault
+  -- they pass
+  pub fault_passed : (lent : ℕ) → problem_fault f clauses ≡ no_fault
       → search_fault f clauses lent ≡ slot_fault lent
   unfolding search_fault problem_fault problem_of
   fault_passed lent h = first-after tests (slot_fault lent ∷ []) h ∙ first_last (slot_fault lent)
-
-  -- the rows 10 to 12 passed, and a slot lent
-  fault_none : (lent : ℕ) → problem_fault f clauses ≡ no_fault → (lent ≡ 0 → ⊥)
-      → search_fault f clauses lent ≡ no_fault
-  fault_none lent h ne = fault_passed lent h ∙ slot_complete lent ne
-
-  -- the problem of the frame is the formula's, once refusal 10 has passed
-  framed_is : (lent : ℕ) → formula_fault f clauses ≡ no_fault
-      → framed (frame_of f lent) f.images (clauses_of clauses) ≡ problem_of f clauses
-  unfolding problem_of
-  framed_is lent h =
-      ap (λ t. record {
-        variables = f.variables;
-        total = t;
-        target = f.target;
-        permutations = permutations_in f.variables f.permutations f.images;
-        clauses = numbered (clauses_of clauses);
-      }) (fits_count f.variables f.clauses clauses (formula_passes f clauses h).0)
 
   -- where no row refuses, the reply and the slices are those of the walk
   reply_of : (lent : ℕ) (r : Reply) → search_fault f clauses lent ≡ no_fault
@@ -97,76 +81,75 @@ module _ (f : Formula) (clauses : ClauseSlices) where
   unfolding search_slices search_slots
   slices_of l slots₀ slots₁ h e q = q ∙ ap (λ u. filled_with u slots₀) (sym e) ∙ rw h refl
 
-  module _ (slots : SlotSlices) where
-    -- "Every row leaves all lent slices unchanged"
-    refused_by : (code place : ℕ) → search_fault f clauses (capacity slots) ≡ fault code place
-        → Searched f clauses slots (refusal code place) slots
-    unfolding search_reply search_slices point_in
-    refused_by code place h = record { reply = rw h; point = sym (rw h refl); slots = rw h }
+  -- "Every row leaves all lent slices unchanged"
+  pub searched_refused : (slots : SlotSlices) (r : Refusal) → refusal_fault r ≡ search_fault f clauses (capacity slots)
+      → Searched f clauses slots (record { answer = Err r; point = 0 }) slots
+  unfolding search_reply search_slices point_in
+  searched_refused slots r h = let e = sym h in record { reply = rw e; point = sym (rw e refl); slots = rw e }
 
-    module _ (checked : Checked) (tested : fault_of checked ≡ problem_fault f clauses) where
-      -- refusals 10 to 12
-      pub searched_faulty : (code place : ℕ) → checked ≡ Faulty code place
-          → Searched f clauses slots (refusal code place) slots
-      searched_faulty code place e = refused_by code place
-          (fault_refused (capacity slots) code place (sym tested ∙ ap fault_of e))
+-- ---- the formula where it lies
 
-      module _ (passed : checked ≡ Passed) (k : ℕ) (room : k ≡ capacity slots) where
-        none : problem_fault f clauses ≡ no_fault
-        none = sym tested ∙ ap fault_of passed
+module _ (v : FormulaView) (clauses : ClauseSlices) where
+  abbrev f : Formula
+  f = formula_lent v
 
-        -- R13
-        pub searched_none-lent : k ≡ 0 → Searched f clauses slots (refusal 13 0) slots
-        unfolding slot_fault
-        searched_none-lent z = refused_by 13 0 (fault_passed (capacity slots) none ∙ ap slot_fault (sym room ∙ z))
+  -- the problem of the frame is the formula's, once refusal 10 has passed
+  framed_is : (lent : ℕ) → formula_fault f clauses ≡ no_fault
+      → framed (frame_of v lent) (clauses_of clauses) ≡ problem_of f clauses
+  unfolding problem_of
+  framed_is lent h =
+      ap (λ t. record {
+        variables = f.variables;
+        total = t;
+        target = f.target;
+        permutations = permutations_in f.variables f.permutations f.images;
+        clauses = numbered (clauses_of clauses);
+      }) (fits_count f.variables f.clauses clauses (formula_passes f clauses h).0)
 
-        -- what `search_accepted` requires
-        pub accepted_of : (k ≡ 0 → ⊥) → search_fault f clauses (capacity slots) ≡ no_fault
-        accepted_of ne = fault_none (capacity slots) none (λ z. ne (room ∙ z))
+  module _ (slots : SlotSlices) (accepted : search_fault f clauses (capacity slots) ≡ no_fault) where
+    searchable_of : Searchable (frame_of v (capacity slots)) (clauses_of clauses)
+    searchable_of =
+        let k = capacity slots in
+        let r = rows f clauses k accepted in
+        let fits = (formula_passes f clauses r.0).0 in
+        record {
+          few = fits.few_variables;
+          few_permutations_lem = passes_few f.variables f.permutations f.images r.1;
+          permuting =
+              record {
+                few = digits_suffice fits.few_variables;
+                listed = formula_listed f clauses r.0 r.1 v.whole;
+                proper = (permutation_passes f.variables
+                    (permutations_in f.variables f.permutations f.images) r.1).1;
+              };
+          few_clauses_lem = le_trans (le_of_eq (fits_count f.variables f.clauses clauses fits))
+              fits.few_clauses_lem;
+          ready = subst Ready (sym (framed_is k r.0)) (ready_of_faults f clauses k accepted);
+          some = lent_of_faults f clauses k accepted;
+          most = lent_few slots;
+        }
 
-    module _ (accepted : search_fault f clauses (capacity slots) ≡ no_fault) (k : ℕ) (room : k ≡ capacity slots) where
-      clean : search_fault f clauses k ≡ no_fault
-      clean = subst (λ j. search_fault f clauses j ≡ no_fault) (sym room) accepted
+    -- what `start` requires
+    pub startable_of : (k : ℕ) → k ≡ capacity slots
+        → Searchable (frame_of v k) (clauses_of clauses) × Lends k slots
+    startable_of k room = subst (λ (j : ℕ). Searchable (frame_of v j) (clauses_of clauses) × Lends j slots) (sym room)
+        (searchable_of, lent_room slots)
 
-      searchable_of : length f.images ≡ max_images → Searchable (frame_of f k) f.images (clauses_of clauses)
-      searchable_of size =
-          let r = rows f clauses k clean in
-          let fits = (formula_passes f clauses r.0).0 in
-          record {
-            few = fits.few_variables;
-            few_permutations_lem = passes_few f.variables f.permutations f.images r.1;
-            permuting =
-                record {
-                  few = digits_suffice fits.few_variables;
-                  listed = formula_listed f clauses r.0 r.1 size;
-                  proper = (permutation_passes f.variables
-                      (permutations_in f.variables f.permutations f.images) r.1).1;
-                };
-            few_clauses_lem = le_trans (le_of_eq (fits_count f.variables f.clauses clauses fits))
-                fits.few_clauses_lem;
-            ready = subst Ready (sym (framed_is k r.0)) (ready_of_faults f clauses k clean);
-            some = lent_of_faults f clauses k clean;
-            most = le_trans (le_of_eq room) (lent_few slots);
-          }
-
-      -- what `start` requires
-      pub startable_of : length f.images ≡ max_images
-          → Searchable (frame_of f k) f.images (clauses_of clauses) × Lends k slots
-      startable_of size = (searchable_of size, subst (λ j. Lends j slots) (sym room) (lent_room slots))
-
-      pub searched_of : (q : Reply) (r : Found) (m : SlotSlices) → (reply_of_found r ≡ q) × (r.point ≡ point_in q)
-          → Ended (framed (frame_of f k) f.images (clauses_of clauses)) k slots [] (slot f.target 0 0 ∷ []) q m
-          → Searched f clauses slots r m
-      searched_of q r m same e =
-          let lent = capacity slots in
-          let in_problem = subst (λ pb. Walks pb k (start pb) q e.slots) (framed_is k (rows f clauses k clean).0)
-          e.walks in
-          let in_room = subst (λ j. Walks (problem_of f clauses) j (start (problem_of f clauses)) q e.slots) room
-          in_problem in
-          let w = walks_walked (problem_of f clauses) lent (lent_of_faults f clauses lent accepted) in_room in
-          let answer = reply_of lent q accepted w.0 in
-          record {
-            reply = same.0 ∙ answer;
-            point = same.1 ∙ ap point_in answer;
-            slots = slices_of e.slots slots m accepted w.1 e.holds.held;
-          }
+    pub searched_of : (k : ℕ) → k ≡ capacity slots → (q : Reply) (r : Found) (m : SlotSlices)
+        → (reply_of_found r ≡ q) × (r.point ≡ point_in q)
+        → Ended (framed (frame_of v k) (clauses_of clauses)) k slots [] (slot f.target 0 0 ∷ []) q m
+        → Searched f clauses slots r m
+    searched_of k room q r m same e =
+        let lent = capacity slots in
+        let clean = subst (λ (j : ℕ). search_fault f clauses j ≡ no_fault) (sym room) accepted in
+        let in_problem = subst (λ pb. Walks pb k (start pb) q e.slots) (framed_is k (rows f clauses k clean).0)
+        e.walks in
+        let in_room = subst (λ j. Walks (problem_of f clauses) j (start (problem_of f clauses)) q e.slots) room
+        in_problem in
+        let w = walks_walked (problem_of f clauses) lent (lent_of_faults f clauses lent accepted) in_room in
+        let answer = reply_of f clauses lent q accepted w.0 in
+        record {
+          reply = same.0 ∙ answer;
+          point = same.1 ∙ ap point_in answer;
+          slots = slices_of f clauses e.slots slots m accepted w.1 e.holds.held;
+        }
