@@ -86,7 +86,12 @@ pub fn put_refused(out: &mut [u8], refusal: Refusal) -> usize
     requires { longest_text ≤ length out.old }
     ensures { Printed (refused_text (code_of refusal.reason) refusal.place) out.old result out.new }
 {
-    put_pair(out, b"c refused ", refusal.reason.code(), refusal.place as u64)
+    put_pair(
+        out,
+        b"c refused ",
+        refusal.reason.code(),
+        refusal.place as u64,
+    )
 }
 
 // Puts the text of a reply, for a formula of n variables, to the front of the output and answers its length. No text is
