@@ -126,7 +126,11 @@ pub fn slots_taken(filled: u32, lent: usize) -> usize
     ensures { result ≡ taken filled lent }
 {
     let many = filled as usize;
-    if many <= MOST_PLACES.min(lent) { many } else { 0 }
+    if many <= MOST_PLACES.min(lent) {
+        many
+    } else {
+        0
+    }
 }
 
 // How many bytes a writer says that it put out; none where it refused.

@@ -200,7 +200,7 @@ pub fn wants_room<T: Copy>(answer: Result<T, Refusal>) -> bool
 }
 
 // What was settled, or the reader's refusal, which has no point.
-fn settled(answer: Result<Settled, Refusal>) -> Settled
+fn as_settled(answer: Result<Settled, Refusal>) -> Settled
     ensures { result ≡ settled_of answer }
 {
     match answer {
@@ -227,10 +227,10 @@ fn solve_larger(
 {
     let few = solve_with::<FEW_CLAUSES>(text, points, falsified, depths, out);
     if !wants_room(few) {
-        return settled(few);
+        return as_settled(few);
     }
     let most = solve_with::<MOST_CLAUSES>(text, points, falsified, depths, out);
-    settled(most)
+    as_settled(most)
 }
 
 // K3, the product's main promise: reads a text, searches, and writes and checks the certificate of one that cannot be
@@ -253,7 +253,7 @@ pub fn solve(
     }
     let tiny = solve_with::<TINY_CLAUSES>(text, points, falsified, depths, out);
     if !wants_room(tiny) {
-        return settled(tiny);
+        return as_settled(tiny);
     }
     solve_larger(text, points, falsified, depths, out)
 }

@@ -1,6 +1,6 @@
 -- `solver::solve_lent` meets its contract: what the search answers and, where it refutes, what the certificate is.
 -- Assumes nothing.
-use Rattle.std.proofs.Common.{Ok, Err, refl, ap, ◌∙◌}
+use Rattle.std.proofs.Common.{Ok, refl, ap, ◌∙◌}
 use Rattle.solver.specs.Contract.{reply_of_solution}
 use Rattle.solver.specs.Laws.SolverLaws.{solves, refuted, solves_refuted, satisfiable_differs, unknown_differs}
 use Rattle.solver.specs.Laws.SolverLaws.{refusal_differs}

@@ -4,13 +4,13 @@ use Rattle.std.proofs.lemmas.Result.{err_from_is_err_and}
 use Rattle.solver.specs.Laws.SolverLaws.{read_held, read_solved}
 use Rattle.solver.proofs.solve_with.Goals as goal
 
-pub returns-in_err-read_lent : goal.returns-in_err-read_lent
-returns-in_err-read_lent g c =
+pub returns-in_err-numbers : goal.returns-in_err-numbers
+returns-in_err-numbers g c =
     let p = err_from_is_err_and c.from_residual.result c.from_residual.ensures.1 in
-    rw (p.1, p.2) (record { reply = c.in_err-read_lent.ensures.reply; slots = refl; output = refl })
+    rw (p.1, p.2) (record { reply = c.in_err-numbers.ensures.reply; slots = refl; output = refl })
 
 pub solve_read-requires : goal.solve_read-requires
-solve_read-requires g c = read_held _ _ _ _ _ c.in_ok-read_lent.ensures
+solve_read-requires g c = read_held _ _ _ _ _ c.in_ok-numbers.ensures
 
 pub returns : goal.returns
-returns g c = read_solved _ _ c.requires _ _ _ c.in_ok-read_lent.ensures _ c.solve_read.ensures
+returns g c = read_solved _ _ c.requires _ _ _ c.in_ok-numbers.ensures _ c.solve_read.ensures

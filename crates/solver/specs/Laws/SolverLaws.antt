@@ -1,12 +1,12 @@
 -- Laws of the solver: the claim's sentences about what it tells, and one law for each way out of its functions. Assumes
 -- nothing.
-use Rattle.std.specs.Prelude.{Result, Ok, Err, Bool, true, false, List, ◌≡◌, refl, ℕ, ◌≤◌, ◌<◌, leb, length, take, drop, replicate}
+use Rattle.std.specs.Prelude.{Result, Ok, Err, Bool, true, false, List, ◌≡◌, refl, ℕ, ◌≤◌, ◌<◌, leb, length, take, drop}
 use Rattle.std.proofs.Math.Option.{some, none}
 use Rattle.std.proofs.Math.Path.{sym, ap}
 use Rattle.std.proofs.Common.{◌∙◌, subst, le_trans, le_of_eq, arith, leb-true, leb-false, true≢false}
-use borrow.Author.Tests.{eqb-false, ne_eqb}
+use borrow.Author.Tests.{eqb-false}
 use Rattle.std.proofs.lemmas.List.{length-replicate}
-use Rattle.point_slices.specs.Slices.{ClauseSlices, SlotSlices, clause_slices, clause_room, first_clauses}
+use Rattle.point_slices.specs.Slices.{ClauseSlices, SlotSlices, clause_room, first_clauses}
 use Rattle.formula.specs.declared.Formula.{Formula}
 use Rattle.formula.specs.Laws.Contracts.{formula_with}
 use Rattle.formula.specs.Limits.{max_clauses, capacity}
@@ -514,15 +514,22 @@ module _ (text : List ℕ) (k : ℕ) where
     settled_solved (Ok s) solved e = solved
     settled_solved (Err r) u e = refusal_solved r u (λ four. eqb-false (code_of r.reason) 4 e four)
 
-  module _ {slots₀ slots₁ : SlotSlices} {out₀ out₁ : List ℕ} where
-    -- one that does leaves everything
-    pub room_kept : (a : Result Settled Refusal) → SolvedIn k text slots₀ out₀ a slots₁ out₁ → wants_room a ≡ true
-        → (slots₁ ≡ slots₀) × (out₁ ≡ out₀)
-    room_kept (Ok s) solved e = absurd (true≢false (sym e))
-    room_kept (Err r) u e = (u.slots, u.output)
+    -- with the largest each is
+    pub largest_solved : max_clauses ≤ k → (a : Result Settled Refusal) → SolvedIn k text slots₀ out₀ a slots₁ out₁
+        → Solved (from_text text blank) slots₀ out₀ (settled_of a) slots₁ out₁
+    largest_solved most (Ok s) solved = solved
+    largest_solved most (Err r) u = refusal_solved r u (most_held most r u)
 
-    -- with the largest none does
-    pub most_settled : max_clauses ≤ k → (a : Result Settled Refusal) → SolvedIn k text slots₀ out₀ a slots₁ out₁
-        → wants_room a ≡ false
-    most_settled le (Ok s) solved = refl
-    most_settled le (Err r) u = ne_eqb (code_of r.reason) 4 (most_held le r u)
+  -- one that does leaves everything
+  pub room_kept : {slots₀ slots₁ : SlotSlices} {out₀ out₁ : List ℕ} (a : Result Settled Refusal)
+      → SolvedIn k text slots₀ out₀ a slots₁ out₁ → wants_room a ≡ true → (slots₁ ≡ slots₀) × (out₁ ≡ out₀)
+  room_kept (Ok s) solved e = absurd (true≢false (sym e))
+  room_kept (Err r) u e = (u.slots, u.output)
+
+-- what is solved from slots and an output that are as they were is solved from those
+pub kept_solved : (text : List ℕ) {slots₀ slots₁ slots₂ : SlotSlices} {out₀ out₁ out₂ : List ℕ} (s : Settled)
+    → (slots₁ ≡ slots₀) × (out₁ ≡ out₀) → Solved (from_text text blank) slots₁ out₁ s slots₂ out₂
+    → Solved (from_text text blank) slots₀ out₀ s slots₂ out₂
+kept_solved text {slots₀} {slots₁} {slots₂} {out₀} {out₁} {out₂} s kept solved =
+    subst (λ o. Solved (from_text text blank) slots₀ o s slots₂ out₂) kept.1
+    (subst (λ l. Solved (from_text text blank) l out₁ s slots₂ out₂) kept.0 solved)
