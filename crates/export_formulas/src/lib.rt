@@ -1,17 +1,19 @@
 // Formulas as numbers and bytes in lent slices, and the reader's answer beside them, for programs in other languages.
 #![tactic(auto)]
 
-ghost use Rattle.std.specs.Prelude.{◌≡◌, ◌≤◌, length, take, true};
+ghost use Rattle.std.specs.Prelude.{◌≡◌, ◌≤◌, length, take, replicate, IfOk};
 ghost use Rattle.math.specs.Lists.{over};
 ghost use Rattle.formula.specs.Limits.{max_images};
-ghost use Rattle.formula.specs.Laws.Contracts.{formula_with};
+ghost use Rattle.formula.specs.Laws.Contracts.{formula_lent, formula_with};
 ghost use Rattle.export_words.specs.Words.{words_of};
-ghost use Rattle.export_formulas.specs.Formulas.{formula_from, numbers_of, is_parsed, put_if_parsed};
+ghost use Rattle.export_formulas.specs.Formulas.{formula_from, numbers_of, put_if_parsed};
+ghost use Rattle.dimacs_lines.specs.Laws.ParsedAs.{parsed_in};
 ghost use Rattle.dimacs_lines.specs.Reply.{reply_of_parse};
 ghost use Rattle.export_formulas.specs.Laws.FormulaLaws.{Unused};
 
-use dimacs_lines::{Parse, ParsedNumbers};
-use export_words::{copy_bytes, put_words};
+use export_words::{copy_bytes, put_refusal, put_words};
+use formula::reasons::Refusal;
+use formula::view::FormulaView;
 use formula::{Formula, Numbers};
 
 // Puts lent bytes over the images of a formula, as many as there can be. One step a byte.
@@ -36,6 +38,29 @@ pub fn formula_from(f: Numbers, images: &[u8]) -> Formula
     };
     put_images(&mut made.images, images);
     made
+}
+
+// The formula that numbers and lent images make, where it lies: where as many images are lent as a formula has they stay,
+// else they are copied to `room`, which has 0 behind them.
+pub fn formula_view<'a>(
+    f: Numbers,
+    images: &'a [u8],
+    room: &'a mut [u8; Formula::MAX_IMAGES],
+) -> FormulaView<'a>
+    requires { room.old ≡ replicate max_images 0 }
+    ensures { formula_lent result ≡ formula_from f.variables f.clauses f.target f.permutations images.now }
+{
+    if images.len() < Formula::MAX_IMAGES {
+        put_images(room, images);
+        return FormulaView {
+            numbers: f,
+            images: room,
+        };
+    }
+    FormulaView {
+        numbers: f,
+        images: &images[..Formula::MAX_IMAGES],
+    }
 }
 
 // Writes a formula's images. Where there are no permutations they are zeros, which need not be read. One step a byte.
@@ -68,24 +93,6 @@ fn put_formula(numbers: &mut [u64], images: &mut [u8], f: Numbers, held: &[u8; F
     put_held(images, f.permutations, held);
 }
 
-// Writes the words of the reader's answer, and answers whether the text is read; `put_parsed` sees to the room.
-fn put_parse(reply: &mut [u64], r: Parse) -> bool
-    requires { 4 ≤ length reply.old }
-    ensures { (reply.new ≡ over (words_of (reply_of_parse r)) reply.old)
-        × (result ≡ is_parsed (reply_of_parse r)) }
-{
-    match r {
-        Parse::Refused { code, place } => {
-            put_words(reply, 0, code as u64, place as u64, 0);
-            false
-        }
-        Parse::Accepted => {
-            put_words(reply, 4, 0, 0, 0);
-            true
-        }
-    }
-}
-
 // Writes the words of the reader's answer and, where the text is read, the formula of the numbers and of the images
 // that are held. D1.2: "after a refusal each lent slice holds what it held before". The callers see to the room for all
 // of it, and have the images from the reader.
@@ -93,20 +100,22 @@ pub fn put_parsed(
     numbers: &mut [u64],
     images: &mut [u8],
     reply: &mut [u64],
-    r: ParsedNumbers,
+    r: Result<Numbers, Refusal>,
     held: &[u8; Formula::MAX_IMAGES],
 )
     requires { (4 ≤ length numbers.old) × (max_images ≤ length images.old) × (4 ≤ length reply.old)
-        × (is_parsed (reply_of_parse r.answer) ≡ true → Unused r.numbers.permutations held.now) }
-    ensures { (numbers.new ≡ put_if_parsed (reply_of_parse r.answer)
-        (numbers_of (formula_with r.numbers held.now)) numbers.old)
-        × (images.new ≡ put_if_parsed (reply_of_parse r.answer) held.now images.old)
-        × (reply.new ≡ over (words_of (reply_of_parse r.answer)) reply.old) }
+        × IfOk r (λ f. Unused f.permutations held.now) }
+    ensures { (numbers.new ≡ put_if_parsed (reply_of_parse (parsed_in r held.now).answer)
+        (numbers_of (parsed_in r held.now).formula) numbers.old)
+        × (images.new ≡ put_if_parsed (reply_of_parse (parsed_in r held.now).answer)
+        (parsed_in r held.now).formula.images images.old)
+        × (reply.new ≡ over (words_of (reply_of_parse (parsed_in r held.now).answer)) reply.old) }
 {
-    let f = r.numbers;
-    let answer = r.answer;
-    let read = put_parse(reply, answer);
-    if read {
-        put_formula(numbers, images, f, held);
+    match r {
+        Ok(f) => {
+            put_words(reply, 4, 0, 0, 0);
+            put_formula(numbers, images, f, held);
+        }
+        Err(refusal) => put_refusal(reply, refusal),
     }
 }

@@ -1,32 +1,27 @@
 // The writer of texts for a formula as numbers and lent bytes, for programs in other languages.
 #![tactic(auto)]
 
-ghost use Rattle.point_slices.specs.Slices.{clause_slices};
+ghost use Rattle.point_slices.specs.Slices.{slices_lent};
 ghost use Rattle.dimacs_writer.specs.Contract.{WroteSheet};
 ghost use Rattle.export_formulas.specs.Formulas.{formula_from};
 
-use certificate_writer::Written;
-use dimacs_writer::{write, write_lent};
-use export_formulas::formula_from;
+use dimacs_writer::write_lent;
+use export_formulas::formula_view;
+use formula::reasons::Refusal;
 use formula::{Formula, Numbers};
+use point_slices::Clauses;
 
-// The writer for the formula that numbers and lent images make. Where as many images are lent as a formula has, they
-// stay where they lie; else they are copied.
+// The writer for the formula that numbers and lent images make.
 pub fn sheet_from(
     f: Numbers,
     images: &[u8],
-    positive: &[u64],
-    negative: &[u64],
+    clauses: Clauses<'_>,
     out: &mut [u8],
-) -> Written
-    ensures { WroteSheet
-        (formula_from f.variables f.clauses f.target f.permutations images.now)
-        (clause_slices positive.now negative.now) out.old result out.new }
+) -> Result<usize, Refusal>
+    ensures { WroteSheet (formula_from f.variables f.clauses f.target f.permutations images.now)
+        (slices_lent clauses.entry) out.old result out.new }
 {
-    let whole = Formula::MAX_IMAGES;
-    if images.len() < whole {
-        let g = formula_from(f, images);
-        return write(g, positive, negative, out);
-    }
-    write_lent(f, &images[..whole], positive, negative, out)
+    let mut room = [0u8; Formula::MAX_IMAGES];
+    let view = formula_view(f, images, &mut room);
+    write_lent(view, clauses, out)
 }

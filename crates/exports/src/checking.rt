@@ -9,6 +9,7 @@ use certificate::bodies::{image_at, number_at, point_at};
 use checker::check_numbers;
 use export_words::{CONTENTS, ENTRY, WORDS, put_entry, put_opened, put_verdict};
 use formula::Numbers;
+use point_slices::Clauses;
 
 // The checker, its answer put into the first four words of `reply`. It returns 1; where `reply` has no room it returns
 // 0 and changes nothing.
@@ -37,8 +38,8 @@ pub extern "C" fn jugbowo_check(
         target,
         permutations,
     };
-    let r = check_numbers(f, positive, negative, file);
-    put_verdict(reply, r);
+    let lent = Clauses { positive, negative };
+    put_verdict(reply, check_numbers(f, lent, file));
     1
 }
 
@@ -50,14 +51,10 @@ pub extern "C" fn jugbowo_open(file: &[u8], contents: &mut [u64], reply: &mut [u
     ensures { OpenReturns file.now contents.old reply.old result
         contents.new reply.new }
 {
-    if reply.len() < WORDS {
+    if reply.len() < WORDS || contents.len() < CONTENTS {
         return 0;
     }
-    if contents.len() < CONTENTS {
-        return 0;
-    }
-    let r = certificate::read(file);
-    put_opened(contents, reply, r);
+    put_opened(contents, reply, certificate::read(file));
     1
 }
 
@@ -77,8 +74,7 @@ pub extern "C" fn jugbowo_image_at(
     if reply.len() < ENTRY {
         return 0;
     }
-    let r = image_at(body, n, j, i);
-    put_entry(reply, r);
+    put_entry(reply, image_at(body, n, j, i));
     1
 }
 
@@ -90,8 +86,7 @@ pub extern "C" fn jugbowo_point_at(body: &[u8], i: usize, reply: &mut [u64]) -> 
     if reply.len() < ENTRY {
         return 0;
     }
-    let r = point_at(body, i);
-    put_entry(reply, r);
+    put_entry(reply, point_at(body, i));
     1
 }
 
@@ -104,7 +99,6 @@ pub extern "C" fn jugbowo_number_at(body: &[u8], i: usize, reply: &mut [u64]) ->
     if reply.len() < ENTRY {
         return 0;
     }
-    let r = number_at(body, i);
-    put_entry(reply, r);
+    put_entry(reply, number_at(body, i));
     1
 }

@@ -25,13 +25,7 @@ pub extern "C" fn jugbowo_read(
         (clause_slices positive.new negative.new) numbers.new images.new
         reply.new }
 {
-    if reply.len() < WORDS {
-        return 0;
-    }
-    if numbers.len() < WORDS {
-        return 0;
-    }
-    if images.len() < Formula::MAX_IMAGES {
+    if reply.len() < WORDS || numbers.len() < WORDS || images.len() < Formula::MAX_IMAGES {
         return 0;
     }
     let mut held = [0u8; Formula::MAX_IMAGES];

@@ -6,6 +6,7 @@ ghost use Rattle.export_sheets.specs.Sheets.{SheetReturns};
 use export_sheets::sheet_from;
 use export_words::{WORDS, put_written};
 use formula::Numbers;
+use point_slices::Clauses;
 
 // The writer of texts, its answer put into the first four words of `reply`. It returns 1; where `reply` has no room it
 // returns 0 and changes nothing.
@@ -34,7 +35,7 @@ pub extern "C" fn jugbowo_write_sheet(
         target,
         permutations,
     };
-    let r = sheet_from(f, images, positive, negative, out);
-    put_written(reply, r);
+    let lent = Clauses { positive, negative };
+    put_written(reply, sheet_from(f, images, lent, out));
     1
 }

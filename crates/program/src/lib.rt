@@ -2,68 +2,70 @@
 #![tactic(auto)]
 
 ghost use Rattle.std.specs.Prelude.{◌≡◌, ◌≤◌, length, take};
+ghost use Rattle.formula.specs.Limits.{max_clauses};
 ghost use Rattle.claims.specs.Claim.{formula_in};
 ghost use Rattle.solver.specs.Solver.{sheet_reply};
 ghost use Rattle.program_text.specs.Report.{longest_text, report_of};
 ghost use Rattle.program_text.specs.Laws.Putting.{Printed};
 ghost use Rattle.program_search.specs.Slots.{slots};
 ghost use Rattle.program.specs.Program.{sheet_in, printed};
+ghost use Rattle.program.specs.Laws.Contracts.{PrintedIn, Told};
 
 use dimacs_arrays::FEW_CLAUSES;
-use dimacs_lines::Parse;
 use formula::Formula;
+use formula::reasons::{Reason, Refusal};
+use point_slices::Clauses;
 use program_search::search_sheet;
 use program_text::put_refused;
+use solver::wants_room;
 
 // P1: "a sheet of at most 65,536 bytes"
 pub const MAX_INPUT: usize = 65536;
 
-// Reads a text that is not too long, with arrays for the most clauses, 64 KiB, and searches. No text has more, so that
-// the reader never finds them too short and it never calls itself: the call keeps the arrays out of its caller, whose
-// frame is then small. What the call answers is not answered as it is: a compiler would make a loop of that.
-fn read_many(text: &[u8], out: &mut [u8]) -> usize
-    requires { longest_text ≤ length out.old }
-    ensures { Printed (report_of (formula_in (sheet_in text.now)).variables
-        (sheet_reply (sheet_in text.now) slots)) out.old result out.new }
+const MOST_CLAUSES: usize = Formula::MAX_CLAUSES as usize;
+
+// Reads a text that is not too long, searches, and puts the text of the answer; or it answers the reader's refusal. The
+// arrays for so many clauses, 16 bytes each, stay out of the frame of its caller. `read_sheet` sees to what it requires.
+#[inline(never)]
+fn print_with<const CLAUSES: usize>(text: &[u8], out: &mut [u8]) -> Result<usize, Refusal>
+    requires { (CLAUSES ≤ max_clauses) × (longest_text ≤ length out.old) }
+    ensures { PrintedIn CLAUSES text.now out.old result out.new }
 {
-    let mut positive = [0u64; Formula::MAX_CLAUSES as usize];
-    let mut negative = [0u64; Formula::MAX_CLAUSES as usize];
+    let mut positive = [0u64; CLAUSES];
+    let mut negative = [0u64; CLAUSES];
     let parsed = dimacs::read(text, &mut positive, &mut negative);
-    let f = parsed.formula;
-    let answer = parsed.answer;
-    match answer {
-        Parse::Accepted => search_sheet(f, &positive, &negative, out),
-        Parse::Refused { code, place } => {
-            let short = code == 4;
-            if short {
-                return read_many(text, out) / 2;
-            }
-            put_refused(out, code, place)
-        }
+    parsed.answer?;
+    let clauses = Clauses {
+        positive: &positive,
+        negative: &negative,
+    };
+    Ok(search_sheet(parsed.formula, clauses, out))
+}
+
+// What was put, or else the text of the refusal, which is put in its place.
+fn told(printed: Result<usize, Refusal>, out: &mut [u8]) -> usize
+    requires { longest_text ≤ length out.old }
+    ensures { Told printed out.old result out.new }
+{
+    match printed {
+        Ok(size) => size,
+        Err(refusal) => put_refused(out, refusal),
     }
 }
 
-// The same, with arrays for few clauses first, 4 KiB, and large ones where the reader finds these too short. `answer`
-// sees to the room.
+// The same, with arrays for few clauses first, 4 KiB, and 64 KiB where the reader finds these too short, which the
+// latter never are. `answer` sees to the room.
 fn read_sheet(text: &[u8], out: &mut [u8]) -> usize
     requires { longest_text ≤ length out.old }
     ensures { Printed (report_of (formula_in (sheet_in text.now)).variables
         (sheet_reply (sheet_in text.now) slots)) out.old result out.new }
 {
-    let mut positive = [0u64; FEW_CLAUSES];
-    let mut negative = [0u64; FEW_CLAUSES];
-    let parsed = dimacs::read(text, &mut positive, &mut negative);
-    let f = parsed.formula;
-    let answer = parsed.answer;
-    match answer {
-        Parse::Accepted => search_sheet(f, &positive, &negative, out),
-        Parse::Refused { code, place } => {
-            if code == 4 {
-                return read_many(text, out);
-            }
-            put_refused(out, code, place)
-        }
+    let few = print_with::<FEW_CLAUSES>(text, out);
+    if !wants_room(few) {
+        return told(few, out);
     }
+    let most = print_with::<MOST_CLAUSES>(text, out);
+    told(most, out)
 }
 
 // P1, P4: what the program prints for an input: the bytes are put to the front of the output, and the answer is their
@@ -73,7 +75,11 @@ pub fn answer(text: &[u8], out: &mut [u8]) -> usize
     ensures { Printed (printed text.now) out.old result out.new }
 {
     if MAX_INPUT < text.len() {
-        return put_refused(out, 1, MAX_INPUT);
+        let refusal = Refusal {
+            reason: Reason::LongText,
+            place: MAX_INPUT,
+        };
+        return put_refused(out, refusal);
     }
     read_sheet(text, out)
 }
@@ -84,7 +90,7 @@ pub fn printed_for<'a>(input: &[u8], count: usize, out: &'a mut [u8]) -> &'a [u8
     requires { (count ≤ length input.now) × (longest_text ≤ length out.old) }
     ensures { result.now ≡ printed (take count input.now) }
 {
-    let size = answer(&input[0..count], out);
+    let size = answer(&input[..count], out);
     let text = &out[..];
-    &text[0..size]
+    &text[..size]
 }

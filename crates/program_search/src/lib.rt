@@ -3,7 +3,7 @@
 #![tactic(auto)]
 
 ghost use Rattle.std.specs.Prelude.{true, ◌≡◌, ◌≤◌, length};
-ghost use Rattle.point_slices.specs.Slices.{clause_slices, clause_room, first_clauses};
+ghost use Rattle.point_slices.specs.Slices.{slices_lent, clause_room, first_clauses};
 ghost use Rattle.formula.specs.Limits.{max_variables, max_slots};
 ghost use Rattle.search.specs.Contract.{reply_of_found};
 ghost use Rattle.search.specs.Search.{search_reply};
@@ -13,10 +13,11 @@ ghost use Rattle.program_search.specs.Slots.{slots};
 ghost use Rattle.program_search.specs.Laws.SettlingLaws.{Settles};
 
 use formula::Formula;
-use point_slices::first_points;
+use point_slices::{Clauses, first_points};
 use points::Depth;
 use program_text::put_report;
-use search::{Found, Outcome, search};
+use search::{Found, search};
+use search_step::Conclusion;
 
 // P1: "with 4,096 slots"
 const SLOTS: usize = 4096;
@@ -30,47 +31,40 @@ fn is_settled(found: Found) -> bool
 {
     matches!(
         found.answer,
-        Outcome::Satisfiable { .. } | Outcome::Unsatisfiable { .. }
+        Ok(Conclusion::Satisfiable { .. } | Conclusion::Unsatisfiable { .. })
     )
 }
 
 // Searches with as many slots in local arrays, which stay out of the frame of its caller. The clauses stand at the front
 // of two slices, as the reader leaves them. `search_sheet` hands on what it requires.
 #[inline(never)]
-fn search_with<const PLACES: usize>(f: Formula, positive: &[u64], negative: &[u64]) -> Found
-    requires { (f.clauses ≤ clause_room (clause_slices positive.now negative.now)) × (PLACES ≤ max_slots) }
-    ensures { reply_of_found result ≡ search_reply f (first_clauses f.clauses
-        (clause_slices positive.now negative.now)) PLACES }
+fn search_with<const PLACES: usize>(f: Formula, clauses: Clauses<'_>) -> Found
+    requires { (f.clauses ≤ clause_room (slices_lent clauses)) × (PLACES ≤ max_slots) }
+    ensures { reply_of_found result ≡ search_reply f (first_clauses f.clauses (slices_lent clauses.entry)) PLACES }
 {
     let mut points = [0u64; PLACES];
     let mut falsified = [0u32; PLACES];
     let mut depths = [0 as Depth; PLACES];
     let total = f.clauses as usize;
-    let wanted = first_points(positive, total);
-    let unwanted = first_points(negative, total);
-    search(
-        f,
-        wanted,
-        unwanted,
-        &mut points,
-        &mut falsified,
-        &mut depths,
-    )
+    let first = Clauses {
+        positive: first_points(clauses.positive, total),
+        negative: first_points(clauses.negative, total),
+    };
+    search(f, first, &mut points, &mut falsified, &mut depths)
 }
 
 // P1: "with 4,096 slots", 64 KiB, and the text of the answer is put. It searches with few slots first, 4 KiB: an answer
-// that they suffice for stays with more. `program::read_sheet` and `program::read_many` see to what it requires.
-pub fn search_sheet(f: Formula, positive: &[u64], negative: &[u64], out: &mut [u8]) -> usize
-    requires { (f.clauses ≤ clause_room (clause_slices positive.now negative.now))
+// that they suffice for stays with more. `program::print_with` sees to what it requires.
+pub fn search_sheet(f: Formula, clauses: Clauses<'_>, out: &mut [u8]) -> usize
+    requires { (f.clauses ≤ clause_room (slices_lent clauses))
         × (f.variables ≤ max_variables) × (longest_text ≤ length out.old) }
     ensures { Printed (report_of f.variables
-        (search_reply f (first_clauses f.clauses (clause_slices positive.now negative.now))
-        slots)) out.old result out.new }
+        (search_reply f (first_clauses f.clauses (slices_lent clauses.entry)) slots)) out.old result out.new }
 {
-    let few = search_with::<FEW_SLOTS>(f, positive, negative);
+    let few = search_with::<FEW_SLOTS>(f, clauses);
     if is_settled(few) {
         return put_report(out, f.variables, few);
     }
-    let found = search_with::<SLOTS>(f, positive, negative);
+    let found = search_with::<SLOTS>(f, clauses);
     put_report(out, f.variables, found)
 }

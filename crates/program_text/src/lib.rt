@@ -4,14 +4,19 @@
 ghost use Rattle.std.specs.Prelude.{◌+◌, ◌≤◌, ◌<◌, ◌*◌, length};
 ghost use Rattle.formula.specs.Limits.{max_variables};
 ghost use Rattle.search.specs.Contract.{reply_of_found};
-ghost use Rattle.program_text.specs.Report.{literal, literals, satisfiable_text, unsatisfiable_text, unknown_text};
-ghost use Rattle.program_text.specs.Report.{refused_text, report_of, longest_literal, longest_text};
+ghost use Rattle.formula.specs.Reasons.{code_of};
+ghost use Rattle.text_output.specs.Decimal.{line};
+ghost use Rattle.program_text.specs.Report.{literal, literals, satisfiable_text, unsatisfiable_text, refused_text};
+ghost use Rattle.program_text.specs.Report.{space, report_of, longest_literal, longest_text};
+ghost use Rattle.program_text.specs.Laws.ReportLaws.{longest_head};
 ghost use Rattle.text_output.specs.Laws.Putting.{places_end, Put};
 ghost use Rattle.program_text.specs.Laws.Putting.{Printed};
 
 use formula::Formula;
+use formula::reasons::Refusal;
 use points::{Point, member};
-use search::{Found, Outcome};
+use search::Found;
+use search_step::Conclusion;
 use text_output::{put_field, put_line, put_text};
 
 // A bound for the text of a literal, in bytes.
@@ -45,8 +50,8 @@ fn put_literals(out: &mut [u8], at: usize, x: Point, n: u32) -> usize
     place
 }
 
-// Puts the three lines of a point that meets all clauses. Like the three functions after it, it leaves its requirement
-// to `put_report`.
+// Puts the three lines of a point that meets all clauses. Like the functions after it, it leaves its requirement to
+// `put_report`.
 fn put_satisfiable(out: &mut [u8], n: u32, x: Point, distance: u32, filled: u32) -> usize
     requires { (n ≤ max_variables) × (longest_text ≤ length out.old) }
     ensures { Printed (satisfiable_text n x distance filled) out.old result out.new }
@@ -68,27 +73,25 @@ fn put_unsatisfiable(out: &mut [u8], filled: u32) -> usize
     put_text(out, place, b"\n")
 }
 
-// Puts the two lines of a search that had no room.
-fn put_unknown(out: &mut [u8], bound: u32, filled: u32) -> usize
-    requires { longest_text ≤ length out.old }
-    ensures { Printed (unknown_text bound filled) out.old result out.new }
+// Puts a line with two numbers behind a head that is not long.
+fn put_pair(out: &mut [u8], head: &[u8], a: u32, b: u64) -> usize
+    requires { (length head.now ≤ longest_head) × (longest_text ≤ length out.old) }
+    ensures { Printed (line head.now a space b) out.old result out.new }
 {
-    put_line(
-        out,
-        0,
-        b"s UNKNOWN\nc room ",
-        bound as u64,
-        b" ",
-        filled as u64,
-    )
+    put_line(out, 0, head, a as u64, b" ", b)
 }
 
 // Puts the line of a refusal. Callers see to the room.
-pub fn put_refused(out: &mut [u8], code: u32, place: usize) -> usize
+pub fn put_refused(out: &mut [u8], refusal: Refusal) -> usize
     requires { longest_text ≤ length out.old }
-    ensures { Printed (refused_text code place) out.old result out.new }
+    ensures { Printed (refused_text (code_of refusal.reason) refusal.place) out.old result out.new }
 {
-    put_line(out, 0, b"c refused ", code as u64, b" ", place as u64)
+    put_pair(
+        out,
+        b"c refused ",
+        refusal.reason.code(),
+        refusal.place as u64,
+    )
 }
 
 // Puts the text of a reply, for a formula of n variables, to the front of the output and answers its length. No text is
@@ -97,12 +100,14 @@ pub fn put_report(out: &mut [u8], n: u32, r: Found) -> usize
     requires { (n ≤ max_variables) × (longest_text ≤ length out.old) }
     ensures { Printed (report_of n (reply_of_found r)) out.old result out.new }
 {
-    let x = r.point;
-    let answer = r.answer;
-    match answer {
-        Outcome::Satisfiable { distance, filled } => put_satisfiable(out, n, x, distance, filled),
-        Outcome::Unsatisfiable { filled } => put_unsatisfiable(out, filled),
-        Outcome::Unknown { bound, filled } => put_unknown(out, bound, filled),
-        Outcome::Refused { code, place } => put_refused(out, code, place),
+    match r.answer {
+        Ok(Conclusion::Satisfiable { distance, filled }) => {
+            put_satisfiable(out, n, r.point, distance, filled)
+        }
+        Ok(Conclusion::Unsatisfiable { filled }) => put_unsatisfiable(out, filled),
+        Ok(Conclusion::Unknown { bound, filled }) => {
+            put_pair(out, b"s UNKNOWN\nc room ", bound, filled as u64)
+        }
+        Err(refusal) => put_refused(out, refusal),
     }
 }

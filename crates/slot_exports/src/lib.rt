@@ -10,6 +10,7 @@ ghost use Rattle.export_formulas.specs.Formulas.{formula_from};
 use export_formulas::formula_from;
 use export_words::{WORDS, put_found, put_written};
 use formula::Numbers;
+use point_slices::Clauses;
 use slot_columns::Slot;
 use slot_search::search_slots;
 use slot_writer::write_slots;
@@ -42,8 +43,8 @@ pub extern "C" fn jugbowo_search_slots(
         permutations,
     };
     let f = formula_from(numbers, images);
-    let r = search_slots(f, positive, negative, slots);
-    put_found(reply, r);
+    let lent = Clauses { positive, negative };
+    put_found(reply, search_slots(f, lent, slots));
     1
 }
 
@@ -77,7 +78,7 @@ pub extern "C" fn jugbowo_write_slots(
         permutations,
     };
     let f = formula_from(numbers, images);
-    let r = write_slots(f, positive, negative, slots, filled, out);
-    put_written(reply, r);
+    let lent = Clauses { positive, negative };
+    put_written(reply, write_slots(f, lent, slots, filled, out));
     1
 }

@@ -3,7 +3,7 @@
 #![tactic(auto)]
 
 ghost use Rattle.std.specs.Prelude.{◌≡◌, ◌&&◌, ltb, length, take};
-ghost use Rattle.point_slices.specs.Slices.{clause_slices, slot_slices};
+ghost use Rattle.point_slices.specs.Slices.{slices_lent, slot_slices};
 ghost use Rattle.certificate_writer.specs.Contract.{Wrote};
 ghost use Rattle.slot_columns.specs.Laws.Copies.{Within};
 ghost use Rattle.formula.specs.Reply.{no_fault};
@@ -12,10 +12,13 @@ ghost use Rattle.search.specs.Contract.{reply_of_found, Searched};
 ghost use Rattle.search_theory.specs.Laws.Promised.{reported};
 ghost use Rattle.slot_prefixes.specs.Laws.PrefixLaws.{no_room, taken, bytes_in};
 
-use certificate_writer::{Written, write};
-use formula::{Formula, Numbers};
+use certificate_writer::write;
+use formula::Formula;
+use formula::reasons::Refusal;
+use point_slices::Clauses;
 use points::Depth;
-use search::{Found, Outcome, search, search_accepted};
+use search::{Found, search, search_accepted};
+use search_step::Conclusion;
 
 // How many places such arrays have at most: one for each slot that a search or a certificate can use.
 pub const MOST_PLACES: usize = Formula::MAX_SLOTS as usize;
@@ -23,22 +26,20 @@ pub const MOST_PLACES: usize = Formula::MAX_SLOTS as usize;
 // The search on the first k places of three slices.
 pub fn search_prefix(
     f: Formula,
-    positive: &[u64],
-    negative: &[u64],
+    clauses: Clauses<'_>,
     points: &mut [u64],
     falsified: &mut [u32],
     depths: &mut [Depth],
     k: usize,
 ) -> Found
     requires { Within k k (length points.old) (length falsified.old) (length depths.old) }
-    ensures { Searched f (clause_slices positive.now negative.now)
+    ensures { Searched f (slices_lent clauses.entry)
         (slot_slices (take k points.old) (take k falsified.old) (take k depths.old)) result
         (slot_slices (take k points.new) (take k falsified.new) (take k depths.new)) }
 {
     search(
         f,
-        positive,
-        negative,
+        clauses,
         &mut points[..k],
         &mut falsified[..k],
         &mut depths[..k],
@@ -48,30 +49,21 @@ pub fn search_prefix(
 // The same of a formula that refusals 10 to 12 let pass, on at least one place.
 pub fn search_accepted_prefix(
     f: Formula,
-    positive: &[u64],
-    negative: &[u64],
+    clauses: Clauses<'_>,
     points: &mut [u64],
     falsified: &mut [u32],
     depths: &mut [Depth],
     k: usize,
 ) -> Found
     requires { Within k k (length points.old) (length falsified.old) (length depths.old)
-        × (search_fault f (clause_slices positive.now negative.now) k ≡ no_fault) }
-    ensures { Searched f (clause_slices positive.now negative.now)
+        × (search_fault f (slices_lent clauses) k ≡ no_fault) }
+    ensures { Searched f (slices_lent clauses.entry)
         (slot_slices (take k points.old) (take k falsified.old) (take k depths.old)) result
         (slot_slices (take k points.new) (take k falsified.new) (take k depths.new)) }
 {
-    let numbers = Numbers {
-        variables: f.variables,
-        clauses: f.clauses,
-        target: f.target,
-        permutations: f.permutations,
-    };
     search_accepted(
-        numbers,
-        &f.images,
-        positive,
-        negative,
+        f.view(),
+        clauses,
         &mut points[..k],
         &mut falsified[..k],
         &mut depths[..k],
@@ -81,24 +73,22 @@ pub fn search_accepted_prefix(
 // The writer on the first k places of three slices.
 pub fn write_prefix(
     f: Formula,
-    positive: &[u64],
-    negative: &[u64],
+    clauses: Clauses<'_>,
     points: &[u64],
     falsified: &[u32],
     depths: &[Depth],
     k: usize,
     filled: u32,
     out: &mut [u8],
-) -> Written
+) -> Result<usize, Refusal>
     requires { Within k k (length points.now) (length falsified.now) (length depths.now) }
-    ensures { Wrote f (clause_slices positive.now negative.now)
+    ensures { Wrote f (slices_lent clauses.entry)
         (slot_slices (take k points.now) (take k falsified.now) (take k depths.now))
         filled out.old result out.new }
 {
     write(
         f,
-        positive,
-        negative,
+        clauses,
         &points[..k],
         &falsified[..k],
         &depths[..k],
@@ -111,12 +101,11 @@ pub fn write_prefix(
 pub fn filled(r: Found) -> usize
     ensures { result ≡ reported (reply_of_found r) }
 {
-    let answer = r.answer;
-    match answer {
-        Outcome::Satisfiable { distance, filled } => filled as usize,
-        Outcome::Unsatisfiable { filled } => filled as usize,
-        Outcome::Unknown { bound, filled } => filled as usize,
-        Outcome::Refused { code, place } => 0,
+    match r.answer {
+        Ok(Conclusion::Satisfiable { filled, .. }) => filled as usize,
+        Ok(Conclusion::Unsatisfiable { filled }) => filled as usize,
+        Ok(Conclusion::Unknown { filled, .. }) => filled as usize,
+        Err(_) => 0,
     }
 }
 
@@ -124,12 +113,10 @@ pub fn filled(r: Found) -> usize
 pub fn outgrown(r: Found, k: usize, lent: usize) -> bool
     ensures { result ≡ (no_room (reply_of_found r) && ltb k lent) }
 {
-    let answer = r.answer;
-    match answer {
-        Outcome::Satisfiable { distance, filled } => false,
-        Outcome::Unsatisfiable { filled } => false,
-        Outcome::Unknown { bound, filled } => k < lent,
-        Outcome::Refused { code, place } => false,
+    match r.answer {
+        Ok(Conclusion::Unknown { .. }) => k < lent,
+        Ok(Conclusion::Satisfiable { .. }) | Ok(Conclusion::Unsatisfiable { .. }) => false,
+        Err(_) => false,
     }
 }
 
@@ -147,11 +134,8 @@ pub fn slots_taken(filled: u32, lent: usize) -> usize
 }
 
 // How many bytes a writer says that it put out; none where it refused.
-pub fn bytes(r: Written) -> usize
+pub fn bytes(r: Result<usize, Refusal>) -> usize
     ensures { result ≡ bytes_in r }
 {
-    match r {
-        Written::Bytes(size) => size,
-        Written::Refused { code, place } => 0,
-    }
+    r.unwrap_or(0)
 }

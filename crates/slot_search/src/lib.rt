@@ -1,11 +1,12 @@
 // The search with the slots in one lent slice of structs (F9), a thin function over the search on three slices.
 #![tactic(auto)]
 
-ghost use Rattle.point_slices.specs.Slices.{clause_slices};
+ghost use Rattle.point_slices.specs.Slices.{slices_lent};
 ghost use Rattle.slot_columns.specs.Slots.{slots_in};
 ghost use Rattle.search.specs.Contract.{Searched};
 
 use formula::Formula;
+use point_slices::Clauses;
 use points::Depth;
 use search::Found;
 use slot_columns::copy_back;
@@ -22,8 +23,8 @@ const FEW_PLACES: usize = 256;
 // slice as it was. It searches on 4 KiB of the stack, and only where that is too little again: on 64 KiB or, where more
 // slots are lent than these have places for, on as many places as can be used. What the refusals test is tested once.
 // The slots filled are copied back, one step each; no other slot is read or stored.
-pub fn search_slots(f: Formula, positive: &[u64], negative: &[u64], slots: &mut [Slot]) -> Found
-    ensures { Searched f (clause_slices positive.now negative.now)
+pub fn search_slots(f: Formula, clauses: Clauses<'_>, slots: &mut [Slot]) -> Found
+    ensures { Searched f (slices_lent clauses.entry)
         (slots_in slots.old) result (slots_in slots.new) }
 {
     let mut points = [0u64; FEW_PLACES];
@@ -33,15 +34,14 @@ pub fn search_slots(f: Formula, positive: &[u64], negative: &[u64], slots: &mut 
     let k = lent.min(FEW_PLACES);
     let r = search_prefix(
         f,
-        positive,
-        negative,
+        clauses,
         &mut points,
         &mut falsified,
         &mut depths,
         k,
     );
     if outgrown(r, k, lent) {
-        return search_many(f, positive, negative, slots);
+        return search_many(f, clauses, slots);
     }
     copy_back(slots, filled(r), &points, &falsified, &depths);
     r

@@ -2,11 +2,12 @@
 #![tactic(auto)]
 
 ghost use Rattle.std.specs.Prelude.{◌≤◌, min, length};
-ghost use Rattle.point_slices.specs.Slices.{clause_slices};
+ghost use Rattle.point_slices.specs.Slices.{slices_lent};
 ghost use Rattle.formula.specs.Limits.{max_slots};
 ghost use Rattle.slot_search_again.specs.Laws.Contracts.{Accepted, SearchedSlots};
 
 use formula::Formula;
+use point_slices::Clauses;
 use points::Depth;
 use search::Found;
 use slot_columns::{Slot, copy_back};
@@ -20,13 +21,12 @@ const MANY_PLACES: usize = 4096;
 #[inline(never)]
 fn search_on<const PLACES: usize>(
     f: Formula,
-    positive: &[u64],
-    negative: &[u64],
+    clauses: Clauses<'_>,
     slots: &mut [Slot],
 ) -> Found
-    requires accepted { Accepted f (clause_slices positive.now negative.now) slots.old }
+    requires accepted { Accepted f (slices_lent clauses) slots.old }
     requires places { (1 ≤ PLACES) × (PLACES ≤ max_slots) × (min max_slots (length slots.old) ≤ PLACES) }
-    ensures { SearchedSlots f (clause_slices positive.now negative.now)
+    ensures { SearchedSlots f (slices_lent clauses.entry)
         slots.old result slots.new }
 {
     let mut points = [0u64; PLACES];
@@ -35,8 +35,7 @@ fn search_on<const PLACES: usize>(
     let k = slots.len().min(PLACES);
     let r = search_accepted_prefix(
         f,
-        positive,
-        negative,
+        clauses,
         &mut points,
         &mut falsified,
         &mut depths,
@@ -49,14 +48,14 @@ fn search_on<const PLACES: usize>(
 // The search on 64 KiB of the stack where these have places for all the slots lent, else on as many places as can be
 // used, 1 MiB: so a search begins again only once. `slot_search::search_slots`, whose first places were too few, sees to
 // what it requires.
-pub fn search_many(f: Formula, positive: &[u64], negative: &[u64], slots: &mut [Slot]) -> Found
-    requires { Accepted f (clause_slices positive.now negative.now) slots.old }
-    ensures { SearchedSlots f (clause_slices positive.now negative.now)
+pub fn search_many(f: Formula, clauses: Clauses<'_>, slots: &mut [Slot]) -> Found
+    requires { Accepted f (slices_lent clauses) slots.old }
+    ensures { SearchedSlots f (slices_lent clauses.entry)
         slots.old result slots.new }
 {
     if slots.len() <= MANY_PLACES {
-        search_on::<MANY_PLACES>(f, positive, negative, slots)
+        search_on::<MANY_PLACES>(f, clauses, slots)
     } else {
-        search_on::<MOST_PLACES>(f, positive, negative, slots)
+        search_on::<MOST_PLACES>(f, clauses, slots)
     }
 }

@@ -1,12 +1,13 @@
 // The writer with the slots in one lent slice of structs (F9), a thin function over the writer on three slices.
 #![tactic(auto)]
 
-ghost use Rattle.point_slices.specs.Slices.{clause_slices};
+ghost use Rattle.point_slices.specs.Slices.{slices_lent};
 ghost use Rattle.certificate_writer.specs.Contract.{Wrote};
 ghost use Rattle.slot_columns.specs.Slots.{slots_in};
 
-use certificate_writer::Written;
 use formula::Formula;
+use formula::reasons::Refusal;
+use point_slices::Clauses;
 use slot_columns::Slot;
 use slot_prefixes::slots_taken;
 use slot_writer_large::{write_many, write_on};
@@ -19,18 +20,17 @@ const FEW_PLACES: usize = 1024;
 // arrays for the copies have 16 KiB of the stack, and what is paid to make them 0 follows the slots taken.
 pub fn write_slots(
     f: Formula,
-    positive: &[u64],
-    negative: &[u64],
+    clauses: Clauses<'_>,
     slots: &[Slot],
     filled: u32,
     out: &mut [u8],
-) -> Written
-    ensures { Wrote f (clause_slices positive.now negative.now)
+) -> Result<usize, Refusal>
+    ensures { Wrote f (slices_lent clauses.entry)
         (slots_in slots.now) filled out.old result out.new }
 {
     if slots_taken(filled, slots.len()) <= FEW_PLACES {
-        write_on::<FEW_PLACES>(f, positive, negative, slots, filled, out)
+        write_on::<FEW_PLACES>(f, clauses, slots, filled, out)
     } else {
-        write_many(f, positive, negative, slots, filled, out)
+        write_many(f, clauses, slots, filled, out)
     }
 }

@@ -1,11 +1,11 @@
 -- The slots that a certificate takes, the arrays once these are copied to them, and what the writer does from there.
 -- Assumes nothing.
-use Rattle.std.proofs.Common.{◌≡◌, ℕ, ◌<◌, ◌≤◌, List, length, min, sym, subst, arith}
+use Rattle.std.proofs.Common.{Result, ◌≡◌, ℕ, ◌<◌, ◌≤◌, List, length, min, sym, subst, arith}
 use Rattle.std.proofs.Math.ListN.{take}
 use Rattle.point_slices.specs.Slices.{ClauseSlices, slot_slices}
 use Rattle.formula.specs.declared.Formula.{Formula}
 use Rattle.formula.specs.Limits.{max_slots}
-use Rattle.certificate_writer.specs.declared.Written.{Written}
+use Rattle.formula.specs.declared.reasons.Refusal.{Refusal}
 use Rattle.certificate_writer.specs.Contract.{Wrote}
 use Rattle.slot_columns.specs.declared.Slot.{Slot}
 use Rattle.slot_columns.specs.Slots.{points_in, falsified_in, depths_in, slots_in}
@@ -23,7 +23,7 @@ module _ (ys : List Slot) (filled : ℕ) {k : ℕ} (is : k ≡ taken filled (len
   pub used : k ≤ length ys
   used = let u : k ≤ min max_slots (length ys) = takes.taken_used in omega arith
 
-  module _ {f : Formula} {clauses : ClauseSlices} {os os' : List ℕ} {r : Written} (ps₀ fs₀ ds₀ ps fs ds : List ℕ)
+  module _ {f : Formula} {clauses : ClauseSlices} {os os' : List ℕ} {r : Result ℕ Refusal} (ps₀ fs₀ ds₀ ps fs ds : List ℕ)
       (copied : (ps ≡ front k (points_in ys) ps₀) × ((fs ≡ front k (falsified_in ys) fs₀)
       × (ds ≡ front k (depths_in ys) ds₀)))
       (w : Wrote f clauses (slot_slices (take k ps) (take k fs) (take k ds)) filled os r os') where

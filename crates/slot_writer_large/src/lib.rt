@@ -2,13 +2,14 @@
 #![tactic(auto)]
 
 ghost use Rattle.std.specs.Prelude.{◌≤◌, length};
-ghost use Rattle.point_slices.specs.Slices.{clause_slices};
+ghost use Rattle.point_slices.specs.Slices.{slices_lent};
 ghost use Rattle.formula.specs.Limits.{max_slots};
 ghost use Rattle.slot_prefixes.specs.Laws.PrefixLaws.{taken};
 ghost use Rattle.slot_writer_large.specs.Laws.Contracts.{WroteSlots};
 
-use certificate_writer::Written;
 use formula::Formula;
+use formula::reasons::Refusal;
+use point_slices::Clauses;
 use points::Depth;
 use slot_columns::{Slot, copy_out};
 use slot_prefixes::{MOST_PLACES, slots_taken, write_prefix};
@@ -21,14 +22,13 @@ const MANY_PLACES: usize = 8192;
 #[inline(never)]
 pub fn write_on<const PLACES: usize>(
     f: Formula,
-    positive: &[u64],
-    negative: &[u64],
+    clauses: Clauses<'_>,
     slots: &[Slot],
     filled: u32,
     out: &mut [u8],
-) -> Written
+) -> Result<usize, Refusal>
     requires { (taken filled (length slots.now) ≤ PLACES) × (PLACES ≤ max_slots) }
-    ensures { WroteSlots f (clause_slices positive.now negative.now) slots.now
+    ensures { WroteSlots f (slices_lent clauses.entry) slots.now
         filled out.old result out.new }
 {
     let mut points = [0u64; PLACES];
@@ -37,7 +37,7 @@ pub fn write_on<const PLACES: usize>(
     let k = slots_taken(filled, slots.len());
     copy_out(slots, k, &mut points, &mut falsified, &mut depths);
     write_prefix(
-        f, positive, negative, &points, &falsified, &depths, k, filled, out,
+        f, clauses, &points, &falsified, &depths, k, filled, out,
     )
 }
 
@@ -45,18 +45,17 @@ pub fn write_on<const PLACES: usize>(
 // as there can be, 1 MiB.
 pub fn write_many(
     f: Formula,
-    positive: &[u64],
-    negative: &[u64],
+    clauses: Clauses<'_>,
     slots: &[Slot],
     filled: u32,
     out: &mut [u8],
-) -> Written
-    ensures { WroteSlots f (clause_slices positive.now negative.now) slots.now
+) -> Result<usize, Refusal>
+    ensures { WroteSlots f (slices_lent clauses.entry) slots.now
         filled out.old result out.new }
 {
     if slots_taken(filled, slots.len()) <= MANY_PLACES {
-        write_on::<MANY_PLACES>(f, positive, negative, slots, filled, out)
+        write_on::<MANY_PLACES>(f, clauses, slots, filled, out)
     } else {
-        write_on::<MOST_PLACES>(f, positive, negative, slots, filled, out)
+        write_on::<MOST_PLACES>(f, clauses, slots, filled, out)
     }
 }

@@ -1,19 +1,20 @@
 -- What the solver promises: its answer and every lent slice as it returns, by the definitions of reader, search,
 -- writer and checker, and the claim's sentences about that. Assumes nothing.
-use Rattle.std.specs.Prelude.{List, [], ◌↔◌, ◌≡◌, ℕ, ◌≤◌, ◌<◌, ◌^◌, length, take, drop}
+use Rattle.std.specs.Prelude.{Result, Ok, Err, List, [], ◌↔◌, ◌≡◌, ℕ, ◌≤◌, ◌<◌, ◌^◌, length, take, drop}
 use Rattle.std.proofs.Math.Option.{Option, some, none}
 use Rattle.points.specs.Points.{distance}
 use Rattle.point_slices.specs.Slices.{SlotSlices}
 use Rattle.formula.specs.Limits.{max_slots, capacity}
 use Rattle.formula.specs.Problem.{Unsatisfiable}
+use Rattle.formula.specs.Reasons.{code_of}
+use Rattle.formula.specs.declared.reasons.Refusal.{Refusal}
 use Rattle.formula.specs.Reply.{Reply, refused, satisfiable, unsatisfiable, unknown, written, accepted, point_in}
 use Rattle.checker.specs.Checker.{check_reply}
 use Rattle.claims.specs.Claim.{Sheet, formula_in, slices_in, problem_in, Meets, AtLeast, SmallestIn, InSlots, OnSheet}
 use Rattle.solver.specs.Solver.{sheet_reply, sheet_slices, certificate_reply, certificate_output}
 use Rattle.solver.specs.declared.Settled.{Settled}
 use Rattle.solver.specs.declared.Solution.{Solution}
-use Rattle.solver.specs.declared.Solution.TheVariants.{Satisfiable, Unsatisfiable as Refutes, Uncertified}
-use Rattle.solver.specs.declared.Solution.TheVariants.{Unknown, Refused}
+use Rattle.solver.specs.declared.Solution.TheVariants.{Satisfiable, Unsatisfiable as Refutes, Uncertified, Unknown}
 
 -- what the solver answers in document 01's terms: the reader's refusal or the search's reply and, beside 'cannot be
 -- met', the writer's reply
@@ -22,15 +23,15 @@ pub record SolverReply : Type 0 where
   pub certificate : Option Reply
 
 -- F10: what the code's answer tells, beside the point x
-unfoldable pub reply_of_solution : ℕ → Solution → SolverReply
-reply_of_solution x (Satisfiable d filled) = record { reply = satisfiable x d filled; certificate = none }
-reply_of_solution x (Refutes filled size) = record { reply = unsatisfiable filled; certificate = some (written size) }
-reply_of_solution x (Uncertified filled needed) = record {
+unfoldable pub reply_of_solution : ℕ → Result Solution Refusal → SolverReply
+reply_of_solution x (Ok (Satisfiable d filled)) = record { reply = satisfiable x d filled; certificate = none }
+reply_of_solution x (Ok (Refutes filled size)) = record { reply = unsatisfiable filled; certificate = some (written size) }
+reply_of_solution x (Ok (Uncertified filled needed)) = record {
   reply = unsatisfiable filled;
   certificate = some (refused 19 needed);
 }
-reply_of_solution x (Unknown b filled) = record { reply = unknown b filled; certificate = none }
-reply_of_solution x (Refused code place) = record { reply = refused code place; certificate = none }
+reply_of_solution x (Ok (Unknown b filled)) = record { reply = unknown b filled; certificate = none }
+reply_of_solution x (Err r) = record { reply = refused (code_of r.reason) r.place; certificate = none }
 
 -- the same with the point that stands beside it
 abbrev pub reply_of_settled : Settled → SolverReply

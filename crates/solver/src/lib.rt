@@ -2,24 +2,23 @@
 #![tactic(auto)]
 
 ghost use Rattle.std.specs.Prelude.{List, ◌≡◌, ℕ, ◌≤◌, length, take};
-ghost use Rattle.point_slices.specs.Slices.{clause_slices, slot_slices, clause_room, first_clauses};
-ghost use Rattle.formula.specs.Limits.{max_images};
+ghost use Rattle.point_slices.specs.Slices.{slices_lent, slot_slices, clause_room, first_clauses};
+ghost use Rattle.formula.specs.Limits.{max_clauses};
 ghost use Rattle.formula.specs.Reply.{accepted};
-ghost use Rattle.formula.specs.Laws.Contracts.{formula_with};
+ghost use Rattle.formula.specs.Laws.Contracts.{formula_lent, formula_with};
 ghost use Rattle.checker.specs.Checker.{check_reply};
 ghost use Rattle.claims.specs.Claim.{from_text, by_value};
 ghost use Rattle.solver.specs.Solver.{blank};
 ghost use Rattle.solver.specs.Contract.{Solved};
-ghost use Rattle.solver.specs.Laws.Steps.{Refuted, Certifies, unsatisfiable_with, refused_with};
+ghost use Rattle.solver.specs.Laws.Steps.{Refuted, Certifies, unsatisfiable_with, settled_of, wants_room, SolvedIn};
 
-use certificate_writer::Written;
-use checker::Verdict;
 use dimacs_arrays::FEW_CLAUSES;
-use dimacs_lines::Parse;
+use formula::reasons::{Reason, Refusal};
+use formula::view::FormulaView;
 use formula::{Formula, Numbers};
-use point_slices::first_points;
+use point_slices::{Clauses, first_points};
 use points::{Depth, Point};
-use search::Outcome;
+use search_step::Conclusion;
 
 // How many clauses the first arrays have room for, since each array is made 0 first.
 const TINY_CLAUSES: usize = 32;
@@ -28,21 +27,22 @@ const TINY_CLAUSES: usize = 32;
 // before its problem line, often a comment for each variable, would be read twice.
 const TINY_TEXT: usize = 256;
 
-// What the solver answers. A certificate is `size` bytes at the front of the output, written and checked; where the
-// output has no room for the bytes needed, nothing is put there.
+const MOST_CLAUSES: usize = Formula::MAX_CLAUSES as usize;
+
+// What the solver answers to a formula. A certificate is `size` bytes at the front of the output, written and checked;
+// where the output has no room for the bytes needed, nothing is put there.
 #[derive(Clone, Copy)]
 pub enum Solution {
     Satisfiable { distance: u32, filled: u32 },
     Unsatisfiable { filled: u32, size: usize },
     Uncertified { filled: u32, needed: usize },
     Unknown { bound: u32, filled: u32 },
-    Refused { code: u32, place: usize },
 }
 
-// The answer, and the point handed back, 0 where there is none.
+// The answer or the refusal, and the point handed back, 0 where there is none.
 #[derive(Clone, Copy)]
 pub struct Settled {
-    pub answer: Solution,
+    pub answer: Result<Solution, Refusal>,
     pub point: Point,
 }
 
@@ -50,164 +50,171 @@ pub struct Settled {
 // image matters, accepts it.
 fn confirm(
     f: Numbers,
-    positive: &[u64],
-    negative: &[u64],
+    clauses: Clauses<'_>,
     file: &[u8],
     size: usize,
     filled: u32,
-) -> Solution
+) -> Result<Solution, Refusal>
     requires { (size ≤ length file.now) × ((images : List ℕ) × (check_reply (formula_with f images)
-        (clause_slices positive.now negative.now) (take size file.now) ≡ accepted)) }
+        (slices_lent clauses) (take size file.now) ≡ accepted)) }
     ensures { result ≡ unsatisfiable_with filled size }
 {
-    let verdict = checker::check_numbers(f, positive, negative, &file[0..size]);
-    match verdict {
-        Verdict::Accepted => Solution::Unsatisfiable { filled, size },
-        Verdict::Refused { code, place } => Solution::Refused { code, place },
-    }
+    checker::check_numbers(f, clauses, &file[..size])?;
+    Ok(Solution::Unsatisfiable { filled, size })
 }
 
 // D3.4: writes the certificate of slots that a search left and has it checked. `solve_lent` sees to what it requires.
 fn certify(
-    f: Numbers,
-    images: &[u8],
-    positive: &[u64],
-    negative: &[u64],
+    f: FormulaView<'_>,
+    clauses: Clauses<'_>,
     points: &[u64],
     falsified: &[u32],
     depths: &[Depth],
     filled: u32,
     out: &mut [u8],
-) -> Solution
-    requires { (length images.now ≡ max_images) × Refuted (formula_with f images.now)
-        (clause_slices positive.now negative.now) (slot_slices points.now falsified.now depths.now) filled }
-    ensures { Certifies (formula_with f images.now)
-        (clause_slices positive.now negative.now)
-        (slot_slices points.now falsified.now depths.now) filled out.old result
-        out.new }
+) -> Result<Solution, Refusal>
+    requires { Refuted (formula_lent f) (slices_lent clauses) (slot_slices points.now falsified.now depths.now) filled }
+    ensures { Certifies (formula_lent f.entry) (slices_lent clauses.entry)
+        (slot_slices points.now falsified.now depths.now) filled out.old result out.new }
 {
-    let written = certificate_writer::write_lent(
-        f, images, positive, negative, points, falsified, depths, filled, out,
-    );
-    match written {
-        Written::Bytes(size) => confirm(f, positive, negative, out, size, filled),
-        Written::Refused { code, place } => Solution::Uncertified {
+    match certificate_writer::write_lent(f, clauses, points, falsified, depths, filled, out) {
+        Ok(size) => confirm(f.numbers, clauses, out, size, filled),
+        Err(refusal) => Ok(Solution::Uncertified {
             filled,
-            needed: place,
-        },
+            needed: refusal.place,
+        }),
     }
 }
 
-// The solver for the formula that numbers and images make, of which no copy is made; as many images as a formula has.
+// The solver for a formula where it lies, of which no copy is made.
 fn solve_lent(
-    f: Numbers,
-    images: &[u8],
-    positive: &[u64],
-    negative: &[u64],
+    f: FormulaView<'_>,
+    clauses: Clauses<'_>,
     points: &mut [u64],
     falsified: &mut [u32],
     depths: &mut [Depth],
     out: &mut [u8],
 ) -> Settled
-    requires { length images.now ≡ max_images }
-    ensures { Solved (by_value (formula_with f images.now)
-        (clause_slices positive.now negative.now))
+    ensures { Solved (by_value (formula_lent f.entry) (slices_lent clauses.entry))
         (slot_slices points.old falsified.old depths.old) out.old result
         (slot_slices points.new falsified.new depths.new) out.new }
 {
-    let found = search::search_lent(f, images, positive, negative, points, falsified, depths);
+    let found = search::search_lent(f, clauses, points, falsified, depths);
     let point = found.point;
-    let outcome = found.answer;
-    match outcome {
-        Outcome::Satisfiable { distance, filled } => {
-            let answer = Solution::Satisfiable { distance, filled };
-            Settled { answer, point }
-        }
-        Outcome::Unsatisfiable { filled } => {
-            let answer = certify(
-                f, images, positive, negative, points, falsified, depths, filled, out,
-            );
-            Settled {
-                answer,
-                point: points::EMPTY,
-            }
-        }
-        Outcome::Unknown { bound, filled } => {
-            let answer = Solution::Unknown { bound, filled };
-            Settled { answer, point }
-        }
-        Outcome::Refused { code, place } => {
-            let answer = Solution::Refused { code, place };
-            Settled { answer, point }
-        }
+    match found.answer {
+        Ok(Conclusion::Satisfiable { distance, filled }) => Settled {
+            answer: Ok(Solution::Satisfiable { distance, filled }),
+            point,
+        },
+        Ok(Conclusion::Unsatisfiable { filled }) => Settled {
+            answer: certify(f, clauses, points, falsified, depths, filled, out),
+            point: points::EMPTY,
+        },
+        Ok(Conclusion::Unknown { bound, filled }) => Settled {
+            answer: Ok(Solution::Unknown { bound, filled }),
+            point,
+        },
+        Err(refusal) => Settled {
+            answer: Err(refusal),
+            point,
+        },
     }
 }
 
 // The solver for a formula by value, with its clauses in two slices.
 pub fn solve_formula(
     f: Formula,
-    positive: &[u64],
-    negative: &[u64],
+    clauses: Clauses<'_>,
     points: &mut [u64],
     falsified: &mut [u32],
     depths: &mut [Depth],
     out: &mut [u8],
 ) -> Settled
-    ensures { Solved (by_value f (clause_slices positive.now negative.now))
+    ensures { Solved (by_value f (slices_lent clauses.entry))
         (slot_slices points.old falsified.old depths.old) out.old result
         (slot_slices points.new falsified.new depths.new) out.new }
 {
-    let numbers = Numbers {
-        variables: f.variables,
-        clauses: f.clauses,
-        target: f.target,
-        permutations: f.permutations,
-    };
-    solve_lent(
-        numbers, &f.images, positive, negative, points, falsified, depths, out,
-    )
+    solve_lent(f.view(), clauses, points, falsified, depths, out)
 }
 
 // The same for a formula whose clauses stand at the front of two slices, as the reader leaves them. Its callers see to
 // what it requires.
 fn solve_read(
-    f: Numbers,
-    images: &[u8],
-    positive: &[u64],
-    negative: &[u64],
+    f: FormulaView<'_>,
+    clauses: Clauses<'_>,
     points: &mut [u64],
     falsified: &mut [u32],
     depths: &mut [Depth],
     out: &mut [u8],
 ) -> Settled
-    requires { (length images.now ≡ max_images)
-        × (f.clauses ≤ clause_room (clause_slices positive.now negative.now)) }
-    ensures { Solved (by_value (formula_with f images.now) (first_clauses f.clauses
-        (clause_slices positive.now negative.now)))
+    requires { f.numbers.clauses ≤ clause_room (slices_lent clauses) }
+    ensures { Solved (by_value (formula_lent f.entry) (first_clauses f.entry.numbers.clauses (slices_lent clauses.entry)))
         (slot_slices points.old falsified.old depths.old) out.old result
         (slot_slices points.new falsified.new depths.new) out.new }
 {
-    let total = f.clauses as usize;
-    let wanted = first_points(positive, total);
-    let unwanted = first_points(negative, total);
-    solve_lent(f, images, wanted, unwanted, points, falsified, depths, out)
+    let total = f.numbers.clauses as usize;
+    let first = Clauses {
+        positive: first_points(clauses.positive, total),
+        negative: first_points(clauses.negative, total),
+    };
+    solve_lent(f, first, points, falsified, depths, out)
 }
 
-// A refusal of the reader, which has no point.
-fn refused(code: u32, place: usize) -> Settled
-    ensures { result ≡ refused_with code place }
+// The solver with arrays for so many clauses, 16 bytes each, which stay out of the frame of its caller; or the reader's
+// refusal, which may be that these are too short.
+#[inline(never)]
+fn solve_with<const CLAUSES: usize>(
+    text: &[u8],
+    points: &mut [u64],
+    falsified: &mut [u32],
+    depths: &mut [Depth],
+    out: &mut [u8],
+) -> Result<Settled, Refusal>
+    requires { CLAUSES ≤ max_clauses }
+    ensures { SolvedIn CLAUSES text.now (slot_slices points.old falsified.old depths.old) out.old result
+        (slot_slices points.new falsified.new depths.new) out.new }
 {
-    let answer = Solution::Refused { code, place };
-    Settled {
-        answer,
-        point: points::EMPTY,
+    let mut positive = [0u64; CLAUSES];
+    let mut negative = [0u64; CLAUSES];
+    let mut images = [0u8; Formula::MAX_IMAGES];
+    let numbers = dimacs::read_lent(text, &mut positive, &mut negative, &mut images)?;
+    let f = FormulaView {
+        numbers,
+        images: &images,
+    };
+    let clauses = Clauses {
+        positive: &positive,
+        negative: &negative,
+    };
+    Ok(solve_read(f, clauses, points, falsified, depths, out))
+}
+
+// Whether a text was refused since the arrays lent for its clauses are too short: larger ones may do.
+pub fn wants_room<T: Copy>(answer: Result<T, Refusal>) -> bool
+    ensures { result ≡ wants_room answer }
+{
+    match answer {
+        Ok(_) => false,
+        Err(refusal) => refusal.reason == Reason::ClauseRoom,
     }
 }
 
-// The solver with arrays for the most clauses: 64 KiB of the stack. No text has more clauses, so that the reader never
-// finds them too short, and it never calls itself: the call keeps its arrays out of its caller, whose frame is then
-// small.
-fn solve_many(
+// What was settled, or the reader's refusal, which has no point.
+fn as_settled(answer: Result<Settled, Refusal>) -> Settled
+    ensures { result ≡ settled_of answer }
+{
+    match answer {
+        Ok(s) => s,
+        Err(refusal) => Settled {
+            answer: Err(refusal),
+            point: points::EMPTY,
+        },
+    }
+}
+
+// The solver for a text with more clauses than the smallest arrays have room for, or a long one: with 4 KiB of clauses,
+// and 64 KiB where the reader finds these too short, which the latter never are.
+fn solve_larger(
     text: &[u8],
     points: &mut [u64],
     falsified: &mut [u32],
@@ -218,55 +225,12 @@ fn solve_many(
         (slot_slices points.old falsified.old depths.old) out.old result
         (slot_slices points.new falsified.new depths.new) out.new }
 {
-    let mut positive = [0u64; Formula::MAX_CLAUSES as usize];
-    let mut negative = [0u64; Formula::MAX_CLAUSES as usize];
-    let mut images = [0u8; Formula::MAX_IMAGES];
-    let parsed = dimacs::read_lent(text, &mut positive, &mut negative, &mut images);
-    let f = parsed.numbers;
-    let answer = parsed.answer;
-    match answer {
-        Parse::Accepted => solve_read(
-            f, &images, &positive, &negative, points, falsified, depths, out,
-        ),
-        Parse::Refused { code, place } => {
-            let short = code == 4;
-            if short {
-                return solve_many(text, points, falsified, depths, out);
-            }
-            refused(code, place)
-        }
+    let few = solve_with::<FEW_CLAUSES>(text, points, falsified, depths, out);
+    if !wants_room(few) {
+        return as_settled(few);
     }
-}
-
-// The solver with arrays for a few clauses, 4 KiB, and the largest ones where the reader finds these too short.
-fn solve_few(
-    text: &[u8],
-    points: &mut [u64],
-    falsified: &mut [u32],
-    depths: &mut [Depth],
-    out: &mut [u8],
-) -> Settled
-    ensures { Solved (from_text text.now blank)
-        (slot_slices points.old falsified.old depths.old) out.old result
-        (slot_slices points.new falsified.new depths.new) out.new }
-{
-    let mut positive = [0u64; FEW_CLAUSES];
-    let mut negative = [0u64; FEW_CLAUSES];
-    let mut images = [0u8; Formula::MAX_IMAGES];
-    let parsed = dimacs::read_lent(text, &mut positive, &mut negative, &mut images);
-    let f = parsed.numbers;
-    let answer = parsed.answer;
-    match answer {
-        Parse::Accepted => solve_read(
-            f, &images, &positive, &negative, points, falsified, depths, out,
-        ),
-        Parse::Refused { code, place } => {
-            if code != 4 {
-                return refused(code, place);
-            }
-            solve_many(text, points, falsified, depths, out)
-        }
-    }
+    let most = solve_with::<MOST_CLAUSES>(text, points, falsified, depths, out);
+    as_settled(most)
 }
 
 // K3, the product's main promise: reads a text, searches, and writes and checks the certificate of one that cannot be
@@ -285,23 +249,11 @@ pub fn solve(
         (slot_slices points.new falsified.new depths.new) out.new }
 {
     if TINY_TEXT < text.len() {
-        return solve_few(text, points, falsified, depths, out);
+        return solve_larger(text, points, falsified, depths, out);
     }
-    let mut positive = [0u64; TINY_CLAUSES];
-    let mut negative = [0u64; TINY_CLAUSES];
-    let mut images = [0u8; Formula::MAX_IMAGES];
-    let parsed = dimacs::read_lent(text, &mut positive, &mut negative, &mut images);
-    let f = parsed.numbers;
-    let answer = parsed.answer;
-    match answer {
-        Parse::Accepted => solve_read(
-            f, &images, &positive, &negative, points, falsified, depths, out,
-        ),
-        Parse::Refused { code, place } => {
-            if code == 4 {
-                return solve_few(text, points, falsified, depths, out);
-            }
-            refused(code, place)
-        }
+    let tiny = solve_with::<TINY_CLAUSES>(text, points, falsified, depths, out);
+    if !wants_room(tiny) {
+        return as_settled(tiny);
     }
+    solve_larger(text, points, falsified, depths, out)
 }

@@ -24,7 +24,8 @@ use Rattle.dimacs_text.specs.ReadBack.{unused_zero, ReadsBack}
 use Rattle.dimacs_text.specs.SheetText.{text_of}
 use Rattle.dimacs_text.specs.Writer.{text_fault, text_reply, text_output}
 use Rattle.dimacs_text.proofs.RoundTrip.{reads_back, text_again}
-use Rattle.dimacs_writer.specs.Contract.{reply_of_written, WroteSheet}
+use Rattle.certificate_writer.specs.Contract.{reply_of_written}
+use Rattle.dimacs_writer.specs.Contract.{WroteSheet}
 use Rattle.dimacs_writer.specs.SentBack.{SentBack}
 use Rattle.dimacs_writer.specs.Laws.Writing.{eleven_of}
 

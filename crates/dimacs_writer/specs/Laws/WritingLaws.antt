@@ -27,7 +27,8 @@ use Rattle.dimacs_text.specs.Laws.LengthLaws.{problem-length, target_length, per
 use Rattle.dimacs_text.specs.Laws.LengthLaws.{longest_sheet}
 use Rattle.dimacs_text.proofs.ClauseLines.{sheet-length}
 use Rattle.dimacs_output.specs.Laws.LinePutting.{longest_images, ListedWithin, AllPermutations}
-use Rattle.dimacs_writer.specs.Contract.{reply_of_written, WroteSheet}
+use Rattle.certificate_writer.specs.Contract.{reply_of_written}
+use Rattle.dimacs_writer.specs.Contract.{WroteSheet}
 use Rattle.dimacs_writer.specs.Laws.Writing.{eleven_of, Writable}
 
 module _ (f : Formula) (clauses : ClauseSlices) where

@@ -1,17 +1,12 @@
--- The formula of images that are all lent, and what is put of one that is read. Assumes nothing.
-use Rattle.std.specs.Prelude.{List, ◌++◌, ◌≡◌, refl, ℕ, ◌≤◌, length, take, drop, replicate}
+-- The formula of images that are all lent. Assumes nothing.
+use Rattle.std.specs.Prelude.{List, ◌++◌, ◌≡◌, ℕ, ◌≤◌, length, take, drop, replicate}
 use Rattle.std.proofs.Common.{append-nil, sym, ap, ◌∙◌, length-take-le}
 use Rattle.math.specs.Lists.{over}
 use Rattle.formula.specs.declared.Formula.{Formula}
 use Rattle.formula.specs.declared.Numbers.{Numbers}
 use Rattle.formula.specs.Laws.Contracts.{formula_with}
 use Rattle.formula.specs.Limits.{max_images}
-use Rattle.dimacs_lines.specs.declared.Parse.{Parse}
-use Rattle.dimacs_lines.specs.declared.Parse.TheVariants.{Accepted, Refused}
-use Rattle.dimacs_lines.specs.declared.ParsedNumbers.{ParsedNumbers}
-use Rattle.dimacs_lines.specs.Laws.ParsedAs.{parsed_in}
-use Rattle.dimacs_lines.specs.Reply.{reply_of_parse}
-use Rattle.export_formulas.specs.Formulas.{images_from, formula_from, is_parsed, put_if_parsed}
+use Rattle.export_formulas.specs.Formulas.{images_from, formula_from}
 
 -- S21: "the reader makes unused bytes 0": where there are no permutations, all of them
 abbrev pub Unused : ℕ → List ℕ → Type 0
@@ -26,17 +21,3 @@ lent-images f bytes le =
     let part = take max_images bytes in
     let rest = ap (λ (k : ℕ). drop {A = ℕ} k (replicate max_images 0)) (length-take-le max_images bytes le) in
     ap (formula_with f) (sym (ap (λ l. part ++ l) rest ∙ append-nil part))
-
--- what is put of numbers and images is put of what is read
-pub put_in : (f : Numbers) (a : Parse) (images : List ℕ) (part : Formula → List ℕ) (old : List ℕ)
-    → let r : ParsedNumbers = record { numbers = f; answer = a } in
-    put_if_parsed (reply_of_parse a) (part (formula_with f images)) old
-    ≡ put_if_parsed (reply_of_parse (parsed_in r images).answer) (part (parsed_in r images).formula) old
-unfolding is_parsed
-put_in f Accepted images part old = refl
-put_in f (Refused code place) images part old = refl
-
-pub answer_in : (f : Numbers) (a : Parse) (images : List ℕ)
-    → let r : ParsedNumbers = record { numbers = f; answer = a } in a ≡ (parsed_in r images).answer
-answer_in f Accepted images = refl
-answer_in f (Refused code place) images = refl

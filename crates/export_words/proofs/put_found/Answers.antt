@@ -1,42 +1,28 @@
 -- `export_words::put_found` meets its contract: of each answer the words that it carries. Assumes nothing.
-use Rattle.std.proofs.Common.{rules}
-use Rattle.search.specs.Contract.{reply_of_outcome}
 use Rattle.export_words.specs.Words.{words_of}
-use Rattle.export_words.specs.Laws.WordLaws.{case_words}
 use Rattle.export_words.proofs.put_found.Goals as goal
 
-pub put_words-requires : goal.put_words-requires
-put_words-requires c = search rules
-
-pub put_words-requires-in-Satisfiable : goal.put_words-requires-in-Satisfiable
-put_words-requires-in-Satisfiable c = search rules
-
-pub put_words-requires-in-Unsatisfiable : goal.put_words-requires-in-Unsatisfiable
-put_words-requires-in-Unsatisfiable c = search rules
-
-pub put_words-requires-in-Unknown : goal.put_words-requires-in-Unknown
-put_words-requires-in-Unknown c = search rules
-
-pub returns-in-Refused : goal.returns-in-Refused
+pub returns-in-Ok-Satisfiable : goal.returns-in-Ok-Satisfiable
 unfolding words_of
-returns-in-Refused c =
-    case_words c.in-Refused.is (λ a. words_of (reply_of_outcome c.args.r.point a)) _
-    c.put_words.ensures
+returns-in-Ok-Satisfiable c =
+    let k = c.in-Ok-Satisfiable in
+    let e = rw k.is at k.field-0-is in
+    rw (k.is, e) c.put_words.ensures
 
-pub returns-in-Satisfiable : goal.returns-in-Satisfiable
+pub returns-in-Ok-Unsatisfiable : goal.returns-in-Ok-Unsatisfiable
 unfolding words_of
-returns-in-Satisfiable c =
-    case_words c.in-Satisfiable.is (λ a. words_of (reply_of_outcome c.args.r.point a)) _
-    c.put_words-in-Satisfiable.ensures
+returns-in-Ok-Unsatisfiable c =
+    let k = c.in-Ok-Unsatisfiable in
+    let e = rw k.is at k.field-0-is in
+    rw (k.is, e) c.put_words-in-Ok-Unsatisfiable.ensures
 
-pub returns-in-Unsatisfiable : goal.returns-in-Unsatisfiable
+pub returns-in-Ok-Unknown : goal.returns-in-Ok-Unknown
 unfolding words_of
-returns-in-Unsatisfiable c =
-    case_words c.in-Unsatisfiable.is (λ a. words_of (reply_of_outcome c.args.r.point a)) _
-    c.put_words-in-Unsatisfiable.ensures
+returns-in-Ok-Unknown c =
+    let k = c.in-Ok-Unknown in
+    let e = rw k.is at k.field-0-is in
+    rw (k.is, e) c.put_words-in-Ok-Unknown.ensures
 
-pub returns-in-Unknown : goal.returns-in-Unknown
+pub returns-in-Err : goal.returns-in-Err
 unfolding words_of
-returns-in-Unknown c =
-    case_words c.in-Unknown.is (λ a. words_of (reply_of_outcome c.args.r.point a)) _
-    c.put_words-in-Unknown.ensures
+returns-in-Err c = rw c.in-Err.is c.put_refusal.ensures

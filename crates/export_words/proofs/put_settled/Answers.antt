@@ -1,50 +1,36 @@
 -- `export_words::put_settled` meets its contract: of each answer the words that it carries. Assumes nothing.
-use Rattle.std.proofs.Common.{rules}
+use Rattle.export_words.specs.Words.{words_of}
 use Rattle.export_words.specs.Replies.{solution_words}
-use Rattle.export_words.specs.Laws.WordLaws.{case_words}
 use Rattle.export_words.proofs.put_settled.Goals as goal
 
-pub put_words-requires : goal.put_words-requires
-put_words-requires c = search rules
+pub returns-in-Ok-Satisfiable : goal.returns-in-Ok-Satisfiable
+unfolding words_of solution_words
+returns-in-Ok-Satisfiable c =
+    let k = c.in-Ok-Satisfiable in
+    let e = rw k.is at k.field-0-is in
+    rw (k.is, e) c.put_words.ensures
 
-pub put_words-requires-in-Unsatisfiable : goal.put_words-requires-in-Unsatisfiable
-put_words-requires-in-Unsatisfiable c = search rules
+pub returns-in-Ok-Unsatisfiable : goal.returns-in-Ok-Unsatisfiable
+unfolding words_of solution_words
+returns-in-Ok-Unsatisfiable c =
+    let k = c.in-Ok-Unsatisfiable in
+    let e = rw k.is at k.field-0-is in
+    rw (k.is, e) c.put_words-in-Ok-Unsatisfiable.ensures
 
-pub put_words-requires-in-Uncertified : goal.put_words-requires-in-Uncertified
-put_words-requires-in-Uncertified c = search rules
+pub returns-in-Ok-Uncertified : goal.returns-in-Ok-Uncertified
+unfolding words_of solution_words
+returns-in-Ok-Uncertified c =
+    let k = c.in-Ok-Uncertified in
+    let e = rw k.is at k.field-0-is in
+    rw (k.is, e) c.put_words-in-Ok-Uncertified.ensures
 
-pub put_words-requires-in-Unknown : goal.put_words-requires-in-Unknown
-put_words-requires-in-Unknown c = search rules
+pub returns-in-Ok-Unknown : goal.returns-in-Ok-Unknown
+unfolding words_of solution_words
+returns-in-Ok-Unknown c =
+    let k = c.in-Ok-Unknown in
+    let e = rw k.is at k.field-0-is in
+    rw (k.is, e) c.put_words-in-Ok-Unknown.ensures
 
-pub put_words-requires-in-Refused : goal.put_words-requires-in-Refused
-put_words-requires-in-Refused c = search rules
-
-pub returns-in-Satisfiable : goal.returns-in-Satisfiable
-unfolding solution_words
-returns-in-Satisfiable c =
-    case_words c.in-Satisfiable.is (solution_words _) _
-    c.put_words.ensures
-
-pub returns-in-Unsatisfiable : goal.returns-in-Unsatisfiable
-unfolding solution_words
-returns-in-Unsatisfiable c =
-    case_words c.in-Unsatisfiable.is (solution_words _) _
-    c.put_words-in-Unsatisfiable.ensures
-
-pub returns-in-Uncertified : goal.returns-in-Uncertified
-unfolding solution_words
-returns-in-Uncertified c =
-    case_words c.in-Uncertified.is (solution_words _) _
-    c.put_words-in-Uncertified.ensures
-
-pub returns-in-Unknown : goal.returns-in-Unknown
-unfolding solution_words
-returns-in-Unknown c =
-    case_words c.in-Unknown.is (solution_words _) _
-    c.put_words-in-Unknown.ensures
-
-pub returns-in-Refused : goal.returns-in-Refused
-unfolding solution_words
-returns-in-Refused c =
-    case_words c.in-Refused.is (solution_words _) _
-    c.put_words-in-Refused.ensures
+pub returns-in-Err : goal.returns-in-Err
+unfolding words_of solution_words
+returns-in-Err c = rw c.in-Err.is c.put_refusal.ensures

@@ -1,6 +1,6 @@
 -- With room for the answer's words the exported writer tells what the writer answers; without, it tells nothing.
 -- Assumes nothing.
-use Rattle.std.specs.Prelude.{List, ◌≡◌, ℕ, ◌≤◌, ◌<◌, length}
+use Rattle.std.specs.Prelude.{Result, List, ◌≡◌, ℕ, ◌≤◌, ◌<◌, length}
 use Rattle.std.proofs.Common.{ap, ◌∙◌, subst, le-leb}
 use Rattle.std.proofs.lemmas.Bool.{lt-leb}
 use Rattle.point_slices.specs.Slices.{ClauseSlices, SlotSlices}
@@ -8,7 +8,7 @@ use Rattle.math.specs.Lists.{over}
 use Rattle.formula.specs.declared.Formula.{Formula}
 use Rattle.formula.specs.Reply.{Reply}
 use Rattle.certificate.specs.Writer.{write_reply, write_output}
-use Rattle.certificate_writer.specs.declared.Written.{Written}
+use Rattle.formula.specs.declared.reasons.Refusal.{Refusal}
 use Rattle.certificate_writer.specs.Contract.{reply_of_written, Wrote}
 use Rattle.export_words.specs.Laws.RoomLaws.{with_room_lem, without_room}
 use Rattle.export_words.specs.Words.{words_of}
@@ -16,7 +16,7 @@ use Rattle.export_words.specs.Writing.{OutputReturns, WriteReturns}
 
 -- the same formula is written the same way
 pub wrote_as : {f g : Formula} {clauses : ClauseSlices} {slots : SlotSlices} {filled : ℕ} {out out₁ : List ℕ}
-    {r : Written} → g ≡ f → Wrote g clauses slots filled out r out₁ → Wrote f clauses slots filled out r out₁
+    {r : Result ℕ Refusal} → g ≡ f → Wrote g clauses slots filled out r out₁ → Wrote f clauses slots filled out r out₁
 wrote_as {f} {g} {clauses} {slots} {filled} {out} {out₁} {r} same wrote =
     subst (λ h. Wrote h clauses slots filled out r out₁) same wrote
 
@@ -46,7 +46,7 @@ module _ (f : Formula) (clauses : ClauseSlices) (slots : SlotSlices) (filled : �
   tells_nothing lt = tells_none (write_reply f clauses slots filled out) (write_output f clauses slots filled out) out reply
       lt
 
-  pub tells_writing : (g : Formula) (r : Written) (out₁ reply₁ : List ℕ) → 4 ≤ length reply → g ≡ f
+  pub tells_writing : (g : Formula) (r : Result ℕ Refusal) (out₁ reply₁ : List ℕ) → 4 ≤ length reply → g ≡ f
       → Wrote g clauses slots filled out r out₁
       → reply₁ ≡ over (words_of (reply_of_written r)) reply
       → WriteReturns f clauses slots filled out reply 1 out₁ reply₁

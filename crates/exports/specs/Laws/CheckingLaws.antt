@@ -1,6 +1,6 @@
 -- With room for the answer's words the exported checker and readers tell what is answered; without, they tell nothing.
 -- Assumes nothing.
-use Rattle.std.specs.Prelude.{Bool, false, ◌&&◌, List, ◌≡◌, refl, ℕ, ◌≤◌, ◌<◌, leb, length}
+use Rattle.std.specs.Prelude.{Option as Found, Result, Bool, false, ◌&&◌, List, ◌≡◌, refl, ℕ, ◌≤◌, ◌<◌, leb, length}
 use Rattle.std.proofs.Math.Option.{Option}
 use Rattle.std.proofs.Common.{ap, ◌∙◌, subst, le-leb}
 use Rattle.std.proofs.lemmas.Bool.{lt-leb}
@@ -8,11 +8,10 @@ use Rattle.point_slices.specs.Slices.{ClauseSlices}
 use Rattle.math.specs.Lists.{over}
 use Rattle.formula.specs.declared.Formula.{Formula}
 use Rattle.formula.specs.Reply.{Reply}
-use Rattle.certificate.specs.declared.Entry.{Entry}
-use Rattle.certificate.specs.declared.Opened.{Opened}
+use Rattle.certificate.specs.declared.Contents.{Contents}
 use Rattle.certificate.specs.Certificate.{FileContents}
 use Rattle.certificate.specs.Contract.{handed_out, entry_of, OpenedAs, reply_of_opened}
-use Rattle.checker.specs.declared.Verdict.{Verdict}
+use Rattle.formula.specs.declared.reasons.Refusal.{Refusal}
 use Rattle.checker.specs.Contract.{reply_of_verdict, CheckedAs}
 use Rattle.export_words.specs.Laws.RoomLaws.{with_room_lem, without_room}
 use Rattle.export_words.specs.Words.{words_of, has_room}
@@ -29,7 +28,7 @@ module _ (f : Formula) (clauses : ClauseSlices) (file reply : List ℕ) where
         (lt-leb 4 (length reply) lt) _ reply;
   }
 
-  pub tells_verdict : (g : Formula) (r : Verdict) (reply₁ : List ℕ) → 4 ≤ length reply → g ≡ f
+  pub tells_verdict : (g : Formula) (r : Result Unit Refusal) (reply₁ : List ℕ) → 4 ≤ length reply → g ≡ f
       → CheckedAs g clauses file r
       → reply₁ ≡ over (words_of (reply_of_verdict r)) reply
       → CheckReturns f clauses file reply 1 reply₁
@@ -61,7 +60,7 @@ module _ (file contents reply : List ℕ) where
   pub without_contents : 4 ≤ length reply → length contents < 8 → OpenReturns file contents reply 0 contents reply
   without_contents le lt = nothing (rooms (le-leb 4 (length reply) le) (lt-leb 8 (length contents) lt))
 
-  pub tells_opening : (r : Opened) (contents₁ reply₁ : List ℕ) → 4 ≤ length reply → 8 ≤ length contents
+  pub tells_opening : (r : Result Contents Refusal) (contents₁ reply₁ : List ℕ) → 4 ≤ length reply → 8 ≤ length contents
       → OpenedAs file r
       → contents₁ ≡ over (contents_words (handed_out r)) contents
       → reply₁ ≡ over (words_of (reply_of_opened r)) reply
@@ -85,7 +84,7 @@ module _ (entry : Option ℕ) (reply : List ℕ) where
         (lt-leb 2 (length reply) lt) _ reply;
   }
 
-  pub tells_entry : (r : Entry) (reply₁ : List ℕ) → 2 ≤ length reply → entry_of r ≡ entry
+  pub tells_entry : (r : Found ℕ) (reply₁ : List ℕ) → 2 ≤ length reply → entry_of r ≡ entry
       → reply₁ ≡ over (entry_words (entry_of r)) reply → EntryReturns entry reply 1 reply₁
   tells_entry r reply₁ le e words =
       record {

@@ -1,7 +1,7 @@
 -- With room for the answer the exported reader tells what the reader answers; without, it tells nothing. What is read
 -- without permutations has no images. Assumes nothing.
-use Rattle.std.specs.Prelude.{Bool, true, false, ◌&&◌, List, ◌≡◌, refl, ℕ, ◌*◌, ◌-◌, ◌≤◌, ◌<◌, leb, length, drop, replicate}
-use Rattle.std.proofs.Common.{true≢false, sym, ap, ap₂, ◌∙◌, subst, zero-mul, le-leb}
+use Rattle.std.specs.Prelude.{Result, Ok, Err, IfOk, Bool, false, ◌&&◌, List, ◌≡◌, refl, ℕ, ◌*◌, ◌-◌, ◌≤◌, ◌<◌, leb, length, drop, replicate}
+use Rattle.std.proofs.Common.{sym, ap, ap₂, ◌∙◌, subst, zero-mul, le-leb}
 use Rattle.std.proofs.lemmas.Bool.{lt-leb}
 use Rattle.formula.specs.Limits.{max_images}
 use Rattle.point_slices.specs.Slices.{ClauseSlices}
@@ -10,10 +10,8 @@ use Rattle.formula.specs.declared.Formula.{Formula}
 use Rattle.formula.specs.declared.Numbers.{Numbers}
 use Rattle.formula.specs.Reply.{Reply}
 use Rattle.dimacs_format.specs.Laws.Handed.{Handed, accepted_handed}
-use Rattle.dimacs_lines.specs.declared.Parse.{Parse}
-use Rattle.dimacs_lines.specs.declared.Parse.TheVariants.{Accepted, Refused}
+use Rattle.formula.specs.declared.reasons.Refusal.{Refusal}
 use Rattle.dimacs_lines.specs.declared.Parsed.{Parsed}
-use Rattle.dimacs_lines.specs.declared.ParsedNumbers.{ParsedNumbers}
 use Rattle.dimacs_lines.specs.Laws.ParsedAs.{parsed_in}
 use Rattle.dimacs_lines.specs.Reply.{reply_of_parse}
 use Rattle.dimacs.specs.Contract.{Read}
@@ -21,7 +19,7 @@ use Rattle.exports.specs.Reading.{has_formula_room, ReadReturns}
 use Rattle.export_words.specs.Laws.RoomLaws.{with_room_lem, without_room}
 use Rattle.export_words.specs.Words.{words_of, has_room}
 use Rattle.export_formulas.specs.Laws.FormulaLaws.{Unused}
-use Rattle.export_formulas.specs.Formulas.{numbers_of, is_parsed, put_if_parsed}
+use Rattle.export_formulas.specs.Formulas.{numbers_of, put_if_parsed}
 
 module _ (text : List ℕ) (clauses : ClauseSlices) (numbers images reply : List ℕ) where
   rooms : {a b c : Bool} → has_room reply ≡ a → has_room numbers ≡ b → leb max_images (length images) ≡ c
@@ -82,11 +80,9 @@ none_handed f h none =
     h.unused
 
 -- nor has what is read
-pub none_read : {text : List ℕ} {clauses clauses₁ : ClauseSlices} (f : Numbers) (a : Parse) (images : List ℕ)
-    → let r : ParsedNumbers = record { numbers = f; answer = a } in Read text clauses (parsed_in r images) clauses₁
-    → is_parsed (reply_of_parse a) ≡ true → Unused f.permutations images
-unfolding is_parsed
-none_read {text} {clauses} f Accepted images s read =
+pub none_read : {text : List ℕ} {clauses clauses₁ : ClauseSlices} (r : Result Numbers Refusal) (images : List ℕ)
+    → Read text clauses (parsed_in r images) clauses₁ → IfOk r (λ f. Unused f.permutations images)
+none_read {text} {clauses} (Ok f) images s =
     subst (λ (g : Formula). Unused g.permutations g.images) (sym s.formula)
     (none_handed _ (accepted_handed text clauses (sym s.reply)))
-none_read f (Refused code place) images s read = absurd (true≢false (sym read))
+none_read (Err r) images s = tt

@@ -1,16 +1,9 @@
 -- `program::answer` meets its contract: a longer input is refused unread. Assumes nothing.
-use Rattle.std.proofs.Common.{rules}
 use Rattle.program.specs.Laws.ProgramLaws.{prints_long, prints_sheet}
 use Rattle.program.proofs.answer.Goals as goal
 
-pub put_refused-requires : goal.put_refused-requires
-put_refused-requires c = search rules
-
 pub returns-then-text-gt-MAX_INPUT : goal.returns-then-text-gt-MAX_INPUT
 returns-then-text-gt-MAX_INPUT c = prints_long _ c.if-text-gt-MAX_INPUT.true _ _ _ c.put_refused.ensures
-
-pub read_sheet-requires : goal.read_sheet-requires
-read_sheet-requires c = search rules
 
 pub returns : goal.returns
 returns c = prints_sheet _ c.if-text-gt-MAX_INPUT.false _ _ _ c.read_sheet.ensures

@@ -1,24 +1,30 @@
 -- Laws of what the program prints: one for each way out of the functions that make it. Assumes nothing.
-use Rattle.std.specs.Prelude.{Bool, cond, List, ◌≡◌, refl, ℕ, ◌≤◌, ◌<◌, length, replicate}
-use Rattle.std.proofs.Common.{sym, ap, ◌∙◌, lt-ltb, le-ltb}
+use Rattle.std.specs.Prelude.{Result, Ok, Err, Bool, true, false, cond, List, ◌≡◌, refl, ℕ, ◌≤◌, ◌<◌, length, replicate}
+use Rattle.std.proofs.Common.{sym, ap, ◌∙◌, lt-ltb, le-ltb, le_of_eq, le_trans, true≢false}
+use borrow.Author.Tests.{eqb-false, ne_eqb}
 use Rattle.std.proofs.Math.Path.{subst}
 use Rattle.point_slices.specs.Laws.SliceLaws.{clauses-blank}
 use Rattle.point_slices.specs.Slices.{ClauseSlices, clause_slices, first_clauses}
 use Rattle.formula.specs.declared.Formula.{Formula}
 use Rattle.formula.specs.Limits.{max_variables, max_clauses}
+use Rattle.formula.specs.Reasons.{code_of}
+use Rattle.formula.specs.declared.reasons.Refusal.{Refusal}
 use Rattle.formula.specs.Reply.{Reply, refused, parsed}
 use Rattle.dimacs_format.specs.Laws.Handed.{accepted_handed}
-use Rattle.dimacs_format.specs.Laws.RoomLaws.{ReadAlike}
+use Rattle.dimacs_format.specs.Laws.RoomLaws.{ReadAlike, reads_alike}
 use Rattle.dimacs_format.specs.Reader.{read_reply, read_formula, read_clauses}
 use Rattle.dimacs_lines.specs.declared.Parsed.{Parsed}
 use Rattle.dimacs.specs.Contract.{Read}
 use Rattle.search.specs.Search.{search_reply}
 use Rattle.claims.specs.Claim.{formula_in, slices_in}
 use Rattle.solver.specs.Solver.{blank, after_reading, sheet_reply}
+use Rattle.solver.specs.Laws.Steps.{zeros, wants_room}
+use Rattle.solver.specs.Laws.SolverLaws.{few_room, blank_room, other_not_4, most_not_4}
 use Rattle.program_text.specs.Report.{refused_text, report_of}
 use Rattle.program_text.specs.Laws.Putting.{Printed}
 use Rattle.program_search.specs.Slots.{slots}
 use Rattle.program.specs.Program.{max_input, sheet_in, reply_to, printed}
+use Rattle.program.specs.Laws.Contracts.{report_for, PrintedIn, Told}
 
 -- ---- the clauses
 
@@ -92,3 +98,30 @@ prints_sheet text short out₀ r out₁ q =
     subst (λ (b : Bool). Printed (report_of (formula_in (sheet_in text)).variables
     (cond b (refused 1 max_input) (sheet_reply (sheet_in text) slots))) out₀ r out₁)
     (sym (le-ltb max_input (length text) short)) q
+
+-- ---- arrays of two sizes
+
+module _ (text : List ℕ) (k : ℕ) {out₀ out₁ : List ℕ} where
+  -- an answer that wants no larger arrays is told
+  pub told_sheet : k ≤ max_clauses → (a : Result ℕ Refusal) → PrintedIn k text out₀ a out₁ → wants_room a ≡ false
+      → (r : ℕ) (out₂ : List ℕ) → Told a out₁ r out₂ → Printed (report_for text) out₀ r out₂
+  told_sheet le (Ok size) p e r out₂ t =
+      subst (λ l. Printed (report_for text) out₀ r l) (sym t.1)
+      (subst (λ i. Printed (report_for text) out₀ i out₁) (sym t.0) p)
+  told_sheet le (Err q) p e r out₂ t =
+      let alike = reads_alike text (zeros k) blank (few_room k le)
+      (other_not_4 (code_of q.reason) q.place p.0 (eqb-false (code_of q.reason) 4 e)) in
+      prints_refused text (code_of q.reason) q.place (p.0 ∙ alike.reply) out₀ r out₂
+      (subst (λ l. Told (Err q) l r out₂) p.1 t)
+
+  -- one that does leaves the output
+  pub room_kept : (a : Result ℕ Refusal) → PrintedIn k text out₀ a out₁ → wants_room a ≡ true → out₁ ≡ out₀
+  room_kept (Ok size) p e = absurd (true≢false (sym e))
+  room_kept (Err q) p e = p.1
+
+  -- with the largest none does
+  pub most_told : max_clauses ≤ k → (a : Result ℕ Refusal) → PrintedIn k text out₀ a out₁ → wants_room a ≡ false
+  most_told le (Ok size) p = refl
+  most_told le (Err q) p =
+      ne_eqb (code_of q.reason) 4 (λ four. most_not_4 text (zeros k) (le_trans le (le_of_eq (sym (blank_room k)))) q.place
+      (sym p.0 ∙ ap (λ (c : ℕ). refused c q.place) four))

@@ -1,7 +1,7 @@
 -- `program_search::search_sheet` meets its contract: an answer that few slots suffice for is that with all. Assumes
 -- nothing.
 use Rattle.std.proofs.Common.{subst, arith}
-use Rattle.point_slices.specs.Slices.{clause_slices, first_clauses}
+use Rattle.point_slices.specs.Slices.{slices_lent, first_clauses}
 use Rattle.formula.specs.Reply.{Reply}
 use Rattle.program_text.specs.Report.{report_of}
 use Rattle.program_text.specs.Laws.Putting.{Printed}
@@ -12,6 +12,6 @@ pub returns-then-is_settled : goal.returns-then-is_settled
 returns-then-is_settled c =
     let put = c.put_report in
     let a = c.args in
-    let clauses = first_clauses a.f.clauses (clause_slices a.positive.now a.negative.now) in
+    let clauses = first_clauses a.f.clauses (slices_lent a.clauses) in
     subst (λ (r : Reply). Printed (report_of a.f.variables r) a.out.now put.result put.new.out)
     (settles_all a.f clauses 256 (omega arith) _ c.search_with-few.ensures (c.is_settled.ensures c.if-is_settled.true)) put.ensures

@@ -9,4 +9,4 @@ use Rattle.program_search.proofs.search_with.Goals as goal
 pub returns : goal.returns
 returns g c =
     let a = c.args in
-    c.search.ensures.reply ∙ ap₂ (search_reply a.f) (first_clauses_lem a.f.clauses a.positive.now a.negative.now _ _ c.first_points-wanted.ensures c.first_points-unwanted.ensures) (slots_lent g.row.PLACES c.requires.1)
+    c.search.ensures.reply ∙ ap₂ (search_reply a.f) (first_clauses_lem a.f.clauses a.clauses.positive.now a.clauses.negative.now _ _ c.first_points.ensures c.first_points-2.ensures) (slots_lent g.row.PLACES c.requires.1)

@@ -81,7 +81,11 @@ unsatisfiable_length k p =
       numeral-length 9 k p,
     )
 
+-- a bound for the head of a line with two numbers, in bytes
+abbrev pub longest_head : ℕ
+longest_head = 100
+
 -- a line with two numbers and a short head
-pub line_short : (head : List ℕ) (a b : ℕ) → length head ≤ 100 → a < 10 ^ 10 → b < 10 ^ 20
+pub line_short : (head : List ℕ) (a b : ℕ) → length head ≤ longest_head → a < 10 ^ 10 → b < 10 ^ 20
     → length (line head a space b) ≤ longest_text
 line_short head a b short p q = omega (arith, line-length head space 9 19 a b p q)

@@ -1,6 +1,6 @@
 -- The search on the fronts of longer lists, what its answer says of their room, and what a certificate takes: slots,
 -- and bytes. Assumes nothing.
-use Rattle.std.specs.Prelude.{Bool, true, false, cond, List, ◌++◌, ◌≡◌, refl, ℕ, ◌≤◌, ◌<◌, min, leb, length, take}
+use Rattle.std.specs.Prelude.{Result, Ok, Err, Bool, true, false, cond, List, ◌++◌, ◌≡◌, refl, ℕ, ◌≤◌, ◌<◌, min, leb, length, take}
 use Rattle.std.proofs.Common.{sym, ap, ◌∙◌, zero-le, le_refl, le_trans, le_of_eq, arith, length-take-le, take_at, leb-true, leb-false, le-leb}
 use Rattle.std.proofs.lemmas.Bool.{lt-leb}
 use Rattle.point_slices.specs.Slices.{ClauseSlices, SlotSlices, slot_slices, whole_slots}
@@ -8,8 +8,7 @@ use Rattle.formula.specs.declared.Formula.{Formula}
 use Rattle.formula.specs.Limits.{max_slots, capacity}
 use Rattle.formula.specs.Reply.{Reply, refused, satisfiable, unsatisfiable, unknown, parsed, written, opened, accepted}
 use Rattle.formula.specs.Reply.{no_fault}
-use Rattle.certificate_writer.specs.declared.Written.{Written}
-use Rattle.certificate_writer.specs.declared.Written.TheVariants.{Bytes, Refused}
+use Rattle.formula.specs.declared.reasons.Refusal.{Refusal}
 use Rattle.search.specs.declared.Found.{Found}
 use Rattle.search.specs.Contract.{Searched}
 use Rattle.search.specs.Laws.Accepted.{lent_enough, lent_of_faults, some_passes}
@@ -29,9 +28,9 @@ no_room opened = false
 no_room accepted = false
 
 -- the bytes of the certificate that was written
-abbrev pub bytes_in : Written → ℕ
-bytes_in (Bytes size) = size
-bytes_in (Refused code place) = 0
+abbrev pub bytes_in : Result ℕ Refusal → ℕ
+bytes_in (Ok size) = size
+bytes_in (Err r) = 0
 
 -- R16: as many slots as are filled, or none where that is more than can be used of those lent
 unfoldable pub taken : ℕ → ℕ → ℕ

@@ -2,7 +2,7 @@
 -- search leaves.
 use Rattle.std.proofs.Common.{◌∙◌, ℕ, length, arith}
 use lib.ListN.{length-replicate}
-use Rattle.point_slices.specs.Slices.{clause_slices}
+use Rattle.point_slices.specs.Slices.{slices_lent}
 use Rattle.slot_proofs.proofs.Places.{places_in}
 use Rattle.slot_search_again.specs.Laws.SearchLaws.{same_all, places_accepted}
 use Rattle.slot_search_again.proofs.Fresh.{filled_few, searched_left}
@@ -14,7 +14,7 @@ search_accepted_prefix-r-requires g c =
     let full = length-replicate {A = ℕ} places 0 in
     let a = c.args in (
       places_in {places = places} (omega arith) c.min-k.result _ _ _ (omega arith) full full full,
-      places_accepted a.f (clause_slices a.positive.now a.negative.now) a.slots.now c.min-k.result places (omega arith)
+      places_accepted a.f (slices_lent a.clauses) a.slots.now c.min-k.result places (omega arith)
           (omega arith) c.requires.accepted,
     )
 
@@ -33,4 +33,4 @@ returns g c =
     let new = c.search_accepted_prefix-r.auto in
     let a = c.args in
     searched_left _ _ _ _ _ _ places (omega arith) (omega arith) full full full c.search_accepted_prefix-r.ensures a.slots.now
-    (same_all a.f (clause_slices a.positive.now a.negative.now) a.slots.now c.min-k.result (omega arith)) (new.points ∙ full) (new.falsified ∙ full) (new.depths ∙ full) c.filled.ensures c.copy_back.ensures
+    (same_all a.f (slices_lent a.clauses) a.slots.now c.min-k.result (omega arith)) (new.points ∙ full) (new.falsified ∙ full) (new.depths ∙ full) c.filled.ensures c.copy_back.ensures

@@ -1,6 +1,6 @@
 -- Laws of the writer on copies of the slots: what it answers and leaves on the first places, where they are as many as
 -- are taken, is what it does on all. Assumes nothing.
-use Rattle.std.specs.Prelude.{Bool, true, false, cond, ◌&&◌, ◌≡◌, T, leb, length, take}
+use Rattle.std.specs.Prelude.{Result, Ok, Err, Bool, true, false, cond, ◌&&◌, ◌≡◌, T, leb, length, take}
 use mathlib.Core.List.{List, [], ◌∷◌, ◌++◌}
 use Rattle.std.proofs.Math.Path.{refl, sym, ap}
 use Rattle.std.proofs.Common.{subst, ◌∙◌, arith, leb→le, take-take, length-take-le, leb-true}
@@ -16,8 +16,7 @@ use Rattle.formula.specs.Problem.{problem_of}
 use Rattle.formula.specs.Refusals.{formula_fault, permutation_fault, symmetry_fault, room_fault}
 use Rattle.formula.specs.Reply.{Fault, no_fault, fault, first, unless, unless_kept, written, fault_at}
 use Rattle.formula.specs.Laws.ReplyLaws.{IsFault, first_stops, first_split, first_last, tested, written_not_refused}
-use Rattle.certificate_writer.specs.declared.Written.{Written}
-use Rattle.certificate_writer.specs.declared.Written.TheVariants.{Bytes, Refused}
+use Rattle.formula.specs.declared.reasons.Refusal.{Refusal}
 use Rattle.certificate.specs.Certificate.{encode}
 use Rattle.certificate.specs.Rows.{point_passes, points_fault, numbers_fault}
 use Rattle.certificate.specs.Laws.RowLaws.{points_fault-take, numbers_fault-take}
@@ -209,7 +208,7 @@ module _ (f : Formula) (clauses : ClauseSlices) (ys : List Slot) (filled k : ℕ
       )
 
   -- copied out and written from the copies
-  pub wrote_whole : (ps₀ ns₀ ds₀ : List ℕ) (r : Written) (out₁ : List ℕ)
+  pub wrote_whole : (ps₀ ns₀ ds₀ : List ℕ) (r : Result ℕ Refusal) (out₁ : List ℕ)
       → Wrote f clauses (slot_slices (take k (front k P ps₀)) (take k (front k N ns₀)) (take k (front k D ds₀))) filled
       out r out₁
       → Wrote f clauses (slots_in ys) filled out r out₁
@@ -253,9 +252,9 @@ bytes_told size needed lent no_fault e h =
 bytes_told size needed lent (fault code place) e h = absurd (written_not_refused size code place e)
 
 module _ (f : Formula) (clauses : ClauseSlices) (slots : SlotSlices) (filled : ℕ) (out : List ℕ) where
-  pub wrote_fits : (r : Written) (out₁ : List ℕ) → Wrote f clauses slots filled out r out₁ → bytes_in r ≤ length out
+  pub wrote_fits : (r : Result ℕ Refusal) (out₁ : List ℕ) → Wrote f clauses slots filled out r out₁ → bytes_in r ≤ length out
   unfolding write_reply reply_of_written
-  wrote_fits (Bytes size) out₁ w =
+  wrote_fits (Ok size) out₁ w =
       bytes_told size (length_needed (problem_of f clauses) filled) (length out) (write_fault f clauses slots filled out)
       w.reply (room_passed f clauses slots filled out)
-  wrote_fits (Refused code place) out₁ w = zero-le
+  wrote_fits (Err r) out₁ w = zero-le

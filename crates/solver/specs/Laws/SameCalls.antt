@@ -1,12 +1,13 @@
 -- What a call of the solver that hands back a choice promises of it, in terms of what the call returns and leaves; and
 -- two calls for the same rules. Assumes nothing.
-use Rattle.std.specs.Prelude.{List, [], ◌≡◌, refl, ℕ, take}
+use Rattle.std.specs.Prelude.{Result, Ok, List, [], ◌≡◌, refl, ℕ, take}
 use Rattle.std.proofs.Common.{sym, ◌∙◌, subst}
 use Rattle.std.proofs.Math.Path.{ap}
 use Rattle.math.specs.Lists.{◌∈◌}
 use Rattle.point_slices.specs.Slices.{SlotSlices}
 use Rattle.formula.specs.Laws.ReplyLaws.{satisfiable-not_refused}
 use Rattle.formula.specs.Reply.{Reply, satisfiable}
+use Rattle.formula.specs.declared.reasons.Refusal.{Refusal}
 use Rattle.search.specs.Search.{search_slices}
 use Rattle.claims.specs.Claim.{Sheet, from_text, by_value, Readable, formula_in, slices_in, problem_in, SmallestIn}
 use Rattle.claims.specs.Claim.{SameRules}
@@ -28,11 +29,11 @@ read_slices (from_text text clauses) slots e =
 read_slices (by_value f clauses) slots e = refl
 
 module _ (s : Sheet) {slots₀ slots₁ : SlotSlices} {out₀ out₁ : List ℕ} {r : Settled}
-    (call : Solved s slots₀ out₀ r slots₁ out₁) (d filled : ℕ) (answer : r.answer ≡ Satisfiable d filled) where
+    (call : Solved s slots₀ out₀ r slots₁ out₁) (d filled : ℕ) (answer : r.answer ≡ Ok (Satisfiable d filled)) where
   -- what the answer says
   said : (reply_of_settled r).reply ≡ satisfiable r.point d filled
   unfolding reply_of_solution
-  said = ap (λ (a : Solution). (reply_of_solution r.point a).reply) answer
+  said = ap (λ (a : Result Solution Refusal). (reply_of_solution r.point a).reply) answer
 
   left : slots₁ ≡ search_slices (formula_in s) (slices_in s) slots₀
   left = call.slots ∙ read_slices s slots₀
@@ -59,7 +60,7 @@ module _ (s : Sheet) {slots₀ slots₁ : SlotSlices} {out₀ out₁ : List ℕ}
 pub same_calls : (s t : Sheet) {slots₀ slots₁ lent₀ lent₁ : SlotSlices} {out₀ out₁ bytes₀ bytes₁ : List ℕ}
     {r q : Settled} → Solved s slots₀ out₀ r slots₁ out₁ → Solved t lent₀ bytes₀ q lent₁ bytes₁
     → (problem_in s).permutations ≡ [] → (problem_in t).permutations ≡ [] → SameRules (problem_in s) (problem_in t)
-    → (d filled e used : ℕ) → r.answer ≡ Satisfiable d filled → q.answer ≡ Satisfiable e used
+    → (d filled e used : ℕ) → r.answer ≡ Ok (Satisfiable d filled) → q.answer ≡ Ok (Satisfiable e used)
     → (r.point ≡ q.point) × (d ≡ e)
 same_calls s t {r = r} {q = q} call again plain-s plain-t same d filled e used a b =
     same_house_choice (problem_in s) (problem_in t) same r.point d q.point e

@@ -1,16 +1,20 @@
 -- Laws of the solver: the claim's sentences about what it tells, and one law for each way out of its functions. Assumes
 -- nothing.
-use Rattle.std.specs.Prelude.{Bool, true, false, List, ◌≡◌, refl, ℕ, ◌≤◌, ◌<◌, leb, length, take, drop, replicate}
+use Rattle.std.specs.Prelude.{Result, Ok, Err, Bool, true, false, List, ◌≡◌, refl, ℕ, ◌≤◌, ◌<◌, leb, length, take, drop}
 use Rattle.std.proofs.Math.Option.{some, none}
 use Rattle.std.proofs.Math.Path.{sym, ap}
-use Rattle.std.proofs.Common.{◌∙◌, subst, le_trans, le_of_eq, arith, leb-true, leb-false}
+use Rattle.std.proofs.Common.{◌∙◌, subst, le_trans, le_of_eq, arith, leb-true, leb-false, true≢false}
+use borrow.Author.Tests.{eqb-false}
 use Rattle.std.proofs.lemmas.List.{length-replicate}
-use Rattle.point_slices.specs.Slices.{ClauseSlices, SlotSlices, clause_slices, clause_room, first_clauses}
+use Rattle.point_slices.specs.Slices.{ClauseSlices, SlotSlices, clause_room, first_clauses}
 use Rattle.formula.specs.declared.Formula.{Formula}
 use Rattle.formula.specs.Laws.Contracts.{formula_with}
 use Rattle.formula.specs.Limits.{max_clauses, capacity}
 use Rattle.formula.specs.Reply.{Reply, refused, satisfiable, unsatisfiable, unknown, parsed, written, opened, accepted}
 use Rattle.formula.specs.Reply.{point_in}
+use Rattle.formula.specs.Reasons.{code_of}
+use Rattle.formula.specs.declared.Numbers.{Numbers}
+use Rattle.formula.specs.declared.reasons.Refusal.{Refusal}
 use Rattle.formula.specs.Laws.ReplyLaws.{written_not_refused, satisfiable-not_refused, unsatisfiable_not_refused}
 use Rattle.formula.specs.Laws.ReplyLaws.{unknown_not_refused}
 use Rattle.point_slices.specs.Laws.SliceLaws.{points_blank}
@@ -18,28 +22,26 @@ use Rattle.dimacs_format.specs.Laws.ReaderLaws.{parsed_accepts}
 use Rattle.dimacs_format.specs.Laws.RoomLaws.{reads_alike, stored_room, room_enough}
 use Rattle.dimacs_format.specs.Input.{Input, formula_of}
 use Rattle.dimacs_format.specs.Reader.{Step, goes, refuses, reply_to, reading, read_reply, read_formula, read_clauses}
-use Rattle.dimacs_lines.specs.declared.Parse.{Parse}
-use Rattle.dimacs_lines.specs.declared.Parse.TheVariants.{Accepted, Refused as Unread}
-use Rattle.dimacs_lines.specs.declared.ParsedNumbers.{ParsedNumbers}
 use Rattle.dimacs_lines.specs.Laws.ParsedAs.{parsed_in}
 use Rattle.dimacs.specs.Contract.{Read}
 use Rattle.search.specs.Search.{search_reply, search_slices}
 use Rattle.search.specs.Contract.{reply_of_outcome, reply_of_found, Searched}
 use Rattle.search.specs.declared.Found.{Found}
-use Rattle.search.specs.declared.Outcome.{Outcome}
-use Rattle.search.specs.declared.Outcome.TheVariants.{Unsatisfiable}
+use Rattle.search_step.specs.declared.Conclusion.{Conclusion}
+use Rattle.search_step.specs.declared.Conclusion.TheVariants.{Unsatisfiable}
 use Rattle.certificate.specs.Writer.{length_needed, write_reply, write_output}
 use Rattle.checker.specs.Checker.{check_reply}
 use Rattle.claims.specs.Claim.{Sheet, from_text, by_value, formula_in, slices_in, problem_in}
 use Rattle.claims.specs.Claim.{SearchAnswers, writer_reply, writer_output, Certified}
 use Rattle.claims.proofs.Theorem.{claim}
 use Rattle.solver.specs.declared.Solution.{Solution}
-use Rattle.solver.specs.declared.Solution.TheVariants.{Uncertified, Refused}
+use Rattle.solver.specs.declared.Solution.TheVariants.{Uncertified}
 use Rattle.solver.specs.Solver.{blank, reading_of, after_reading, sheet_reply, sheet_slices, on_refutation}
 use Rattle.solver.specs.Solver.{certificate_reply, certificate_output}
 use Rattle.solver.specs.declared.Settled.{Settled}
 use Rattle.solver.specs.Contract.{SolverReply, reply_of_solution, reply_of_settled, Promises, Solved}
-use Rattle.solver.specs.Laws.Steps.{unsatisfiable_with, refused_with, Refuted, Certifies}
+use Rattle.solver.specs.Laws.Steps.{unsatisfiable_with, refused_with, settled_of, Refuted, Certifies}
+use Rattle.solver.specs.Laws.Steps.{zeros, wants_room, Unread, SolvedIn}
 
 -- ---- replies that are no refusal
 
@@ -216,21 +218,21 @@ module _ (f : Formula) (clauses : ClauseSlices) (slots : SlotSlices) (filled : �
               (output ∙ same_output) ∙ w.1,
         )
 
-    pub certifies : (size : ℕ) (r : Solution) → r ≡ unsatisfiable_with filled size
+    pub certifies : (size : ℕ) (r : Result Solution Refusal) → r ≡ unsatisfiable_with filled size
         → written size ≡ write_reply f clauses slots filled out
         → Certifies f clauses slots filled out r after
     unfolding reply_of_solution
     certifies size r e w =
         record {
-          reply = ap (λ (x : Solution). (reply_of_solution 0 x).reply) e;
+          reply = ap (λ (x : Result Solution Refusal). (reply_of_solution 0 x).reply) e;
           certificate = ap
-              (λ (x : Solution). (reply_of_solution 0 x).certificate) e ∙ ap some w;
+              (λ (x : Result Solution Refusal). (reply_of_solution 0 x).certificate) e ∙ ap some w;
           output = output;
         }
 
     pub uncertifies : (code place : ℕ)
         → refused code place ≡ write_reply f clauses slots filled out
-        → Certifies f clauses slots filled out (Uncertified filled place) after
+        → Certifies f clauses slots filled out (Ok (Uncertified filled place)) after
     unfolding reply_of_solution
     uncertifies code place w =
         let short = refused_short sheet ok.lent filled answer out code place (sym (w ∙ same_reply)) in
@@ -258,7 +260,7 @@ kept_of accepted kept new ne = refl
 
 -- a search that refutes leaves slots of which a certificate can be written
 pub refuted : (f : Formula) (clauses : ClauseSlices) (slots₀ : SlotSlices) (found : Found) (slots₁ : SlotSlices)
-    → Searched f clauses slots₀ found slots₁ → (filled : ℕ) → found.answer ≡ Unsatisfiable filled
+    → Searched f clauses slots₀ found slots₁ → (filled : ℕ) → found.answer ≡ Ok (Unsatisfiable filled)
     → Refuted f clauses slots₁ filled
 refuted f clauses slots₀ found slots₁ call filled e =
     record {
@@ -286,7 +288,7 @@ module _ (f : Formula) (clauses : ClauseSlices) (slots₀ : SlotSlices) (out : L
   point_is = call.point
 
   -- a search that refutes nothing leaves the output
-  pub solves : (q : Outcome) (r : Solution) → found.answer ≡ q
+  pub solves : (q : Result Conclusion Refusal) (r : Result Solution Refusal) → found.answer ≡ q
       → (reply_of_solution found.point r).reply ≡ reply_of_outcome found.point q
       → (reply_of_solution found.point r).certificate ≡ none
       → ((filled : ℕ) → reply_of_outcome found.point q ≡ unsatisfiable filled → ⊥)
@@ -311,11 +313,11 @@ module _ (f : Formula) (clauses : ClauseSlices) (slots₀ : SlotSlices) (out : L
         promises = promised by_value-sheet slots₀ (reply_of_solution found.point r) out out reply certificate output;
       }
 
-  module _ (filled : ℕ) (refutation : found.answer ≡ Unsatisfiable filled) where
+  module _ (filled : ℕ) (refutation : found.answer ≡ Ok (Unsatisfiable filled)) where
     abbrev slots_refuted : Refuted f clauses slots₁ filled
     slots_refuted = refuted f clauses slots₀ found slots₁ call filled refutation
 
-    pub solves_refuted : (r : Solution) (out₁ : List ℕ) → Certifies f clauses slots₁ filled out r out₁
+    pub solves_refuted : (r : Result Solution Refusal) (out₁ : List ℕ) → Certifies f clauses slots₁ filled out r out₁
         → Solved by_value-sheet slots₀ out (record { answer = r; point = 0 }) slots₁ out₁
     unfolding certificate_reply certificate_output refuted point_in
     solves_refuted r out₁ c =
@@ -387,11 +389,11 @@ module _ (text : List ℕ) (clauses₀ : ClauseSlices) (slots₀ : SlotSlices) (
   read_sheet = from_text text clauses₀
 
   -- a text that is refused leaves everything
-  refused_solved : (code place : ℕ) → refused code place ≡ read_reply text clauses₀
-      → Solved read_sheet slots₀ out (refused_with code place) slots₀ out
+  refused_solved : (r : Refusal) → refused (code_of r.reason) r.place ≡ read_reply text clauses₀
+      → Solved read_sheet slots₀ out (refused_with r) slots₀ out
   unfolding reply_of_solution sheet_reply sheet_slices certificate_reply certificate_output point_in
-  refused_solved code place e =
-      let reply : refused code place ≡ sheet_reply read_sheet (capacity slots₀) =
+  refused_solved r e =
+      let reply : refused (code_of r.reason) r.place ≡ sheet_reply read_sheet (capacity slots₀) =
       ap (λ (a : Reply). after_reading a a (search_reply (formula_in read_sheet) (slices_in read_sheet)
       (capacity slots₀))) e in
       let certificate : none ≡ certificate_reply read_sheet slots₀ out = ap
@@ -405,13 +407,8 @@ module _ (text : List ℕ) (clauses₀ : ClauseSlices) (slots₀ : SlotSlices) (
         slots = ap (λ (a : Reply). after_reading a slots₀
             (search_slices (formula_in read_sheet) (slices_in read_sheet) slots₀)) e;
         output = output;
-        promises = promised read_sheet slots₀ (reply_of_solution 0 (Refused code place)) out out reply certificate output;
+        promises = promised read_sheet slots₀ (reply_of_solution 0 (Err r)) out out reply certificate output;
       }
-
-  solves_refused : (code place : ℕ) (r : Settled) → r ≡ refused_with code place
-      → refused code place ≡ read_reply text clauses₀ → Solved read_sheet slots₀ out r slots₀ out
-  solves_refused code place r same e = subst (λ q. Solved read_sheet slots₀ out q slots₀ out) (sym same)
-      (refused_solved code place e)
 
   -- the formula and the clauses that a text yields are solved as the text is
   solves_read : parsed ≡ read_reply text clauses₀ → (r : Settled) (slots₁ : SlotSlices) (out₁ : List ℕ)
@@ -444,10 +441,6 @@ solves_few text few more le not-4 slots₀ out r slots₁ out₁ v =
     slots₁ out₁ v
 
 -- ---- a text read to local arrays
-
--- arrays for k clauses, 0 throughout
-abbrev pub zeros : ℕ → ClauseSlices
-zeros k = clause_slices (replicate k 0) (replicate k 0)
 
 -- they have room for so many
 pub blank_room : (k : ℕ) → clause_room (zeros k) ≡ k
@@ -482,40 +475,61 @@ most_not_4 text clauses le place h = by (reading text (clause_room clauses)) ref
         let there : at ≡ place = cc in
         room_enough text (clause_room clauses) le place (e ∙ λ i. refuses (same i) (there i))
 
-module _ (text : List ℕ) (k : ℕ) (r : ParsedNumbers) (images : List ℕ) (clauses₁ : ClauseSlices)
-    (call : Read text (zeros k) (parsed_in r images) clauses₁) where
-  -- the reader's answer in its own case
-  case_read : (a : Parse) → r.answer ≡ a
-      → Read text (zeros k) (parsed_in (record { numbers = r.numbers; answer = a }) images) clauses₁
-  case_read a e = subst (λ b. Read text (zeros k) (parsed_in (record { numbers = r.numbers; answer = b }) images)
-      clauses₁) e call
-
-  -- its clauses stand in the arrays
-  pub read_held : r.answer ≡ Accepted → r.numbers.clauses ≤ clause_room clauses₁
-  read_held e =
-      let v = case_read Accepted e in
-      clauses_held text (zeros k) v.reply (formula_with r.numbers images) v.formula clauses₁ v.clauses
+module _ (text : List ℕ) (k : ℕ) where
+  -- a text that is read: its clauses stand in the arrays
+  pub read_held : (f : Numbers) (images : List ℕ) (clauses₁ : ClauseSlices)
+      → Read text (zeros k) (parsed_in (Ok f) images) clauses₁ → f.clauses ≤ clause_room clauses₁
+  read_held f images clauses₁ call =
+      clauses_held text (zeros k) call.reply (formula_with f images) call.formula clauses₁ call.clauses
 
   -- arrays for the most clauses are never too short
-  pub most_held : max_clauses ≤ k → (code place : ℕ) → r.answer ≡ Unread code place → code ≡ 4 → ⊥
-  most_held le code place e four = most_not_4 text (zeros k) (le_trans le (le_of_eq (sym (blank_room k)))) place
-      (sym (case_read (Unread code place) e).reply ∙ ap (λ (c : ℕ). refused c place) four)
+  most_held : max_clauses ≤ k → {slots₀ slots₁ : SlotSlices} {out₀ out₁ : List ℕ} (r : Refusal)
+      → Unread k text slots₀ out₀ r slots₁ out₁ → code_of r.reason ≡ 4 → ⊥
+  most_held le r u four = most_not_4 text (zeros k) (le_trans le (le_of_eq (sym (blank_room k)))) r.place
+      (sym u.reply ∙ ap (λ (c : ℕ). refused c r.place) four)
 
-  module _ (le : k ≤ max_clauses) (slots₀ : SlotSlices) (out : List ℕ) (s : Settled) where
+  module _ (le : k ≤ max_clauses) {slots₀ slots₁ : SlotSlices} {out₀ out₁ : List ℕ} where
     -- what is read is solved as it is with arrays for the most clauses
-    pub read_solved : r.answer ≡ Accepted → (slots₁ : SlotSlices) (out₁ : List ℕ)
-        → Solved (by_value (formula_with r.numbers images) (first_clauses r.numbers.clauses clauses₁)) slots₀ out s
-        slots₁ out₁ → Solved (from_text text blank) slots₀ out s slots₁ out₁
-    read_solved e slots₁ out₁ solved =
-        let v = case_read Accepted e in
-        solves_few text (zeros k) blank (few_room k le) (parsed_not_4 v.reply) slots₀ out s slots₁ out₁
-        (solves_read text (zeros k) slots₀ out v.reply s slots₁ out₁ (formula_with r.numbers images) clauses₁
-        v.formula v.clauses solved)
+    pub read_solved : (f : Numbers) (images : List ℕ) (clauses₁ : ClauseSlices)
+        → Read text (zeros k) (parsed_in (Ok f) images) clauses₁ → (s : Settled)
+        → Solved (by_value (formula_with f images) (first_clauses f.clauses clauses₁)) slots₀ out₀ s slots₁ out₁
+        → Solved (from_text text blank) slots₀ out₀ s slots₁ out₁
+    read_solved f images clauses₁ call s solved =
+        solves_few text (zeros k) blank (few_room k le) (parsed_not_4 call.reply) slots₀ out₀ s slots₁ out₁
+        (solves_read text (zeros k) slots₀ out₀ call.reply s slots₁ out₁ (formula_with f images) clauses₁
+        call.formula call.clauses solved)
 
     -- and so is a refusal that is no want of room
-    pub refusal_solved : (code place : ℕ) → r.answer ≡ Unread code place → (code ≡ 4 → ⊥)
-        → s ≡ refused_with code place → Solved (from_text text blank) slots₀ out s slots₀ out
-    refusal_solved code place e ne same =
-        let reply = (case_read (Unread code place) e).reply in
-        solves_few text (zeros k) blank (few_room k le) (other_not_4 code place reply ne) slots₀ out s slots₀ out
-        (solves_refused text (zeros k) slots₀ out code place s same reply)
+    refusal_solved : (r : Refusal) → Unread k text slots₀ out₀ r slots₁ out₁ → (code_of r.reason ≡ 4 → ⊥)
+        → Solved (from_text text blank) slots₀ out₀ (refused_with r) slots₁ out₁
+    refusal_solved r u ne =
+        subst (λ s. Solved (from_text text blank) slots₀ out₀ (refused_with r) s out₁) (sym u.slots)
+        (subst (λ o. Solved (from_text text blank) slots₀ out₀ (refused_with r) slots₀ o) (sym u.output)
+        (solves_few text (zeros k) blank (few_room k le) (other_not_4 (code_of r.reason) r.place u.reply ne) slots₀ out₀
+        (refused_with r) slots₀ out₀ (refused_solved text (zeros k) slots₀ out₀ r u.reply)))
+
+    -- an answer that wants no larger arrays is that with the largest
+    pub settled_solved : (a : Result Settled Refusal) → SolvedIn k text slots₀ out₀ a slots₁ out₁
+        → wants_room a ≡ false → Solved (from_text text blank) slots₀ out₀ (settled_of a) slots₁ out₁
+    settled_solved (Ok s) solved e = solved
+    settled_solved (Err r) u e = refusal_solved r u (λ four. eqb-false (code_of r.reason) 4 e four)
+
+    -- with the largest each is
+    pub largest_solved : max_clauses ≤ k → (a : Result Settled Refusal) → SolvedIn k text slots₀ out₀ a slots₁ out₁
+        → Solved (from_text text blank) slots₀ out₀ (settled_of a) slots₁ out₁
+    largest_solved most (Ok s) solved = solved
+    largest_solved most (Err r) u = refusal_solved r u (most_held most r u)
+
+  -- one that does leaves everything
+  pub room_kept : {slots₀ slots₁ : SlotSlices} {out₀ out₁ : List ℕ} (a : Result Settled Refusal)
+      → SolvedIn k text slots₀ out₀ a slots₁ out₁ → wants_room a ≡ true → (slots₁ ≡ slots₀) × (out₁ ≡ out₀)
+  room_kept (Ok s) solved e = absurd (true≢false (sym e))
+  room_kept (Err r) u e = (u.slots, u.output)
+
+-- what is solved from slots and an output that are as they were is solved from those
+pub kept_solved : (text : List ℕ) {slots₀ slots₁ slots₂ : SlotSlices} {out₀ out₁ out₂ : List ℕ} (s : Settled)
+    → (slots₁ ≡ slots₀) × (out₁ ≡ out₀) → Solved (from_text text blank) slots₁ out₁ s slots₂ out₂
+    → Solved (from_text text blank) slots₀ out₀ s slots₂ out₂
+kept_solved text {slots₀} {slots₁} {slots₂} {out₀} {out₁} {out₂} s kept solved =
+    subst (λ o. Solved (from_text text blank) slots₀ o s slots₂ out₂) kept.1
+    (subst (λ l. Solved (from_text text blank) l out₁ s slots₂ out₂) kept.0 solved)

@@ -11,8 +11,8 @@ returns-then-reply-lt-WORDS c =
     let a = c.args in
     tells_no_verdict _ (clause_slices a.positive.now a.negative.now) a.file.now a.reply.now c.if-reply-lt-WORDS.true
 
-pub check_numbers-r-requires : goal.check_numbers-r-requires
-check_numbers-r-requires c = tt
+pub check_numbers-requires : goal.check_numbers-requires
+check_numbers-requires c = tt
 
 pub put_verdict-requires : goal.put_verdict-requires
 put_verdict-requires c = c.if-reply-lt-WORDS.false
@@ -24,5 +24,5 @@ pub returns : goal.returns
 unfolding formula_from
 returns c =
     let a = c.args in
-    tells_verdict _ (clause_slices a.positive.now a.negative.now) a.file.now a.reply.now _ c.check_numbers-r.result _
-    c.if-reply-lt-WORDS.false refl (c.check_numbers-r.ensures (images_from a.images.now)) c.put_verdict.ensures
+    tells_verdict _ (clause_slices a.positive.now a.negative.now) a.file.now a.reply.now _ c.check_numbers.result _
+    c.if-reply-lt-WORDS.false refl (c.check_numbers.ensures (images_from a.images.now)) c.put_verdict.ensures

@@ -6,12 +6,12 @@ use Rattle.exports.proofs.checking.jugbowo_point_at.Goals as goal
 pub returns-then-reply-lt-ENTRY : goal.returns-then-reply-lt-ENTRY
 returns-then-reply-lt-ENTRY c = tells_no_entry _ _ c.if-reply-lt-ENTRY.true
 
-pub point_at-r-requires : goal.point_at-r-requires
-point_at-r-requires c = tt
+pub point_at-requires : goal.point_at-requires
+point_at-requires c = tt
 
 pub put_entry-requires : goal.put_entry-requires
 put_entry-requires c = c.if-reply-lt-ENTRY.false
 
 pub returns : goal.returns
 returns c =
-    tells_entry _ _ c.point_at-r.result _ c.if-reply-lt-ENTRY.false c.point_at-r.ensures.held c.put_entry.ensures
+    tells_entry _ _ c.point_at.result _ c.if-reply-lt-ENTRY.false c.point_at.ensures c.put_entry.ensures

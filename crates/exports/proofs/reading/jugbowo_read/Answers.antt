@@ -1,13 +1,8 @@
 -- `exports::reading::jugbowo_read` meets its contract: with room for the answer it tells what the reader answers.
 -- Assumes nothing.
-use Rattle.std.proofs.Common.{refl, ap, ◌∙◌}
-use Rattle.math.specs.Lists.{over}
+use Rattle.std.proofs.Common.{refl}
 use Rattle.point_slices.specs.Slices.{clause_slices}
 use Rattle.dimacs_lines.specs.Laws.ParsedAs.{parsed_in}
-use Rattle.dimacs_lines.specs.Reply.{reply_of_parse}
-use Rattle.export_formulas.specs.Laws.FormulaLaws.{put_in, answer_in}
-use Rattle.export_words.specs.Words.{words_of}
-use Rattle.export_formulas.specs.Formulas.{numbers_of}
 use Rattle.exports.specs.Laws.ReadingLaws.{without_reply, without_numbers, without_images, none_read}
 use Rattle.exports.specs.Laws.ReadingLaws.{tells_reading}
 use Rattle.exports.proofs.reading.jugbowo_read.Goals as goal
@@ -36,7 +31,7 @@ read_lent-r-requires c = refl
 pub put_parsed-requires : goal.put_parsed-requires
 put_parsed-requires c =
     let read = c.read_lent-r.result in
-    (c.if-numbers-lt-WORDS.false, c.if-images-lt-MAX_IMAGES.false, c.if-reply-lt-WORDS.false, none_read read.numbers read.answer c.read_lent-r.new.images c.read_lent-r.ensures)
+    (c.if-numbers-lt-WORDS.false, c.if-images-lt-MAX_IMAGES.false, c.if-reply-lt-WORDS.false, none_read read c.read_lent-r.new.images c.read_lent-r.ensures)
 
 pub shape_of-positive : goal.shape_of-positive
 shape_of-positive c = c.read_lent-r.auto.positive
@@ -57,8 +52,5 @@ pub returns : goal.returns
 returns c =
     let a = c.args in
     let put = c.put_parsed.ensures in
-    let read = c.read_lent-r.result in
-    let held = c.read_lent-r.new.images in
-    tells_reading a.text.now (clause_slices a.positive.now a.negative.now) a.numbers.now a.images.now a.reply.now (parsed_in read held) _ _ _ _
-    c.if-reply-lt-WORDS.false c.if-numbers-lt-WORDS.false c.if-images-lt-MAX_IMAGES.false c.read_lent-r.ensures (put.0 ∙ put_in read.numbers read.answer held numbers_of _) (put.1 ∙ put_in read.numbers read.answer held (λ f. f.images) _)
-    (put.2 ∙ ap (λ p. over (words_of (reply_of_parse p)) a.reply.now) (answer_in read.numbers read.answer held))
+    tells_reading a.text.now (clause_slices a.positive.now a.negative.now) a.numbers.now a.images.now a.reply.now (parsed_in c.read_lent-r.result c.read_lent-r.new.images) _ _ _ _
+    c.if-reply-lt-WORDS.false c.if-numbers-lt-WORDS.false c.if-images-lt-MAX_IMAGES.false c.read_lent-r.ensures put.0 put.1 put.2

@@ -14,4 +14,4 @@ put_written-requires c = c.if-reply-lt-WORDS.false
 pub returns : goal.returns
 returns c =
     let a = c.args in
-    tells_sheet _ (clause_slices a.positive.now a.negative.now) a.out.now a.reply.now c.sheet_from-r.result _ _ c.if-reply-lt-WORDS.false c.sheet_from-r.ensures c.put_written.ensures
+    tells_sheet _ (clause_slices a.positive.now a.negative.now) a.out.now a.reply.now c.sheet_from.result _ _ c.if-reply-lt-WORDS.false c.sheet_from.ensures c.put_written.ensures
