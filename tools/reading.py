@@ -2,8 +2,8 @@
 """What somebody has to read in order to believe the promises: the modules that the contracts of the entry points
 and the claim cite, and all that these import. Prints the list with line counts. Exit status 1 if the list reaches a
 law (a module below specs/Laws, or a declaration that is no definition), if an entry point has a `requires`, if a
-public function without `requires` has a contract of its crate's specs/Contract and README's table does not list it
-(one with a `requires` is for callers in Rattle), if a module of definitions stands in specs/ though nothing reads it,
+public function that asks nothing has a contract of its crate's specs/Contract and README's table does not list it
+(one with a `requires`, or that takes a type with an invariant, is for callers in Rattle), if a module of definitions stands in specs/ though nothing reads it,
 or if README has another figure.
 
 The entry points are those of README's table, and every exported function (`#[unsafe(no_mangle)]`)."""
@@ -40,16 +40,26 @@ def exported():
             yield path.split("/")[1], name
 
 
+def invariant_types():
+    """The structs that have a ghost field: who makes one has proved something."""
+    for path in sorted(glob.glob("crates/*/src/*.rt")):
+        for name, fields in re.findall(r"^pub(?:\(crate\))? struct (\w+)[^{;]*\{(.*?)^\}", open(path).read(), re.M | re.S):
+            if re.search(r"^ *ghost ", fields, re.M):
+                yield name
+
+
 def contracted():
-    """(crate, function) of each public function that requires nothing and whose contract is one of its crate's
-    specs/Contract."""
+    """(crate, function) of each public function that asks nothing, by a clause or by a type, and whose contract is one
+    of its crate's specs/Contract."""
+    guarded = set(invariant_types())
     for path in sorted(glob.glob("crates/*/src/*.rt")):
         text, crate = open(path).read(), path.split("/")[1]
         records = [name for module, names in tree.imports(text) if module == (crate, "Contract") for name in names]
         for name, signature, contract, _ in tree.functions(text):
             promised = re.findall(r"\bensures(?: \w+)? \{ (\w+)", contract)
-            free = signature.lstrip().startswith("pub ") and not tree.clauses(contract)[0]
-            if free and promised[-1:] and promised[-1] in records:
+            public = signature.lstrip().startswith("pub ")
+            free = not tree.clauses(contract)[0] and not guarded & set(re.findall(r"\w+", signature))
+            if public and free and promised[-1:] and promised[-1] in records:
                 yield crate, name
 
 
