@@ -1,7 +1,7 @@
 -- Laws of what the program prints: one for each way out of the functions that make it. Assumes nothing.
 use Rattle.std.specs.Prelude.{Result, Ok, Err, Bool, true, false, cond, List, ◌≡◌, refl, ℕ, ◌≤◌, ◌<◌, length, replicate}
 use Rattle.std.proofs.Common.{sym, ap, ◌∙◌, lt-ltb, le-ltb, le_of_eq, le_trans, true≢false}
-use borrow.Author.Tests.{eqb-false, ne_eqb}
+use borrow.Author.Tests.{eqb-false}
 use Rattle.std.proofs.Math.Path.{subst}
 use Rattle.point_slices.specs.Laws.SliceLaws.{clauses-blank}
 use Rattle.point_slices.specs.Slices.{ClauseSlices, clause_slices, first_clauses}
@@ -101,27 +101,37 @@ prints_sheet text short out₀ r out₁ q =
 
 -- ---- arrays of two sizes
 
-module _ (text : List ℕ) (k : ℕ) {out₀ out₁ : List ℕ} where
-  -- an answer that wants no larger arrays is told
-  pub told_sheet : k ≤ max_clauses → (a : Result ℕ Refusal) → PrintedIn k text out₀ a out₁ → wants_room a ≡ false
-      → (r : ℕ) (out₂ : List ℕ) → Told a out₁ r out₂ → Printed (report_for text) out₀ r out₂
-  told_sheet le (Ok size) p e r out₂ t =
-      subst (λ l. Printed (report_for text) out₀ r l) (sym t.1)
-      (subst (λ i. Printed (report_for text) out₀ i out₁) (sym t.0) p)
-  told_sheet le (Err q) p e r out₂ t =
-      let alike = reads_alike text (zeros k) blank (few_room k le)
-      (other_not_4 (code_of q.reason) q.place p.0 (eqb-false (code_of q.reason) 4 e)) in
+module _ (text : List ℕ) (k : ℕ) (le : k ≤ max_clauses) {out₀ : List ℕ} (out₁ : List ℕ) where
+  -- a refusal that is no want of room is told
+  told_refusal : (q : Refusal) → PrintedIn k text out₀ (Err q) out₁ → (code_of q.reason ≡ 4 → ⊥) → (r : ℕ) (out₂ : List ℕ)
+      → Told (Err q) out₁ r out₂ → Printed (report_for text) out₀ r out₂
+  told_refusal q p ne r out₂ t =
+      let alike = reads_alike text (zeros k) blank (few_room k le) (other_not_4 (code_of q.reason) q.place p.0 ne) in
       prints_refused text (code_of q.reason) q.place (p.0 ∙ alike.reply) out₀ r out₂
       (subst (λ l. Told (Err q) l r out₂) p.1 t)
 
-  -- one that does leaves the output
+  -- what was put stays
+  told_text : (size : ℕ) → PrintedIn k text out₀ (Ok size) out₁ → (r : ℕ) (out₂ : List ℕ) → Told (Ok size) out₁ r out₂
+      → Printed (report_for text) out₀ r out₂
+  told_text size p r out₂ t =
+      subst (λ l. Printed (report_for text) out₀ r l) (sym t.1)
+      (subst (λ i. Printed (report_for text) out₀ i out₁) (sym t.0) p)
+
+  -- an answer that wants no larger arrays is told
+  pub told_sheet : (a : Result ℕ Refusal) → PrintedIn k text out₀ a out₁ → wants_room a ≡ false → (r : ℕ) (out₂ : List ℕ)
+      → Told a out₁ r out₂ → Printed (report_for text) out₀ r out₂
+  told_sheet (Ok size) p e r out₂ t = told_text size p r out₂ t
+  told_sheet (Err q) p e r out₂ t = told_refusal q p (eqb-false (code_of q.reason) 4 e) r out₂ t
+
+  -- with the largest each is
+  pub told_largest : max_clauses ≤ k → (a : Result ℕ Refusal) → PrintedIn k text out₀ a out₁ → (r : ℕ) (out₂ : List ℕ)
+      → Told a out₁ r out₂ → Printed (report_for text) out₀ r out₂
+  told_largest most (Ok size) p r out₂ t = told_text size p r out₂ t
+  told_largest most (Err q) p r out₂ t =
+      told_refusal q p (λ four. most_not_4 text (zeros k) (le_trans most (le_of_eq (sym (blank_room k)))) q.place
+      (sym p.0 ∙ ap (λ (c : ℕ). refused c q.place) four)) r out₂ t
+
+  -- one that does want larger arrays leaves the output
   pub room_kept : (a : Result ℕ Refusal) → PrintedIn k text out₀ a out₁ → wants_room a ≡ true → out₁ ≡ out₀
   room_kept (Ok size) p e = absurd (true≢false (sym e))
   room_kept (Err q) p e = p.1
-
-  -- with the largest none does
-  pub most_told : max_clauses ≤ k → (a : Result ℕ Refusal) → PrintedIn k text out₀ a out₁ → wants_room a ≡ false
-  most_told le (Ok size) p = refl
-  most_told le (Err q) p =
-      ne_eqb (code_of q.reason) 4 (λ four. most_not_4 text (zeros k) (le_trans le (le_of_eq (sym (blank_room k)))) q.place
-      (sym p.0 ∙ ap (λ (c : ℕ). refused c q.place) four))
