@@ -32,14 +32,7 @@ pub fn search_slots(f: Formula, clauses: Clauses<'_>, slots: &mut [Slot]) -> Fou
     let mut depths: [Depth; FEW_PLACES] = [0; FEW_PLACES];
     let lent = slots.len();
     let k = lent.min(FEW_PLACES);
-    let r = search_prefix(
-        f,
-        clauses,
-        &mut points,
-        &mut falsified,
-        &mut depths,
-        k,
-    );
+    let r = search_prefix(f, clauses, &mut points, &mut falsified, &mut depths, k);
     if outgrown(r, k, lent) {
         return search_many(f, clauses, slots);
     }

@@ -19,11 +19,7 @@ const MANY_PLACES: usize = 4096;
 // The search on so many places, which are local arrays: one step for each of them, which is made 0, and for each slot
 // filled, which is copied back. `search_many` lends no more slots than there are places for.
 #[inline(never)]
-fn search_on<const PLACES: usize>(
-    f: Formula,
-    clauses: Clauses<'_>,
-    slots: &mut [Slot],
-) -> Found
+fn search_on<const PLACES: usize>(f: Formula, clauses: Clauses<'_>, slots: &mut [Slot]) -> Found
     requires accepted { Accepted f (slices_lent clauses) slots.old }
     requires places { (1 ≤ PLACES) × (PLACES ≤ max_slots) × (min max_slots (length slots.old) ≤ PLACES) }
     ensures { SearchedSlots f (slices_lent clauses.entry)
@@ -33,14 +29,7 @@ fn search_on<const PLACES: usize>(
     let mut falsified = [0u32; PLACES];
     let mut depths: [Depth; PLACES] = [0; PLACES];
     let k = slots.len().min(PLACES);
-    let r = search_accepted_prefix(
-        f,
-        clauses,
-        &mut points,
-        &mut falsified,
-        &mut depths,
-        k,
-    );
+    let r = search_accepted_prefix(f, clauses, &mut points, &mut falsified, &mut depths, k);
     copy_back(slots, filled(r), &points, &falsified, &depths);
     r
 }

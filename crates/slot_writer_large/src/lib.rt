@@ -36,9 +36,7 @@ pub fn write_on<const PLACES: usize>(
     let mut depths: [Depth; PLACES] = [0; PLACES];
     let k = slots_taken(filled, slots.len());
     copy_out(slots, k, &mut points, &mut falsified, &mut depths);
-    write_prefix(
-        f, clauses, &points, &falsified, &depths, k, filled, out,
-    )
+    write_prefix(f, clauses, &points, &falsified, &depths, k, filled, out)
 }
 
 // The same with arrays for up to 8,192 slots, 128 KiB of the stack; where more are taken, with arrays for as many slots

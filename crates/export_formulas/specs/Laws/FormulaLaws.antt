@@ -2,7 +2,6 @@
 use Rattle.std.specs.Prelude.{List, ◌++◌, ◌≡◌, ℕ, ◌≤◌, length, take, drop, replicate}
 use Rattle.std.proofs.Common.{append-nil, sym, ap, ◌∙◌, length-take-le}
 use Rattle.math.specs.Lists.{over}
-use Rattle.formula.specs.declared.Formula.{Formula}
 use Rattle.formula.specs.declared.Numbers.{Numbers}
 use Rattle.formula.specs.Laws.Contracts.{formula_with}
 use Rattle.formula.specs.Limits.{max_images}
