@@ -1,6 +1,5 @@
 -- `exports::writing::jugbowo_write` meets its contract: with room for the answer it tells what the writer answers.
 -- Assumes nothing.
-use Rattle.std.proofs.Common.{refl}
 use Rattle.point_slices.specs.Slices.{clause_slices, slot_slices}
 use Rattle.export_words.specs.Laws.WritingLaws.{tells_nothing, tells_writing}
 use Rattle.exports.proofs.writing.jugbowo_write.Goals as goal
@@ -10,20 +9,8 @@ returns-then-reply-lt-WORDS c =
     let a = c.args in
     tells_nothing _ (clause_slices a.positive.now a.negative.now) (slot_slices a.points.now a.falsified.now a.depths.now) a.filled a.out.now a.reply.now c.if-reply-lt-WORDS.true
 
-pub write_from-r-requires : goal.write_from-r-requires
-write_from-r-requires c = tt
-
-pub put_written-requires : goal.put_written-requires
-put_written-requires c = c.if-reply-lt-WORDS.false
-
-pub shape_of-out : goal.shape_of-out
-shape_of-out c = c.write_from-r.auto.out
-
-pub shape_of-reply : goal.shape_of-reply
-shape_of-reply c = c.put_written.auto.reply
-
 pub returns : goal.returns
 returns c =
     let a = c.args in
-    tells_writing _ (clause_slices a.positive.now a.negative.now) (slot_slices a.points.now a.falsified.now a.depths.now) a.filled a.out.now a.reply.now _ c.write_from-r.result _ _
-    c.if-reply-lt-WORDS.false refl c.write_from-r.ensures c.put_written.ensures
+    tells_writing _ (clause_slices a.positive.now a.negative.now) (slot_slices a.points.now a.falsified.now a.depths.now) a.filled a.out.now a.reply.now _ c.write_lent-r.result _ _
+    c.if-reply-lt-WORDS.false c.formula_view-f.ensures c.write_lent-r.ensures c.put_written.ensures
