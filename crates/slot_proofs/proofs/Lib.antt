@@ -1,5 +1,4 @@
 pub mod Called
-pub mod LeastCalled
 pub mod Lent
 pub mod Places
 pub mod Spelled
