@@ -53,12 +53,15 @@ pub fn put_contents(
     }
 }
 
-// Stores the first `count` bytes of a slice from place `at` on.
+// Stores the first `count` bytes of a slice from place `at` on. One step a byte: with the library's copy the archives for
+// C would need `memmove`.
 pub fn put_bytes(out: &mut [u8], at: usize, bytes: &[u8], count: usize)
     requires { (at + count ≤ length out.old) × (count ≤ length bytes.now) }
     ensures { out.new ≡ spliced at (take count bytes.now) out.old }
 {
-    out[at..at + count].copy_from_slice(&bytes[..count]);
+    for i in 0..count {
+        out[at + i] = bytes[i];
+    }
 }
 
 // C3: stores the first `count` points from place `at` on, eight bytes each. One step a point.

@@ -40,7 +40,9 @@ fn next_image(bytes: &[u8], cursor: Cursor, n: u32) -> Option<Image>
     ensures { Imaging n bytes.now cursor.at result }
 {
     let from = run_end(bytes, cursor.at, Class::Blank);
-    let Word { value, next, .. } = read_digits(bytes, false, from)?;
+    let Some(Word { value, next, .. }) = read_digits(bytes, false, from) else {
+        return None;
+    };
     let to = next.at;
     if bytes.len() <= to {
         return image_made(n, value, to);

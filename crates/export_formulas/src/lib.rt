@@ -40,8 +40,20 @@ pub fn formula_from(f: Numbers, images: &[u8]) -> Formula
     made
 }
 
+// The formula that numbers and images make where as many are lent as a formula has: they stay where they lie. The callers
+// see to that.
+pub fn whole_view(f: Numbers, images: &[u8]) -> FormulaView<'_>
+    requires { max_images ≤ length images.now }
+    ensures { formula_lent result ≡ formula_from f.variables f.clauses f.target f.permutations images.now }
+{
+    FormulaView {
+        numbers: f,
+        images: &images[..Formula::MAX_IMAGES],
+    }
+}
+
 // The formula that numbers and lent images make, where it lies: where as many images are lent as a formula has they stay,
-// else they are copied to `room`, which has 0 behind them.
+// else they are copied to `room`, which has 0 behind them. A caller that knows of as many makes no room (`whole_view`).
 pub fn formula_view<'a>(
     f: Numbers,
     images: &'a [u8],
@@ -57,10 +69,7 @@ pub fn formula_view<'a>(
             images: room,
         };
     }
-    FormulaView {
-        numbers: f,
-        images: &images[..Formula::MAX_IMAGES],
-    }
+    whole_view(f, images)
 }
 
 // Writes a formula's images. Where there are no permutations they are zeros, which need not be read. One step a byte.

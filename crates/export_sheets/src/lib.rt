@@ -6,7 +6,7 @@ ghost use Rattle.dimacs_writer.specs.Contract.{WroteSheet};
 ghost use Rattle.export_formulas.specs.Formulas.{formula_from};
 
 use dimacs_writer::write_lent;
-use export_formulas::formula_view;
+use export_formulas::{formula_view, whole_view};
 use formula::reasons::Refusal;
 use formula::{Formula, Numbers};
 use point_slices::Clauses;
@@ -21,7 +21,9 @@ pub fn sheet_from(
     ensures { WroteSheet (formula_from f.variables f.clauses f.target f.permutations images.now)
         (slices_lent clauses.entry) out.old result out.new }
 {
-    let mut room = [0u8; Formula::MAX_IMAGES];
-    let view = formula_view(f, images, &mut room);
-    write_lent(view, clauses, out)
+    if images.len() < Formula::MAX_IMAGES {
+        let mut room = [0u8; Formula::MAX_IMAGES];
+        return write_lent(formula_view(f, images, &mut room), clauses, out);
+    }
+    write_lent(whole_view(f, images), clauses, out)
 }

@@ -3,7 +3,7 @@ ghost use Rattle.point_slices.specs.Slices.{clause_slices, slot_slices};
 ghost use Rattle.export_formulas.specs.Formulas.{formula_from};
 ghost use Rattle.export_words.specs.Searching.{SearchReturns};
 
-use export_formulas::formula_view;
+use export_formulas::{formula_view, whole_view};
 use export_words::{WORDS, put_found};
 use formula::{Formula, Numbers};
 use point_slices::Clauses;
@@ -40,9 +40,15 @@ pub extern "C" fn jugbowo_search(
         target,
         permutations,
     };
-    let mut room = [0u8; Formula::MAX_IMAGES];
-    let f = formula_view(numbers, images, &mut room);
     let lent = Clauses { positive, negative };
+    if images.len() < Formula::MAX_IMAGES {
+        let mut room = [0u8; Formula::MAX_IMAGES];
+        let f = formula_view(numbers, images, &mut room);
+        let r = search_lent(f, lent, points, falsified, depths);
+        put_found(reply, r);
+        return 1;
+    }
+    let f = whole_view(numbers, images);
     let r = search_lent(f, lent, points, falsified, depths);
     put_found(reply, r);
     1

@@ -4,7 +4,7 @@ ghost use Rattle.export_formulas.specs.Formulas.{formula_from};
 ghost use Rattle.export_words.specs.Writing.{WriteReturns};
 
 use certificate_writer::write_lent;
-use export_formulas::formula_view;
+use export_formulas::{formula_view, whole_view};
 use export_words::{WORDS, put_written};
 use formula::{Formula, Numbers};
 use point_slices::Clauses;
@@ -42,9 +42,15 @@ pub extern "C" fn jugbowo_write(
         target,
         permutations,
     };
-    let mut room = [0u8; Formula::MAX_IMAGES];
-    let f = formula_view(numbers, images, &mut room);
     let lent = Clauses { positive, negative };
+    if images.len() < Formula::MAX_IMAGES {
+        let mut room = [0u8; Formula::MAX_IMAGES];
+        let f = formula_view(numbers, images, &mut room);
+        let r = write_lent(f, lent, points, falsified, depths, filled, out);
+        put_written(reply, r);
+        return 1;
+    }
+    let f = whole_view(numbers, images);
     let r = write_lent(f, lent, points, falsified, depths, filled, out);
     put_written(reply, r);
     1

@@ -3,7 +3,7 @@
 // slots are structs (`slot_columns`, `slot_prefixes`).
 #![tactic(auto)]
 
-ghost use Rattle.std.specs.Prelude.{[], ◌≡◌, ◌≤◌, length, get_or, set, take};
+ghost use Rattle.std.specs.Prelude.{[], ◌≡◌, ◌≤◌, ◌<◌, length, get_or, set, take};
 ghost use Rattle.point_slices.specs.Laws.Contracts.{clauses_lent};
 ghost use Rattle.points.specs.Laws.Contracts.{clause_of};
 ghost use Rattle.points.specs.Points.{satisfies, first_falsified, numbered, number_of, empty_clause};
@@ -92,11 +92,23 @@ impl Clauses<'_> {
         }
     }
 
+    // The clause at index i, one of those that there are: scans of the clauses read them here, without a test of the index.
+    fn within(self, i: usize) -> Clause
+        requires { i < length (clauses_lent self) }
+        ensures { clause_of result ≡ get_or (clauses_lent self.entry) i empty_clause }
+    {
+        Clause {
+            positive: self.positive[i],
+            negative: self.negative[i],
+        }
+    }
+
     // Whether the point satisfies the clause at index i.
     fn satisfied_at(self, i: usize, x: Point) -> bool
+        requires { i < length (clauses_lent self) }
         ensures { result ≡ satisfies (get_or (clauses_lent self.entry) i empty_clause) x }
     {
-        points::satisfies(self.at(i), x)
+        points::satisfies(self.within(i), x)
     }
 
     // How many of the first clauses can be skipped, since the point satisfies them: four are tested together, so that no

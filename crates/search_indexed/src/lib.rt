@@ -16,12 +16,15 @@ use search_expansion::Frame;
 use search_level::Position;
 use search_loop::{Answer, explore};
 
-// The numbers found for the first `count` slots, from one stage to the next. `explore_stage` sees to the room.
-fn carry(earlier: &[u16], found: &mut [u16], count: usize)
+// The numbers found for the first `count` slots, from one stage to the next. One step a slot: with the library's copy the
+// archives for C would need `memmove`. `explore_stage` sees to the room.
+pub fn carry(earlier: &[u16], found: &mut [u16], count: usize)
     requires { (count ≤ length earlier.now) × (count ≤ length found.old) }
     ensures { found.new ≡ over (take count earlier.now) found.old }
 {
-    found[..count].copy_from_slice(&earlier[..count]);
+    for i in 0..count {
+        found[i] = earlier[i];
+    }
 }
 
 // Explores as one stage does, from a position on: with the numbers found that the stage before hands on, and an index of

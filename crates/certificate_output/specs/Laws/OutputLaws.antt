@@ -1,16 +1,14 @@
 -- Laws of stores into the output: numbers that stand without gaps, one more at a time, and the eight numbers of the
 -- contents. Assumes nothing.
-use borrow.Rule.Slice.PartMut.{put_mid}
 use Rattle.std.specs.Int.{w64, to_le_bytes, bytes_low_first, byte_at}
-use native.Mathlib.Nat.{add-sub_cancel_left, div-one}
+use native.Mathlib.Nat.{div-one}
 use Rattle.std.proofs.lemmas.Bool.{cases_lt}
 use Rattle.std.proofs.lemmas.Nat.{pow-add}
 use Rattle.std.proofs.lemmas.List.{get_or_past}
-use Rattle.std.proofs.lemmas.Slice.{put_mid-paste}
 use mathlib.Core.List.{List, [], ◌∷◌, ◌++◌, flat_map}
-use Rattle.std.specs.Prelude.{◌≡◌, refl, ℕ, zero, suc, ◌+◌, ◌-◌, ◌*◌, ◌/◌, ◌%◌, ◌^◌, ◌≤◌, ◌<◌, length, get_or, take, drop}
+use Rattle.std.specs.Prelude.{◌≡◌, refl, ℕ, zero, suc, ◌+◌, ◌*◌, ◌/◌, ◌%◌, ◌^◌, ◌≤◌, ◌<◌, length, get_or, take}
 use Rattle.std.proofs.Math.Path.{sym}
-use Rattle.std.proofs.Common.{ap, ap₂, ◌∙◌, zero-le, add-zero, zero-add, le_of_lt, le_antisymm, lt_of_lt_of_le, add-one, pow-suc, mul-suc, ⊎_elim, arith, length-take-le, take-suc, take_all, le_refl}
+use Rattle.std.proofs.Common.{ap, ap₂, ◌∙◌, zero-le, add-zero, zero-add, le_of_lt, le_antisymm, lt_of_lt_of_le, add-one, pow-suc, mul-suc, ⊎_elim, arith, length-take-le, take-suc}
 use Rattle.math.specs.Lists.{spliced}
 use Rattle.math.specs.Laws.SpliceLaws.{spliced-none, spliced_next}
 use Rattle.math.specs.Laws.SplitLaws.{length_flat_map, flat_map_append, flat_map_snoc}
@@ -113,14 +111,6 @@ contents_stored n m a k points numbers old half whole p q e f =
     (sym (zero-add (length (flat_map (bytes_of field_width) front))
     ∙ length_flat_map (bytes_of field_width) field_width front (λ y _. length_digits 8 field_width y))) e f
     ∙ ap (λ l. spliced 0 l old) (sym (flat_map_append (bytes_of field_width) front back)))
-
--- a part that is overwritten
-pub overwritten : (at k : ℕ) (new old : List ℕ) → length new ≡ k → put_mid at (at + k - at) old new ≡ spliced at new old
-unfolding spliced
-overwritten at k new old e =
-    put_mid-paste at (at + k - at) old new new (at + k - at) refl refl (add-sub_cancel_left at k ∙ sym e)
-    ∙ ap (λ (j : ℕ). take at old ++ take j new ++ drop (at + j) old) (add-sub_cancel_left at k ∙ sym e)
-    ∙ ap (λ (l : List ℕ). take at old ++ l ++ drop (at + length new) old) (take_all (length new) new (le_refl (length new)))
 
 -- the bytes of a word are its digits
 powers : (i : ℕ) → 256 ^ i ≡ 2 ^ (8 * i)

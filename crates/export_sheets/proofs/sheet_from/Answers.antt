@@ -2,5 +2,8 @@
 use Rattle.export_sheets.specs.Laws.SheetLaws.{sheet_as}
 use Rattle.export_sheets.proofs.sheet_from.Goals as goal
 
+pub returns-then-images-lt-MAX_IMAGES : goal.returns-then-images-lt-MAX_IMAGES
+returns-then-images-lt-MAX_IMAGES c = sheet_as c.formula_view.ensures c.write_lent.ensures
+
 pub returns : goal.returns
-returns c = sheet_as c.formula_view-view.ensures c.write_lent.ensures
+returns c = sheet_as c.whole_view.ensures c.write_lent-2.ensures

@@ -96,6 +96,12 @@ length-clauses (p ∷ ps) (n ∷ ns) = ap suc (length-clauses ps ns) ∙ sym (su
 pub clauses-le : (ps ns : List ℕ) → length (beside ps ns) ≤ length ps
 clauses-le ps ns = le_trans (le_of_eq (length-clauses ps ns)) (min-le_left (length ps) (length ns))
 
+-- a clause stands in both slices
+pub clause_inside : (ps ns : List ℕ) (i : ℕ) → i < length (beside ps ns) → (i < length ps) × (i < length ns)
+clause_inside ps ns i h =
+    let both : i < min (length ps) (length ns) = le_trans h (le_of_eq (length-clauses ps ns)) in
+    (le_trans both (min-le_left (length ps) (length ns)), le_trans both (min-le_right (length ps) (length ns)))
+
 pub clause-at : (ps ns : List ℕ) (i : ℕ) → i < length ps → i < length ns
     → get_or (beside ps ns) i empty_clause ≡ record { positive = get_or ps i 0; negative = get_or ns i 0 }
 unfolding beside

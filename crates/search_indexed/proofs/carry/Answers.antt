@@ -1,12 +1,13 @@
--- `search_indexed::carry` meets its contract. Assumes nothing.
-use Rattle.std.proofs.Common.{◌++◌, ℕ, ap, sym, take, drop, length-take-le}
-use Rattle.math.specs.Lists.{over}
+-- `search_indexed::carry` meets its contract: the first i numbers are there, the others as they were. Assumes nothing.
+use Rattle.std.proofs.Common.{refl, rules}
+use Rattle.math.specs.Laws.OverLaws.{copying_begins, copying_goes_on, copying_ends}
 use Rattle.search_indexed.proofs.carry.Goals as goal
 
+pub loop-i-init : goal.loop-i-init
+loop-i-init c = search (rules, copying_begins)
+
+pub loop-i-preserved : goal.loop-i-preserved
+loop-i-preserved c = copying_goes_on c.loop-i.invariant c.loop-i-test.true refl refl
+
 pub returns : goal.returns
-unfolding over
-returns c =
-    let a = c.args in
-    let front = take a.count a.earlier.now in
-    rw c.copy_from_slice.ensures.after
-    (ap (λ (k : ℕ). front ++ drop k a.found.now) (sym (length-take-le a.count a.earlier.now c.requires.0)))
+returns c = search (rules, copying_ends)
